@@ -5,7 +5,7 @@ ghost use Rattle.arbitration.specs.Spans.{union_of, after_of, HasRoom};
 ghost use Rattle.arbitration.specs.Ways.{Way, span_of, AllHaveRoom};
 
 /// The earliest and the latest slot in which something may happen. Slots are counted from 0, after the START.
-#[derive(Clone, Copy, PartialEq, Eq, Debug)]
+#[derive(Clone, Copy, PartialEq, Eq)]
 pub struct Slots {
     pub earliest: u32,
     pub latest: u32,
@@ -13,7 +13,7 @@ pub struct Slots {
 
 /// What two participants may come to when they start together, and when: `None` where it never happens
 /// (UM10204, 3.1.8).
-#[derive(Clone, Copy, PartialEq, Eq, Debug)]
+#[derive(Clone, Copy, PartialEq, Eq)]
 pub struct Outcomes {
     /// Both end, by one STOP.
     pub both: Option<Slots>,

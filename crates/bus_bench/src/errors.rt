@@ -18,7 +18,7 @@ pub enum PutError {
 
 /// What a seat sees.
 #[must_use]
-#[derive(Clone, Copy, Debug, Drop, PartialEq, Eq)]
+#[derive(Clone, Copy, Drop, PartialEq, Eq)]
 pub enum Sight {
     /// The seat has not put in this slot.
     NotPut,
@@ -36,7 +36,7 @@ pub enum Sight {
 use message_tree::Item;
 
 /// Why a bench is not finished.
-#[derive(Clone, Copy, Debug, Drop, PartialEq, Eq)]
+#[derive(Clone, Copy, Drop, PartialEq, Eq)]
 pub enum FinishFault {
     /// The number of seats is not that of the starters.
     Missing,

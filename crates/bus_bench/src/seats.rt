@@ -56,7 +56,7 @@ impl Model for Host {
 }
 
 /// How a seat stands.
-#[derive(Clone, Copy, Debug, Drop, PartialEq, Eq)]
+#[derive(Clone, Copy, Drop, PartialEq, Eq)]
 pub enum Standing {
     /// It is live, and the run goes on.
     Playing,

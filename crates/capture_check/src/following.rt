@@ -10,7 +10,7 @@ use std::alloc::{AllocError, Global};
 use vcd_read::Sample;
 
 /// The bus, followed from sample to sample, however the samples are handed over.
-#[derive(Debug, Drop)]
+#[derive(Drop)]
 pub struct Follower {
     pub(crate) watch: Watch,
     pub(crate) listener: Listener,

@@ -9,7 +9,7 @@ use std::alloc::{AllocError, Global};
 use std::mem;
 
 /// What the wire showed within a transaction.
-#[derive(Clone, Copy, Debug, PartialEq, Eq)]
+#[derive(Clone, Copy, PartialEq, Eq)]
 pub enum Mark {
     /// A bit or an acknowledge, by the level of SDA.
     Level(bool),
@@ -20,7 +20,7 @@ pub enum Mark {
 }
 
 /// How a transaction ended.
-#[derive(Clone, Copy, Debug, PartialEq, Eq)]
+#[derive(Clone, Copy, PartialEq, Eq)]
 pub enum Until {
     /// By a STOP at this time.
     Stopped(u64),
@@ -31,7 +31,7 @@ pub enum Until {
 }
 
 /// One use of the bus, from a START on. Times are in the unit of the capture.
-#[derive(Debug, Drop)]
+#[derive(Drop)]
 pub struct Transaction {
     pub from: u64,
     pub until: Until,
@@ -41,7 +41,7 @@ pub struct Transaction {
 }
 
 // What is known of the bus.
-#[derive(Debug, Drop)]
+#[derive(Drop)]
 pub(crate) enum Heard {
     Unknown,
     Free,
@@ -50,7 +50,7 @@ pub(crate) enum Heard {
 }
 
 /// The bus, followed from event to event.
-#[derive(Debug, Drop)]
+#[derive(Drop)]
 pub struct Listener {
     pub(crate) heard: Heard,
     // whether the bus is free since a transaction ended with a STOP, and how many bits have followed the last one

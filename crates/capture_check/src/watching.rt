@@ -7,7 +7,7 @@ use std::alloc::{AllocError, Global};
 use vcd_read::{Level, Sample};
 
 /// What happens from one sample to the next (UM10204, 3.1.1 to 3.1.4).
-#[derive(Clone, Copy, Debug, PartialEq, Eq)]
+#[derive(Clone, Copy, PartialEq, Eq)]
 pub enum What {
     /// The levels of both lines become known: `true` where both are HIGH, as on a free bus.
     Known(bool),
@@ -22,14 +22,14 @@ pub enum What {
 }
 
 /// What happens, at the time of the later sample, in the unit of the capture.
-#[derive(Clone, Copy, Debug, PartialEq, Eq)]
+#[derive(Clone, Copy, PartialEq, Eq)]
 pub struct Event {
     pub time: u64,
     pub what: What,
 }
 
 /// The two lines where both levels are known: `true` is HIGH.
-#[derive(Clone, Copy, Debug, PartialEq, Eq)]
+#[derive(Clone, Copy, PartialEq, Eq)]
 pub(crate) struct Lines {
     pub(crate) scl: bool,
     pub(crate) sda: bool,
@@ -37,7 +37,7 @@ pub(crate) struct Lines {
 
 /// How often SCL rises while both levels are known, and in how many of these samples SDA changes too. A target may change SDA
 /// as SCL falls, with no hold time. As SCL rises SDA has to stand, so where it does not, the samples are too far apart.
-#[derive(Clone, Copy, Debug)]
+#[derive(Clone, Copy)]
 pub struct Rises {
     pub all: u64,
     pub with_sda: u64,
@@ -63,7 +63,7 @@ impl Rises {
 }
 
 /// The two lines, watched from sample to sample.
-#[derive(Clone, Copy, Debug)]
+#[derive(Clone, Copy)]
 pub struct Watch {
     pub(crate) lines: Option<Lines>,
     // SDA has changed in the HIGH period of SCL that goes on.

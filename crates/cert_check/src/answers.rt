@@ -11,7 +11,7 @@ use std::alloc::AllocError;
 use thiserror::Error;
 
 /// What a certificate says of a plan, where the plan's text has no refusal.
-#[derive(Clone, Copy, Debug, PartialEq, Eq)]
+#[derive(Clone, Copy, PartialEq, Eq)]
 pub enum Answer {
     /// The certificate proves each pair of the plan: the plan is safe.
     Safe,

@@ -15,7 +15,7 @@ use std::alloc::Global;
 pub(crate) const FIRST_PROOF: u64 = 3;
 
 /// Where the reading of a certificate text stands after whole lines, apart from what is left of the text.
-#[derive(Clone, Copy, Debug)]
+#[derive(Clone, Copy)]
 pub struct Standing {
     // the number of proofs that the text announces, and of those that were read
     number: u32,
@@ -30,7 +30,7 @@ impl Standing {
 }
 
 /// What is left of a certificate text whose proofs are read one at a time.
-#[derive(Debug, Drop)]
+#[derive(Drop)]
 pub struct ProofLines<'a> {
     source: Source<'a>,
     // the number of proofs that the text announces, and of those that were read

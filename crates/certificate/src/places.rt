@@ -14,7 +14,7 @@ const LONGEST: usize = 65_536;
 const FRONT: usize = 4_096;
 
 /// What can stand at a place.
-#[derive(Clone, Copy, Debug, PartialEq, Eq)]
+#[derive(Clone, Copy, PartialEq, Eq)]
 pub enum Expected {
     /// The first line, `cert 1`.
     Version,
@@ -39,7 +39,7 @@ pub enum Expected {
 }
 
 /// What a space stands before.
-#[derive(Clone, Copy, Debug, PartialEq, Eq)]
+#[derive(Clone, Copy, PartialEq, Eq)]
 pub enum Next {
     /// The number of pairs, or of the pair that has the fault.
     Number,
@@ -52,7 +52,7 @@ pub enum Next {
 }
 
 /// What the end of a line stands after.
-#[derive(Clone, Copy, Debug, PartialEq, Eq)]
+#[derive(Clone, Copy, PartialEq, Eq)]
 pub enum Last {
     /// `cert 1`
     Version,
@@ -65,7 +65,7 @@ pub enum Last {
 }
 
 /// A token that was refused, a character that cannot stand in its place, or the end of a line that comes too early.
-#[derive(Clone, Copy, Debug, PartialEq, Eq)]
+#[derive(Clone, Copy, PartialEq, Eq)]
 pub struct Place {
     /// Its line, as `CertFault` has it.
     pub line: u64,
@@ -80,7 +80,7 @@ pub struct Place {
 }
 
 /// The line that was refused, and where.
-#[derive(Debug, Drop)]
+#[derive(Drop)]
 pub struct Refusal {
     pub place: Place,
     /// The line without its line feed, 65,536 bytes of it at most.
@@ -219,7 +219,7 @@ fn first(alloc: Global, bytes: &[u8], most: usize) -> Result<Vec<u8>, AllocError
 }
 
 /// What is asked for, and what follows where all of that stands there, before so many bytes of a text.
-#[derive(Clone, Copy, Debug)]
+#[derive(Clone, Copy)]
 pub(crate) struct Asked {
     pub(crate) expected: Expected,
     pub(crate) then: Expected,

@@ -13,7 +13,7 @@ use std::alloc::Global;
 const PATH_NODES: u32 = 512;
 
 /// The token of a node.
-#[derive(Clone, Copy, Debug)]
+#[derive(Clone, Copy)]
 pub(crate) enum Token {
     /// `P0` to `P7`.
     Part(u8),

@@ -59,7 +59,7 @@ fn all_proofs(alloc: Global, mut lines: ProofLines<'_>) -> Result<Vec<Cert>, Cer
 }
 
 /// The front of a certificate text.
-#[derive(Debug, Drop)]
+#[derive(Drop)]
 pub enum Head<'a> {
     /// The proofs follow, each on a line of its own.
     Proofs(ProofLines<'a>),

@@ -7,7 +7,7 @@ use crate::errors::{CertError, CertFault};
 use crate::places::{Asked, Expected, Stop};
 
 /// What is left of a certificate text.
-#[derive(Clone, Copy, Debug)]
+#[derive(Clone, Copy)]
 pub(crate) struct Source<'a> {
     rest: &'a [u8],
     line: u64,

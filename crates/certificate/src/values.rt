@@ -8,7 +8,6 @@ use message_tree::{Item, Kind};
 use std::mem;
 
 /// A proof that two participants never clash, as a tree over what they send.
-#[derive(Debug)]
 pub enum Cert {
     /// Two headers, or two data bytes, whose bit at this place is known in both and different: one of the two loses
     /// arbitration there (UM10204, 3.1.8). The place is 0 to 7; a greater number proves nothing.
@@ -86,7 +85,7 @@ impl Cert {
 }
 
 /// Where two participants clash: the wire before it, and the kinds of item that meet.
-#[derive(Debug, Drop)]
+#[derive(Drop)]
 pub struct Fault {
     pub wire: Vec<Item>,
     /// The kind of the first participant's item.
@@ -96,7 +95,7 @@ pub struct Fault {
 }
 
 /// What a certificate says of a whole plan.
-#[derive(Debug, Drop)]
+#[derive(Drop)]
 pub enum CertText {
     /// A proof for each pair of the plan, in the order of the pairs.
     Proofs(Vec<Cert>),

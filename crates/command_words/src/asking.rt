@@ -242,7 +242,7 @@ fn is_of_further_file(alloc: Global, words: &[String], told: &str) -> Result<boo
 
 // Whether one of the words is a command with this option.
 fn takes_further(words: &[String]) -> bool {
-    for entry in COMMANDS {
+    for entry in &COMMANDS {
         if entry.takes_further() && words.iter().any(|word| word.as_str() == entry.name) {
             return true;
         }
@@ -260,14 +260,18 @@ fn with_tip(alloc: Global, told: &str) -> Result<String, AllocError> {
 
 fn parse<'a>(alloc: Global, words: &'a [String]) -> Result<Asked<'a>, Error> {
     let matches = program(alloc)?.try_get_matches_from(words)?;
-    if serves(&matches) {
-        return serve_of(alloc, &matches);
+    found_in(alloc, &matches)
+}
+
+fn found_in<'a>(alloc: Global, matches: &ArgMatches<'a>) -> Result<Asked<'a>, Error> {
+    if serves(matches) {
+        return serve_of(alloc, matches);
     }
-    match asked_of(&matches) {
+    match asked_of(matches) {
         Ok((request, manner)) => Ok(Asked::Run {
             request,
-            further: further_of(alloc, &matches)?,
-            drives: drives_of(alloc, &matches)?,
+            further: further_of(alloc, matches)?,
+            drives: drives_of(alloc, matches)?,
             manner,
         }),
         Err(fault) => Err(error_of(alloc, fault)?),
@@ -453,20 +457,27 @@ fn recorded_of<'a>(name: &str, matches: &ArgMatches<'a>) -> Result<Request<'a>, 
     if let Some(fault) = options.drives_fault(matches) {
         return Err(fault);
     }
+    if name == "signals" {
+        return Ok(Request::Signals {
+            vcd: word(matches, "VCD"),
+            limits: options.limits(),
+        });
+    }
+    over_bus(name, matches, options.bus())
+}
+
+// What reads a bus that was recorded.
+fn over_bus<'a>(name: &str, matches: &ArgMatches<'a>, bus: Bus<'a>) -> Result<Request<'a>, Fault> {
     match name {
-        "capture" => Ok(capture_of(matches, options.bus())),
+        "capture" => Ok(capture_of(matches, bus)),
         "decode" => Ok(Request::Decode {
             vcd: word(matches, "VCD"),
-            bus: options.bus(),
+            bus,
             live: matches.get_flag("live"),
             wave: wave_of(matches)?,
         }),
-        "signals" => Ok(Request::Signals {
-            vcd: word(matches, "VCD"),
-            limits: options.limits(),
-        }),
-        "learn" => Ok(learn_of(matches, options.bus())),
-        _ => Ok(page_of(matches, options.bus())),
+        "learn" => Ok(learn_of(matches, bus)),
+        _ => Ok(page_of(matches, bus)),
     }
 }
 
@@ -573,8 +584,8 @@ const READ: [&str; 7] = ["PLAN", "BRIEF", "with", "CERT", "VCD", "capture", "nam
 // Among all files that a run reads. Starters may stand in the place of a certificate.
 fn refuse_input_twice(matches: &ArgMatches<'_>) -> Result<(), Fault> {
     let mut inputs = 0u32;
-    for name in READ {
-        if name != "CERT" || !matches.get_flag("certify") {
+    for name in &READ {
+        if *name != "CERT" || !matches.get_flag("certify") {
             inputs = inputs.saturating_add(inputs_in(matches, name));
         }
     }

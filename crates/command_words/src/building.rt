@@ -26,16 +26,16 @@ fn program_alone<'a>(alloc: Global) -> Result<Command<'a>, AllocError> {
 // The options of all commands.
 fn options<'a>(alloc: Global) -> Result<Vec<Arg<'a>>, AllocError> {
     let mut options = Vec::new(alloc);
-    for one in [HINTS, COLOR, FORMAT] {
-        options.push(argument(alloc, one)?.global(true))?;
+    for one in &[HINTS, COLOR, FORMAT] {
+        options.push(argument(alloc, *one)?.global(true))?;
     }
     Ok(options)
 }
 
 fn commands<'a>(alloc: Global) -> Result<Vec<Command<'a>>, AllocError> {
     let mut commands = Vec::new(alloc);
-    for entry in COMMANDS {
-        commands.push(command(alloc, entry)?)?;
+    for entry in &COMMANDS {
+        commands.push(command(alloc, *entry)?)?;
     }
     Ok(commands)
 }

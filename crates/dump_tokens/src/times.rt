@@ -5,7 +5,7 @@ use crate::units::Unit;
 use std::alloc::{AllocError, Global};
 
 /// A time: so many steps of a dump, or so many femtoseconds.
-#[derive(Clone, Copy, Debug, PartialEq, Eq)]
+#[derive(Clone, Copy, PartialEq, Eq)]
 pub enum Time {
     Steps(u64),
     Span(u128),

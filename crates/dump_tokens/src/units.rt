@@ -1,7 +1,7 @@
 // The parts of a second that a dump can count.
 
 /// A part of a second.
-#[derive(Clone, Copy, Debug, PartialEq, Eq)]
+#[derive(Clone, Copy, PartialEq, Eq)]
 pub enum Unit {
     Second,
     Millisecond,

@@ -1,7 +1,7 @@
 // Lexemes, and what they are made of.
 
 /// Which characters are parts of words, beside letters, digits and `_`, and which stand by themselves, beside `;`.
-#[derive(Clone, Copy, PartialEq, Eq, Debug)]
+#[derive(Clone, Copy, PartialEq, Eq)]
 pub enum Letters {
     /// No others: the first version of plans.
     Plain,

@@ -6,7 +6,7 @@ ghost use Rattle.message_tree.specs.Bits.{bit_from, bits_below, IsFirstSplit, Ne
 ghost use Rattle.message_tree.specs.Digits.{IsHighestOne};
 
 /// A bit of a pattern.
-#[derive(Clone, Copy, PartialEq, Eq, Debug)]
+#[derive(Clone, Copy, PartialEq, Eq)]
 pub enum Bit {
     /// The bit is sent as 0.
     Zero,
@@ -17,7 +17,7 @@ pub enum Bit {
 }
 
 /// The eight bits of a data byte, some of them open.
-#[derive(Clone, Copy, PartialEq, Eq, Debug)]
+#[derive(Clone, Copy, PartialEq, Eq)]
 pub struct Pattern {
     known: u8,
     value: u8,
@@ -57,7 +57,7 @@ impl Pattern {
 }
 
 /// The seven bits of a target's address, some of them open (UM10204, 3.1.10).
-#[derive(Clone, Copy, PartialEq, Eq, Debug)]
+#[derive(Clone, Copy, PartialEq, Eq)]
 pub struct Address {
     known: u8,
     value: u8,

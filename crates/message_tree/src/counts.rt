@@ -4,7 +4,7 @@ ghost use Rattle.std.specs.Prelude.{◌≡◌, ◌<◌, ◌≤◌, ◌^◌, ◌�
 
 /// A range of numbers of bytes, from 1 to 255. The controller ends its read after any number of bytes in the range, as
 /// it likes.
-#[derive(Clone, Copy, PartialEq, Eq, Debug)]
+#[derive(Clone, Copy, PartialEq, Eq)]
 pub struct Count {
     least: u8,
     greatest: u8,

@@ -5,7 +5,7 @@ ghost use Rattle.message_tree.specs.Items.{kind_of};
 ghost use Rattle.message_tree.specs.Symbols.{symbol_of, kind_word};
 
 /// What one participant does with one slot.
-#[derive(Clone, Copy, PartialEq, Eq, Debug)]
+#[derive(Clone, Copy, PartialEq, Eq)]
 pub enum Item {
     /// The participant drives this bit, `0` or `1` (UM10204, 3.1.5).
     Sent(bool),
@@ -21,7 +21,7 @@ pub enum Item {
 
 /// An item without its bit. Two different kinds that meet in one slot are a fault (UM10204, 3.1.8), and so are two
 /// claims.
-#[derive(Clone, Copy, PartialEq, Eq, Debug)]
+#[derive(Clone, Copy, PartialEq, Eq)]
 pub enum Kind {
     /// A bit that a participant drives, `data`.
     Sent,

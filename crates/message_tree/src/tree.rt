@@ -11,7 +11,6 @@ use std::mem;
 
 /// How a message goes on after its last byte, or after an answer that refuses.
 #[cycle(message)]
-#[derive(Debug)]
 pub enum Tail {
     /// A STOP (UM10204, 3.1.4), which ends the message.
     Stop,
@@ -21,7 +20,7 @@ pub enum Tail {
 
 /// A header, and what follows it (UM10204, 3.1.10).
 #[cycle(message)]
-#[derive(Debug, Drop)]
+#[derive(Drop)]
 pub enum Frame {
     /// The address and the direction bit 0.
     Write {
@@ -44,7 +43,6 @@ pub enum Frame {
 
 /// What a controller writes after an acknowledge.
 #[cycle(message)]
-#[derive(Debug)]
 pub enum Payload {
     /// A data byte (UM10204, 3.1.5).
     Byte {

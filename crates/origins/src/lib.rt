@@ -6,7 +6,7 @@ use message_tree::{Address, Pattern};
 use plan_core::Name;
 
 /// A place in briefs.
-#[derive(Clone, Copy, PartialEq, Eq, Debug, Drop)]
+#[derive(Clone, Copy, PartialEq, Eq, Drop)]
 pub struct Spot {
     /// The number of the brief, from 0 on.
     pub file: u32,

@@ -2,7 +2,7 @@
 
 /// The answer to a thief.
 #[must_use]
-#[derive(Clone, Copy, Debug, Drop, PartialEq, Eq)]
+#[derive(Clone, Copy, Drop, PartialEq, Eq)]
 pub enum Take {
     /// A number, of a pair or of two senders, which nobody else gets.
     Pair(u32),
@@ -13,7 +13,7 @@ pub enum Take {
 }
 
 /// Why a queue is not settled.
-#[derive(Clone, Copy, Debug, Drop, PartialEq, Eq)]
+#[derive(Clone, Copy, Drop, PartialEq, Eq)]
 pub enum SettleFault {
     /// The number of thieves is not the one that was opened.
     Missing,

@@ -12,7 +12,7 @@ use crate::seats::{Owner, Thief};
 use crate::steps::{Counts, Joins};
 
 /// All seats are back, and what they took together is 0 to n - 1, each once.
-#[derive(Debug, Drop)]
+#[derive(Drop)]
 pub struct Settled;
 
 /// The seats, handed back as they were, and why the queue is not settled.

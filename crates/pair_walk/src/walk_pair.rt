@@ -14,7 +14,7 @@ use plan_core::Plan;
 use std::alloc::{AllocError, Global};
 
 /// What holds of a pair.
-#[derive(Debug, Drop)]
+#[derive(Drop)]
 pub enum Outcome {
     /// The two never clash when they start together, as this proof shows. A `Part` stands in it wherever two headers or
     /// two data bytes have a bit that is known in both and different, and names the first such bit.
@@ -25,7 +25,7 @@ pub enum Outcome {
 }
 
 /// What holds of the pair with this number.
-#[derive(Debug, Drop)]
+#[derive(Drop)]
 pub struct Verdict {
     pub pair: u32,
     pub outcome: Outcome,

@@ -7,7 +7,7 @@ ghost use Rattle.places.specs.Parts.{bits_of};
 use message_tree::{Address, Bit, Pattern};
 
 /// A byte that a participant sends.
-#[derive(Clone, Copy, Debug, Drop)]
+#[derive(Clone, Copy, Drop)]
 pub(crate) enum Byte {
     /// The header of a write: the address and the direction bit 0 (UM10204, 3.1.10).
     WriteHeader(Address),

@@ -7,7 +7,7 @@ use plan_core::Sends;
 
 /// A place in what a participant sends, from the START on (UM10204, 3.1.4). It borrows the message, and has one size for
 /// all messages.
-#[derive(Clone, Copy, Debug, Drop)]
+#[derive(Clone, Copy, Drop)]
 pub struct Place<'a> {
     part: Part<'a>,
 }

@@ -3,7 +3,7 @@
 use message_tree::{Bit, Item};
 
 /// What may come next in what a participant sends.
-#[derive(Clone, Copy, PartialEq, Eq, Debug)]
+#[derive(Clone, Copy, PartialEq, Eq)]
 pub enum Offered {
     /// The participant drives a bit: this one, or either where it is open (UM10204, 3.1.5). Its own acknowledge of a byte
     /// that it reads is such a bit, and is open where the byte may be the last or not (3.1.6).

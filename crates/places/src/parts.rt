@@ -9,7 +9,7 @@ use message_tree::{Bit, Count, Frame, Item, Payload, Tail};
 use plan_core::Sends;
 
 /// What comes next of what a participant sends.
-#[derive(Clone, Copy, Debug, Drop)]
+#[derive(Clone, Copy, Drop)]
 pub(crate) enum Part<'a> {
     /// Bits of a byte.
     Byte(Outgoing<'a>),
@@ -24,7 +24,7 @@ pub(crate) enum Part<'a> {
 }
 
 /// A byte that is sent bit by bit.
-#[derive(Clone, Copy, Debug, Drop)]
+#[derive(Clone, Copy, Drop)]
 pub(crate) struct Outgoing<'a> {
     byte: Byte,
     /// How many of its bits have been sent.
@@ -34,7 +34,7 @@ pub(crate) struct Outgoing<'a> {
 }
 
 /// What follows the bits of a byte.
-#[derive(Clone, Copy, Debug, Drop)]
+#[derive(Clone, Copy, Drop)]
 pub(crate) enum Then<'a> {
     /// A target acknowledges the byte by 0, or refuses it by 1 (UM10204, 3.1.6).
     Answer { acked: Acked<'a>, refused: &'a Tail },
@@ -43,7 +43,7 @@ pub(crate) enum Then<'a> {
 }
 
 /// What follows an acknowledge.
-#[derive(Clone, Copy, Debug, Drop)]
+#[derive(Clone, Copy, Drop)]
 pub(crate) enum Acked<'a> {
     /// Bytes that are written.
     Payload(&'a Payload),
@@ -52,7 +52,7 @@ pub(crate) enum Acked<'a> {
 }
 
 /// A byte that is read bit by bit, and then acknowledged (UM10204, 3.1.6).
-#[derive(Clone, Copy, Debug, Drop)]
+#[derive(Clone, Copy, Drop)]
 pub(crate) struct Incoming<'a> {
     count: Count,
     /// How many bytes have been read before, and have all been acknowledged.

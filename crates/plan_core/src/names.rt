@@ -10,7 +10,7 @@ use thiserror::Error;
 /// A name in a plan: an ASCII letter, then ASCII letters, digits and `_`, 1 to 32 bytes in all, and none of the words
 /// that the plan's text keeps for itself: `plan`, `message`, `controller`, `interrupt`, `write`, `read`, `again`,
 /// `else`, `stop` and `never`.
-#[derive(PartialEq, Eq, Hash, Debug, Drop)]
+#[derive(PartialEq, Eq, Hash, Drop)]
 pub struct Name {
     text: String,
     pub ghost is_name: { IsName (string_bytes text) },

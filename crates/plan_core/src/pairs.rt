@@ -13,7 +13,7 @@ use crate::plans::Participant;
 use std::alloc::{AllocError, Global};
 
 /// The pairs whose lower number is that of one participant.
-#[derive(Clone, Copy, Debug)]
+#[derive(Clone, Copy)]
 pub struct Row {
     /// The number of the first of them.
     pub first: u32,
@@ -24,7 +24,7 @@ pub struct Row {
 }
 
 /// The rows of all participants. The sendings of one controller share their partners.
-#[derive(Drop, Debug)]
+#[derive(Drop)]
 pub struct PairTable {
     pub rows: Vec<Row>,
     pub partners: Vec<u32>,

@@ -16,7 +16,7 @@ use indexmap::IndexMap;
 use message_tree::Frame;
 
 /// One who may take part in a run.
-#[derive(Clone, Copy, PartialEq, Eq, Debug)]
+#[derive(Clone, Copy, PartialEq, Eq)]
 pub enum Participant {
     /// A controller with one of its messages, both by number.
     Sending { controller: u32, message: u32 },

@@ -4,7 +4,7 @@ use crate::plans::{Participant, Plan};
 use message_tree::{Address, Frame};
 
 /// What a participant sends after the START.
-#[derive(Clone, Copy, Debug, Drop)]
+#[derive(Clone, Copy, Drop)]
 pub enum Sends<'a> {
     /// A controller's message.
     Message(&'a Frame),

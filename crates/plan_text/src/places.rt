@@ -7,14 +7,14 @@ use crate::errors::PlanError;
 pub use lexer::Spot;
 
 /// The two languages in which people write plans.
-#[derive(Clone, Copy, Debug, PartialEq, Eq)]
+#[derive(Clone, Copy, PartialEq, Eq)]
 pub enum Language {
     Plan,
     Brief,
 }
 
 /// What a name is given to.
-#[derive(Clone, Copy, Debug, PartialEq, Eq)]
+#[derive(Clone, Copy, PartialEq, Eq)]
 pub enum Kind {
     Message,
     Controller,
@@ -26,7 +26,7 @@ pub enum Kind {
 }
 
 /// How much a message is too long, with the token that makes it so.
-#[derive(Clone, Copy, Debug, PartialEq, Eq)]
+#[derive(Clone, Copy, PartialEq, Eq)]
 pub enum Over {
     /// So many bytes on a path.
     Bytes(u32),
@@ -35,7 +35,7 @@ pub enum Over {
 }
 
 /// What can stand in the place of a token that was refused.
-#[derive(Clone, Copy, Debug, PartialEq, Eq)]
+#[derive(Clone, Copy, PartialEq, Eq)]
 pub enum Expected {
     /// The two tokens with which a text begins.
     Version,
@@ -84,7 +84,7 @@ pub enum Expected {
 }
 
 /// What can follow a part of a message of a brief, beside `write` and `read`.
-#[derive(Clone, Copy, Debug, PartialEq, Eq)]
+#[derive(Clone, Copy, PartialEq, Eq)]
 pub struct Further {
     /// `*`
     pub times: bool,
@@ -97,7 +97,7 @@ pub struct Further {
 }
 
 /// A token that was refused, a character that belongs to none, or the end of a text.
-#[derive(Clone, Copy, Debug, PartialEq, Eq)]
+#[derive(Clone, Copy, PartialEq, Eq)]
 pub struct Place {
     /// Its line.
     pub line: u64,
@@ -116,7 +116,7 @@ pub struct Place {
 }
 
 /// Why a text is refused, and where.
-#[derive(Clone, Copy, Debug, PartialEq, Eq)]
+#[derive(Clone, Copy, PartialEq, Eq)]
 pub struct Refused {
     pub error: PlanError,
     /// None where an allocation failed.

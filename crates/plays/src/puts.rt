@@ -6,7 +6,7 @@ ghost use Rattle.plays.specs.Plays.{item_with};
 use message_tree::Item;
 
 /// What one participant of a bench puts in one slot.
-#[derive(Clone, Copy, PartialEq, Eq, Debug)]
+#[derive(Clone, Copy, PartialEq, Eq)]
 pub enum Put {
     /// It drives this bit (UM10204, 3.1.5).
     Drive(bool),

@@ -41,7 +41,7 @@ impl Put {
 }
 
 /// What the word of a slot tells whoever looks at it.
-#[derive(Clone, Copy, PartialEq, Eq, Debug)]
+#[derive(Clone, Copy, PartialEq, Eq)]
 pub struct Tally {
     word: u64,
 }

@@ -8,7 +8,7 @@ use std::alloc::AllocError;
 use vcd_read::{Level, Sample};
 
 /// The samples of a capture without the levels that a line has for less than a least time.
-#[derive(Debug, Drop)]
+#[derive(Drop)]
 pub struct Filter {
     pub(crate) least: u64,
     // whether there has been a sample, and the time of the last one

@@ -6,7 +6,7 @@ use std::alloc::{AllocError, Global};
 use vcd_read::Sample;
 
 /// The bus, followed from sample to sample as if the short pulses of its lines had not been.
-#[derive(Debug, Drop)]
+#[derive(Drop)]
 pub struct QuietFollower {
     // none where each level counts
     pub(crate) filter: Option<Filter>,

@@ -3,7 +3,7 @@
 use vcd_read::Level;
 
 /// A line, as it is and as it goes on without its short pulses.
-#[derive(Clone, Copy, Debug)]
+#[derive(Clone, Copy)]
 pub(crate) struct Wire {
     pub(crate) level: Level,
     // the level that goes on
@@ -15,7 +15,7 @@ pub(crate) struct Wire {
 }
 
 /// The line whose run began before that of the other.
-#[derive(Clone, Copy, Debug, PartialEq, Eq)]
+#[derive(Clone, Copy, PartialEq, Eq)]
 pub(crate) enum First {
     Scl,
     Sda,

@@ -8,7 +8,7 @@ use crate::devices::writing::write_report;
 use crate::errors::RunError;
 
 /// How a run ended that wrote its whole report.
-#[derive(Clone, Copy, Debug, PartialEq, Eq)]
+#[derive(Clone, Copy, PartialEq, Eq)]
 pub enum Status {
     /// Nothing was found: the plan is safe, each stopped transaction is explained, or the bench was played.
     Good,

@@ -1,6 +1,5 @@
 // Proofs and wires of more levels than any certificate has.
 
-use crate::debugging::levels_written;
 use cert_check::{accept_plan, check_fault, check_pair};
 use certificate::{Cert, CertFault, CertText, Fault, print_cert};
 use message_tree::{Item, Kind};
@@ -113,14 +112,4 @@ fn proofs_of_3_000_000_levels_are_printed(rt: HostRuntime) {
     for (shape, leaves) in &[(0, LEVELS + 1), (1, LEVELS + 1), (2, LEVELS + 1), (3, 1)] {
         assert!(rt; printed(rt.alloc(), *shape) == Ok(15 + 2 * (LEVELS + *leaves)));
     }
-}
-
-// The text for debugging goes down level by level: a caller's proof may have 4,096 levels there. Each has this word.
-#[test]
-fn proofs_of_4096_levels_are_written_for_debugging(rt: HostRuntime) -> Result<(), Fail> {
-    for (shape, word) in &[(0, "Byte"), (1, "Byte"), (2, "Read"), (3, "Again")] {
-        let proof = deep(rt.alloc(), 4096, *shape)?;
-        assert!(rt; levels_written(rt.alloc(), &proof, word) == Ok(4096));
-    }
-    Ok(())
 }

@@ -13,8 +13,6 @@ mod captures;
 #[cfg(test)]
 mod certificates;
 #[cfg(test)]
-mod debugging;
-#[cfg(test)]
 mod dumps;
 #[cfg(test)]
 mod gates;

@@ -1,6 +1,5 @@
 // Sizes and copies of messages, and messages of any depth, by tables of shapes.
 
-use crate::debugging::levels_written;
 use message_tree::{Address, Count, Frame, Pattern, Payload, Tail};
 use plan_core::{BuildError, Builder, Name};
 use std::alloc::{AllocError, Global};
@@ -176,7 +175,7 @@ fn messages_have_their_sizes_and_so_have_their_copies(rt: HostRuntime) {
     assert!(rt; have_sizes(alloc, in_branches(alloc), [4096, 256, 2306]) == Ok(true));
 }
 
-// A copy, the sizes and the text for debugging go down level by level: a caller's message may have 4,096 levels there.
+// A copy and the sizes go down level by level: a caller's message may have 4,096 levels there.
 const SIZES: [(Shape, u32, [u32; 3]); 7] = [
     // the longest run of data bytes in a plan: 9 * 256 + 1
     (Shape::InBytes, 255, [256, 256, 2305]),
@@ -198,26 +197,6 @@ fn messages_of_up_to_4096_levels_have_sizes_and_copies(rt: HostRuntime) {
     let alloc = rt.alloc();
     for (shape, n, wanted) in &SIZES {
         assert!(rt; have_sizes(alloc, deep(alloc, *shape, *n), *wanted) == Ok(true));
-    }
-}
-
-// The word that each level has.
-const WORDS: [(Shape, &str); 4] = [
-    (Shape::BehindRefusals, "Write"),
-    (Shape::BehindAcknowledges, "Write"),
-    (Shape::InBytes, "Byte"),
-    (Shape::BehindReads, "Read"),
-];
-
-fn is_written(alloc: Global, shape: Shape, word: &str) -> Result<bool, AllocError> {
-    let message = deep(alloc, shape, 4095)?;
-    Ok(levels_written(alloc, &message, word)? >= 4095)
-}
-
-#[test]
-fn messages_of_4096_levels_are_written_for_debugging(rt: HostRuntime) {
-    for (shape, word) in &WORDS {
-        assert!(rt; is_written(rt.alloc(), *shape, word) == Ok(true));
     }
 }
 

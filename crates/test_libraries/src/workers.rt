@@ -1,15 +1,17 @@
 // What several workers find, and that they really work in threads of their own.
 
 use crate::gates::{Flag, Yields};
+use certificate::{Fault, print_cert};
 use plan_core::Plan;
 use plan_text::read_plan;
 use report::{Watched, run_check_with};
 use std::alloc::Global;
-use std::fmt::Debug;
 use std::sync::atomic::{AtomicU64, Ordering};
 use std::test::Fail;
 use std::thread::Threads;
-use verdicts::{Gate, MOST_WORKERS, NoGate, TableError, faults, faults_with, table, table_with};
+use verdicts::{
+    Faults, Gate, MOST_WORKERS, NoGate, Table, TableError, faults, faults_with, table, table_with,
+};
 
 /// How often each plan is checked with workers that yield at random.
 const RUNS: u32 = 200;
@@ -53,19 +55,13 @@ controller c7 m n o ;
 
 // ---- what is found
 
-// All that is found, as text.
-fn text_of<T: Debug + Drop, E: Drop>(alloc: Global, found: Result<T, E>) -> Option<String> {
-    match found {
-        Ok(found) => format!(in alloc; "{found:?}").ok(),
-        Err(_) => None,
-    }
+// The certificate of what is found.
+fn certified<E: Drop>(alloc: Global, found: Result<Table, E>) -> Option<Vec<u8>> {
+    let certificate = found.ok()?.certify(alloc).ok()?;
+    print_cert(alloc, &certificate).ok()
 }
 
-fn are_same(alone: Option<String>, shared: Option<String>) -> bool {
-    alone.is_some() && alone == shared
-}
-
-// All verdicts, by one thread and by so many workers.
+// The certificate of all verdicts, by one thread and by so many workers.
 fn are_tables_same<R: Threads + Sync, G: Gate + Sync>(
     rt: &R,
     alloc: Global,
@@ -73,11 +69,28 @@ fn are_tables_same<R: Threads + Sync, G: Gate + Sync>(
     workers: u32,
     gate: &G,
 ) -> bool {
-    let alone = text_of(alloc, table(alloc, plan));
-    are_same(
-        alone,
-        text_of(alloc, table_with(rt, alloc, plan, workers, gate)),
-    )
+    let alone = certified(alloc, table(alloc, plan));
+    alone.is_some() && alone == certified(alloc, table_with(rt, alloc, plan, workers, gate))
+}
+
+fn is_same(one: &Fault, other: &Fault) -> bool {
+    one.first == other.first
+        && one.second == other.second
+        && one.wire.as_slice() == other.wire.as_slice()
+}
+
+fn are_same(alone: &Faults, shared: &Faults) -> bool {
+    for k in 0..alone.len() {
+        if k >= shared.len() {
+            return false;
+        }
+        let (pair, fault) = alone.get(k);
+        let (other, found) = shared.get(k);
+        if pair != other || !is_same(fault, found) {
+            return false;
+        }
+    }
+    alone.len() == shared.len()
 }
 
 // All faults, by one thread and by so many workers.
@@ -88,11 +101,13 @@ fn are_faults_same<R: Threads + Sync, G: Gate + Sync>(
     workers: u32,
     gate: &G,
 ) -> bool {
-    let alone = text_of(alloc, faults(alloc, plan));
-    are_same(
-        alone,
-        text_of(alloc, faults_with(rt, alloc, plan, workers, gate)),
-    )
+    match (
+        faults(alloc, plan),
+        faults_with(rt, alloc, plan, workers, gate),
+    ) {
+        (Ok(alone), Ok(shared)) => are_same(&alone, &shared),
+        _ => false,
+    }
 }
 
 #[test]

@@ -10,7 +10,7 @@ use crate::words::is_end;
 use std::alloc::{AllocError, Global};
 
 /// The tokens of a `$var` that have come.
-#[derive(Clone, Copy, Debug, PartialEq, Eq)]
+#[derive(Clone, Copy, PartialEq, Eq)]
 pub(crate) enum Seen {
     Nothing,
     Type,
@@ -21,7 +21,7 @@ pub(crate) enum Seen {
 }
 
 /// What the next token belongs to, with the line where that began.
-#[derive(Clone, Copy, Debug, PartialEq, Eq)]
+#[derive(Clone, Copy, PartialEq, Eq)]
 pub(crate) enum Context {
     Nothing,
     /// A command that is skipped up to `$end`.
@@ -33,14 +33,14 @@ pub(crate) enum Context {
 }
 
 /// What a change says of each line, where its code is the line's.
-#[derive(Clone, Copy, Debug, PartialEq, Eq)]
+#[derive(Clone, Copy, PartialEq, Eq)]
 pub(crate) struct Levels {
     pub(crate) scl: Level,
     pub(crate) sda: Level,
 }
 
 /// What the tokens of a dump have said so far.
-#[derive(Debug, Drop)]
+#[derive(Drop)]
 pub(crate) struct Dump {
     pub(crate) scl: Wire,
     pub(crate) sda: Wire,

@@ -10,7 +10,7 @@ use std::alloc::AllocError;
 use thiserror::Error;
 
 /// The first refusal of a dump, in text order. A line is one more than the number of line feeds before the token.
-#[derive(Clone, Copy, Debug, PartialEq, Eq)]
+#[derive(Clone, Copy, PartialEq, Eq)]
 pub enum Refusal {
     /// V1: no `$var` of one bit has the name, or the code, of this signal.
     NoSignal(Signal),
@@ -43,7 +43,7 @@ pub enum VcdError {
 }
 
 /// Why a dump has no samples at its end, and where.
-#[derive(Debug, Drop)]
+#[derive(Drop)]
 pub struct EndError {
     pub error: VcdError,
     pub wrong: Option<Wrong>,

@@ -7,7 +7,7 @@ use std::alloc::{AllocError, Global};
 const KEPT: usize = 65_536;
 
 /// What can stand in the place of a token that was refused.
-#[derive(Clone, Copy, Debug, PartialEq, Eq)]
+#[derive(Clone, Copy, PartialEq, Eq)]
 pub enum Expected {
     /// Among the definitions: a command that declares something, or `$enddefinitions`.
     Command,
@@ -21,7 +21,7 @@ pub enum Expected {
 }
 
 /// What a dump can end inside of.
-#[derive(Clone, Copy, Debug, PartialEq, Eq)]
+#[derive(Clone, Copy, PartialEq, Eq)]
 pub enum Opened {
     /// A command that is skipped, as a comment.
     Command,
@@ -34,7 +34,7 @@ pub enum Opened {
 }
 
 /// A token that was refused, in its line. Of a line or token of more than 65,536 bytes a part is kept.
-#[derive(Debug, Drop)]
+#[derive(Drop)]
 pub struct Place {
     /// How many bytes of the dump stand before the token.
     pub offset: u64,
@@ -66,7 +66,7 @@ impl Place {
 }
 
 /// What is wrong with a dump that is refused, beside the refusal. Of V1 there is nothing more to say.
-#[derive(Debug, Drop)]
+#[derive(Drop)]
 pub enum Wrong {
     /// V2 and V3: this token.
     Token(Place),
@@ -75,7 +75,7 @@ pub enum Wrong {
 }
 
 /// The line of a dump that has not ended.
-#[derive(Debug, Drop)]
+#[derive(Drop)]
 pub(crate) struct OpenLine {
     // what was fed of it, or its last part
     text: Vec<u8>,

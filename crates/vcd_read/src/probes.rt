@@ -7,7 +7,7 @@ ghost use Rattle.vcd_read.specs.Views.{asked, sought_by};
 use std::alloc::{AllocError, Global};
 
 /// By what a line of the bus is found: of the signals in the definitions of a dump it is the first that has this.
-#[derive(Clone, Copy, Debug, PartialEq, Eq)]
+#[derive(Clone, Copy, PartialEq, Eq)]
 pub enum Probe<'a> {
     /// One bit, and this reference, which is the fourth token of a `$var`.
     Named(&'a str),
@@ -19,7 +19,7 @@ pub enum Probe<'a> {
 }
 
 /// The same, with text of its own.
-#[derive(Debug, Drop)]
+#[derive(Drop)]
 pub(crate) enum Sought {
     Name(String),
     Code(String),

@@ -14,7 +14,7 @@ use std::alloc::{AllocError, Global};
 /// It keeps the token that has not ended, the command that is open, the codes and levels of the two signals, and the
 /// samples that were not cleared. A token counts as read once the white space after it has been fed, the last one at
 /// the end.
-#[derive(Debug, Drop)]
+#[derive(Drop)]
 pub struct Reader {
     scanner: Scanner,
     refused: Option<Refusal>,

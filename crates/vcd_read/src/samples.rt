@@ -3,7 +3,7 @@
 use std::fmt::{self, Display, Formatter, Write};
 
 /// The level of a line. The lines are open-drain with a pull-up, so one that is `z` is high.
-#[derive(Clone, Copy, Debug, PartialEq, Eq)]
+#[derive(Clone, Copy, PartialEq, Eq)]
 pub enum Level {
     Low,
     High,
@@ -11,7 +11,7 @@ pub enum Level {
 }
 
 /// The levels after a time stamp at which one of the two differs from before. The time is in the dump's own unit.
-#[derive(Clone, Copy, Debug, PartialEq, Eq)]
+#[derive(Clone, Copy, PartialEq, Eq)]
 pub struct Sample {
     pub time: u64,
     pub scl: Level,

@@ -16,7 +16,7 @@ use std::alloc::{AllocError, Global};
 use std::simd::prelude::*;
 
 /// What a reader keeps of the bytes that it was fed.
-#[derive(Debug, Drop)]
+#[derive(Drop)]
 pub(crate) struct Scanner {
     dump: Dump,
     // the line of the next byte

@@ -9,7 +9,7 @@ use crate::words::{code_number, level_at};
 use std::alloc::{AllocError, Global};
 
 /// A line: how its `$var` is found, the code that this `$var` gives it, and its levels.
-#[derive(Debug, Drop)]
+#[derive(Drop)]
 pub(crate) struct Wire {
     sought: Sought,
     // empty until the `$var` has come

@@ -11,7 +11,7 @@ use crate::samples::Level;
 use std::simd::prelude::*;
 
 /// What a token that begins with `$` is.
-#[derive(Clone, Copy, Debug, PartialEq, Eq)]
+#[derive(Clone, Copy, PartialEq, Eq)]
 pub(crate) enum Command {
     Var,
     EndDefinitions,

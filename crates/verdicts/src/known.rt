@@ -13,7 +13,7 @@ use plan_core::Plan;
 use std::alloc::{AllocError, Global};
 
 /// What two senders come to who start together.
-#[derive(Debug, Drop)]
+#[derive(Drop)]
 pub(crate) enum Known {
     /// They have not been compared.
     NotYet,

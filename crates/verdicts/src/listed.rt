@@ -10,7 +10,7 @@ use certificate::Fault;
 use std::alloc::AllocError;
 
 /// The pairs of a plan that are not safe, each with its first fault, in the order of the pairs.
-#[derive(Debug, Drop)]
+#[derive(Drop)]
 pub struct Faults {
     pub(crate) known: Vec<Known>,
     pub(crate) listed: Vec<Listed>,
@@ -18,7 +18,7 @@ pub struct Faults {
 }
 
 /// A pair that is not safe, and where its fault stands.
-#[derive(Clone, Copy, Debug)]
+#[derive(Clone, Copy)]
 pub(crate) struct Listed {
     pub(crate) pair: u32,
     pub(crate) place: usize,

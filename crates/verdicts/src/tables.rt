@@ -12,7 +12,7 @@ use pair_walk::{Outcome, Verdict};
 use std::alloc::Global;
 
 /// The verdicts of a plan's pairs, in the order of the pairs.
-#[derive(Debug, Drop)]
+#[derive(Drop)]
 pub struct Table {
     pub(crate) verdicts: Vec<Verdict>,
 }

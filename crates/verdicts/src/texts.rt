@@ -7,7 +7,7 @@ use std::alloc::{AllocError, Global};
 /// The text of a certificate: its head, and then lines. However often a line stands in the text, it is held once.
 ///
 /// The head of proofs is their heading, with a line for each pair after it; of a fault it is the whole text.
-#[derive(Debug, Drop)]
+#[derive(Drop)]
 pub struct CertificateLines {
     pub(crate) head: Vec<u8>,
     pub(crate) distinct: Vec<Vec<u8>>,
