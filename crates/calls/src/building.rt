@@ -6,8 +6,8 @@ use crate::tasks::Task;
 use growing_text::Text;
 use message_tree::Frame;
 use plan_core::{BuildError, Builder, Name, NameError, Plan};
-use spellings::print_plan;
 use run_parts::{RunError, Status};
+use spellings::print_plan;
 use std::alloc::Global;
 
 /// Writes, in place of `print`, the spelling of the plan that a builder makes of all that this plan has.

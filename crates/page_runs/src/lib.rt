@@ -13,7 +13,6 @@ use given_plans::GivenPlan;
 use order::{order_of, order_report};
 use page::{Page, Recording, Texts, page_of};
 use plan_core::Plan;
-use spellings::print_plan;
 use plan_words::PlanWords;
 use remedies::{Grouped, grouped_of};
 use report::{
@@ -22,6 +21,7 @@ use report::{
 use run_ends::{Ended, Halt, Recorded, Remark, Sources, halted, open_dump};
 use run_parts::write_lines;
 use signals::{Dump, Recorder};
+use spellings::print_plan;
 use std::alloc::Global;
 use std::str;
 use std::thread::Threads;
