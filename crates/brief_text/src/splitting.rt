@@ -37,18 +37,38 @@ struct Apart {
     second: Name,
 }
 
+/// The controllers of the plan, and those of them that never start together.
+#[derive(Drop)]
+struct Split {
+    parts: Vec<Part>,
+    pairs: Vec<Apart>,
+}
+
 impl Board {
     /// The plan that was meant.
     #[tactic(auto, unfolding(crate::specs::Splitting::plan_meant))]
     pub(crate) fn finish(self) -> Result<Plan, AllocError>
         ensures { IfOk result (λ it. plan_contents it ≡ plan_meant (draft self)) }
     {
+        let split = self.split()?;
+        planned(self.alloc, self.built(), &split)
+    }
+
+    // What the items of the plan are split into.
+    fn split(&self) -> Result<Split, AllocError>
+        ensures parts { IfOk result (λ it. map part it.parts.items ≡ parts (draft self.now)) }
+        ensures pairs { IfOk result (λ it. map apart it.pairs.items ≡ pairs_apart (draft self.now)) }
+    {
         let parts = self.parts()?;
         let pairs = self.pairs_apart(parts.as_slice())?;
-        let mut builder = self.builder;
-        add_parts(self.alloc, &mut builder, parts.as_slice())?;
-        add_pairs(&mut builder, pairs.as_slice())?;
-        Ok(builder.finish())
+        Ok(Split { parts, pairs })
+    }
+
+    // The messages and the interrupts of the plan. (No `?` stands beside what is left of the board: its proof would be long.)
+    fn built(self) -> Builder
+        ensures { builder_contents result ≡ (draft self).plan }
+    {
+        self.builder
     }
 
     /// Where the controllers, the messages and the interrupts of the plan come from.
@@ -456,6 +476,16 @@ fn push_sending(parts: &mut Vec<Part>, one: Part) -> Result<(), AllocError>
     }
     parts.push(one)?;
     Ok(())
+}
+
+// The plan of these messages and interrupts, with controllers.
+fn planned(alloc: Global, mut builder: Builder, split: &Split) -> Result<Plan, AllocError>
+    ensures { IfOk result (λ it. plan_contents it ≡ with_pairs
+        (with_parts (builder_contents builder.entry) (map part split.now.parts.items)) (map apart split.now.pairs.items)) }
+{
+    add_parts(alloc, &mut builder, split.parts.as_slice())?;
+    add_pairs(&mut builder, split.pairs.as_slice())?;
+    Ok(builder.finish())
 }
 
 // The controllers of the plan. None is refused: all that a plan asks has been judged where it stands.
