@@ -2,10 +2,10 @@
 
 use crate::paths::NoPath;
 use capture_check::{Transaction, explain};
-use message_tree::{Address, Pattern};
+use message_tree::{Address, Frame, Pattern};
 use origins::Origins;
 use plan_core::limits::{MOST_CONTROLLERS, MOST_MESSAGES, MOST_SENDINGS};
-use plan_core::{Builder, Name, Participant, Plan};
+use plan_core::{BuildError, Builder, Name, Participant, Plan};
 use std::alloc::{AllocError, Global};
 
 /// A brief that is given first: what is learned is a further file after it.
@@ -231,20 +231,37 @@ impl<'a> BriefBefore<'a> {
 // A plan of these messages, which one controller lists.
 fn with_all(alloc: Global, plan: &Plan) -> Result<Plan, AllocError> {
     let mut builder = Builder::new(alloc);
+    add_all(alloc, &mut builder, plan)?;
+    Ok(builder.finish())
+}
+
+fn add_all(alloc: Global, builder: &mut Builder, plan: &Plan) -> Result<(), AllocError> {
     let mut names = Vec::new(alloc);
     for number in 0..plan.messages() {
         let name = plan.message_name(number).as_str();
-        let frame = plan.message(number).copy(alloc)?;
-        if builder.message(name_of(alloc, name)?, frame).is_err() {
-            return Err(AllocError);
-        }
+        add_message(alloc, builder, name, plan.message(number))?;
         names.push(name_of(alloc, name)?)?;
     }
     let controller = name_of(alloc, "all")?;
-    if builder.controller(controller, names.as_slice()).is_err() {
-        return Err(AllocError);
+    added(builder.controller(controller, names.as_slice()))
+}
+
+fn add_message(
+    alloc: Global,
+    builder: &mut Builder,
+    name: &str,
+    message: &Frame,
+) -> Result<(), AllocError> {
+    let message = message.copy(alloc)?;
+    added(builder.message(name_of(alloc, name)?, message))
+}
+
+// A plan had room for it, so all that can be wrong is that an allocation failed.
+fn added(result: Result<(), BuildError>) -> Result<(), AllocError> {
+    match result {
+        Ok(()) => Ok(()),
+        Err(_) => Err(AllocError),
     }
-    Ok(builder.finish())
 }
 
 // A copy of a name of the plan, which has the form of one.

@@ -6,7 +6,6 @@ use object_lines::ObjectLines;
 use plan_text::{Expected as InText, NoBrief, Place, PlanError};
 use plays::OpenError;
 use run_parts::RunError;
-use serde::Serialize;
 use std::alloc::{AllocError, Global};
 use vcd_read::{Expected, Opened, Signal, VcdError, Wrong};
 
@@ -37,53 +36,32 @@ pub struct TextDetail<'a> {
 }
 
 /// A line before, and the name of its file where several give the plan.
-#[derive(Clone, Copy, Serialize)]
+#[derive(Clone, Copy)]
 pub struct EarlierAt<'a> {
-    #[serde(skip_serializing_if = "Option::is_none")]
     pub file: Option<&'a str>,
     pub line: u64,
 }
 
-#[derive(Clone, Copy, Serialize)]
+#[derive(Clone, Copy)]
 struct Refusal<'a> {
-    kind: &'static str,
     code: &'static str,
-    #[serde(skip_serializing_if = "Option::is_none")]
     line: Option<u64>,
     // of a plan or a brief, where several files give it, and what cannot be read
-    #[serde(skip_serializing_if = "Option::is_none")]
     file: Option<&'a str>,
-    #[serde(skip_serializing_if = "Option::is_none")]
     label: Option<&'a str>,
-    #[serde(skip_serializing_if = "Option::is_none")]
     controller: Option<&'a str>,
-    #[serde(skip_serializing_if = "Option::is_none")]
     signal: Option<&'static str>,
     // of a token: how many bytes stand before it, and in its line and one, and what could stand there
-    #[serde(skip_serializing_if = "Option::is_none")]
     byte: Option<u64>,
-    #[serde(skip_serializing_if = "Option::is_none")]
     column: Option<u64>,
-    #[serde(skip_serializing_if = "Option::is_none")]
     expected: Option<&'static str>,
     // what the end of a dump leaves open
-    #[serde(skip_serializing_if = "Option::is_none")]
     open: Option<&'static str>,
     // where `;` is missing, after the token before
-    #[serde(skip_serializing_if = "Option::is_none")]
     after_line: Option<u64>,
-    #[serde(skip_serializing_if = "Option::is_none")]
     after_column: Option<u64>,
     // where that stands which may stand once
-    #[serde(skip_serializing_if = "Option::is_none")]
     earlier: Option<EarlierAt<'a>>,
-}
-
-#[derive(Drop, Serialize)]
-struct Hinted<'a> {
-    kind: &'static str,
-    form: &'static str,
-    text: &'a str,
 }
 
 /// The object of a refusal: its code, its line where it has one, and what else is known of it.
@@ -219,7 +197,26 @@ pub fn drive_object(alloc: Global, controller: &str) -> Result<String, AllocErro
 
 fn object_of(alloc: Global, refusal: Refusal<'_>) -> Result<String, AllocError> {
     let mut lines = ObjectLines::new(alloc);
-    lines.add(&refusal);
+    lines.begin("refusal");
+    lines.word("code", refusal.code);
+    lines.number_if("line", refusal.line);
+    lines.field_if("file", &refusal.file);
+    lines.field_if("label", &refusal.label);
+    lines.field_if("controller", &refusal.controller);
+    lines.word_if("signal", refusal.signal);
+    lines.number_if("byte", refusal.byte);
+    lines.number_if("column", refusal.column);
+    lines.word_if("expected", refusal.expected);
+    lines.word_if("open", refusal.open);
+    lines.number_if("after_line", refusal.after_line);
+    lines.number_if("after_column", refusal.after_column);
+    if let Some(earlier) = refusal.earlier {
+        lines.open("earlier");
+        lines.field_if("file", &earlier.file);
+        lines.number("line", earlier.line);
+        lines.close();
+    }
+    lines.end();
     lines.finish()
 }
 
@@ -277,7 +274,6 @@ fn of_dump(error: VcdError) -> Refusal<'static> {
 
 fn coded(code: &'static str) -> Refusal<'static> {
     Refusal {
-        kind: "refusal",
         code,
         line: None,
         file: None,
@@ -310,11 +306,10 @@ pub fn hint_objects(alloc: Global, hints: &Hints) -> Result<String, AllocError> 
     let mut lines = ObjectLines::new(alloc);
     for hint in hints.all() {
         let text = hint.text(alloc)?;
-        lines.add(&Hinted {
-            kind: "hint",
-            form: form_of(hint),
-            text: text.as_str(),
-        });
+        lines.begin("hint");
+        lines.word("form", form_of(hint));
+        lines.field("text", &text);
+        lines.end();
     }
     lines.finish()
 }
