@@ -257,8 +257,8 @@ fn add_message(
 }
 
 // A plan had room for it, so all that can be wrong is that an allocation failed.
-fn added(result: Result<(), BuildError>) -> Result<(), AllocError> {
-    match result {
+fn added(made: Result<(), BuildError>) -> Result<(), AllocError> {
+    match made {
         Ok(()) => Ok(()),
         Err(_) => Err(AllocError),
     }
