@@ -12,6 +12,7 @@ use dump_objects::{CaptureObjects, DecodeObjects, write_signals};
 use dump_tokens::{Bus, BusLines, Drives, Limits, Quiet, Window};
 use given_plans::GivenPlan;
 use lessons::{BriefBefore, Learned, Likeness, Sights, brief_of};
+use origins::Origins;
 use plan_core::Plan;
 use plan_words::PlanWords;
 use report::{
@@ -91,6 +92,17 @@ pub fn explain_capture<R: AllocGlobal + Threads + Sync, I: Input, J: Input, O: O
 ) -> Result<Ended, Halt> {
     let GivenPlan { plan, origins } = plans.find(rt.alloc())?;
     let words = plans.words(&plan, &origins);
+    explain_by(rt, words, vcd, out, capture, style)
+}
+
+fn explain_by<R: AllocGlobal + Threads + Sync, J: Input, O: Output>(
+    rt: &R,
+    words: PlanWords<'_>,
+    vcd: &mut J,
+    out: &mut O,
+    capture: Capture<'_>,
+    style: Style,
+) -> Result<Ended, Halt> {
     refuse_unknown(rt.alloc(), words, capture.drives)?;
     let Told {
         status,
@@ -122,17 +134,30 @@ fn capture_by<R: AllocGlobal + Threads + Sync, J: Input, O: Output>(
         };
     }
     let mut dump = open_driven(rt.alloc(), vcd, capture.bus, capture.drives)?;
-    let driving = driving_of(rt.alloc(), &dump, capture.drives)?;
-    let told = if is_exact && !capture.live {
-        exact_dump(rt, plan, &mut dump, out)
-    } else {
-        capture_dump(rt, words, &mut dump, out, capture, style, driving.as_ref())
-    };
-    refuse_others(rt.alloc(), driving.as_ref())?;
-    match told {
+    match capture_open(rt, words, &mut dump, out, capture, style)? {
         Ok(told) => Ok(told),
         Err(error) => Err(halted(dump, error)),
     }
+}
+
+// The capture of a dump whose definitions were read ahead.
+fn capture_open<R: AllocGlobal + Threads + Sync, J: Input, O: Output>(
+    rt: &R,
+    words: PlanWords<'_>,
+    dump: &mut Dump<'_, '_, J>,
+    out: &mut O,
+    capture: Capture<'_>,
+    style: Style,
+) -> Result<Result<Told, RunError>, Halt> {
+    let driving = driving_of(rt.alloc(), &*dump, capture.drives)?;
+    let is_exact = capture.is_exact() && matches!(style, Style::Lines(Paint::Plain));
+    let told = if is_exact && !capture.live {
+        exact_dump(rt, words.plan(), dump, out)
+    } else {
+        capture_dump(rt, words, dump, out, capture, style, driving.as_ref())
+    };
+    refuse_others(rt.alloc(), driving.as_ref())?;
+    Ok(told)
 }
 
 // The exact lines, by a proved run over the reader itself: what has ended is written before the dump is read on.
@@ -348,19 +373,33 @@ pub fn decode<R: Files + Print + Eprint + Clock + AllocGlobal, J: Input, O: Outp
         Style::Objects => decode_objects(alloc, &mut dump, out, selection, live, &mut tap),
         Style::Lines(_) => decode_lines(alloc, &mut dump, out, selection, live, &mut tap),
     };
+    let least = dump.quiet().least;
     let (selection, rises) = match told {
         Ok(told) => told,
         Err(error) => return Err(halted(dump, error)),
     };
-    let status = selection.status();
-    if let (Some(canvas), Some(recorder)) = (canvas, tap) {
-        let least = dump.quiet().least;
-        draw_recording(rt, recorder, least, bus.view.window, status, canvas)?;
-    }
+    draw_tapped(rt, tap, least, bus.view.window, selection.status(), canvas)?;
     Ok(Ended {
-        status,
+        status: selection.status(),
         remark: Remark::Recording(Recorded::Bytes(bus.view.window, selection.seen), rises),
     })
+}
+
+// Draws what was recorded, where that is wanted.
+fn draw_tapped<R: Files + Print + Eprint + Clock + AllocGlobal>(
+    rt: &R,
+    tap: Option<Recorder>,
+    least: u64,
+    window: Window,
+    status: Status,
+    canvas: Option<Canvas<'_, '_>>,
+) -> Result<(), Halt> {
+    match (canvas, tap) {
+        (Some(canvas), Some(recorder)) => {
+            draw_recording(rt, recorder, least, window, status, canvas)
+        }
+        _ => Ok(()),
+    }
 }
 
 // Draws what was recorded, with the bytes of the levels that last for so long.
@@ -449,7 +488,20 @@ pub fn learn_with_names<I: Input, J: Input, O: Output>(
         return learn(alloc, vcd, out, lesson);
     };
     let file = briefs.files.of(0).unwrap_or("");
-    let before = BriefBefore::new(alloc, file, &plan, &origins)?;
+    learn_with(alloc, file, &plan, &origins, vcd, out, lesson)
+}
+
+// The same after the brief of this file, which means this plan.
+fn learn_with<J: Input, O: Output>(
+    alloc: Global,
+    file: &str,
+    plan: &Plan,
+    origins: &Origins,
+    vcd: &mut J,
+    out: &mut O,
+    lesson: Lesson<'_>,
+) -> Result<Ended, Halt> {
+    let before = BriefBefore::new(alloc, file, plan, origins)?;
     learn_after(alloc, vcd, out, lesson, Some(&before))
 }
 
@@ -460,27 +512,49 @@ fn learn_after<J: Input, O: Output>(
     lesson: Lesson<'_>,
     before: Option<&BriefBefore<'_>>,
 ) -> Result<Ended, Halt> {
-    let Lesson {
-        bus,
-        likeness,
-        drives,
-    } = lesson;
-    refuse_no_names(alloc, drives)?;
-    let mut dump = open_driven(alloc, vcd, bus, drives)?;
-    let driving = driving_of(alloc, &dump, drives)?;
-    let driving = driving.as_ref();
-    let mut seen = Sights::new(alloc, bus.view, dump.scale(), before).with_drives(driving);
-    let ending = match decode_driven(alloc, &mut dump, &mut seen, driving) {
+    refuse_no_names(alloc, lesson.drives)?;
+    let mut dump = open_driven(alloc, vcd, lesson.bus, lesson.drives)?;
+    match learn_open(alloc, &mut dump, out, lesson, before)? {
+        Ok(ended) => Ok(ended),
+        Err(error) => Err(halted(dump, error)),
+    }
+}
+
+// A brief of what this dump shows.
+fn learn_open<J: Input, O: Output>(
+    alloc: Global,
+    dump: &mut Dump<'_, '_, J>,
+    out: &mut O,
+    lesson: Lesson<'_>,
+    before: Option<&BriefBefore<'_>>,
+) -> Result<Result<Ended, RunError>, Halt> {
+    let driving = driving_of(alloc, &*dump, lesson.drives)?;
+    learn_driven(alloc, dump, out, lesson, before, driving.as_ref())
+}
+
+fn learn_driven<J: Input, O: Output>(
+    alloc: Global,
+    dump: &mut Dump<'_, '_, J>,
+    out: &mut O,
+    lesson: Lesson<'_>,
+    before: Option<&BriefBefore<'_>>,
+    driving: Option<&Driving<'_>>,
+) -> Result<Result<Ended, RunError>, Halt> {
+    let mut seen = Sights::new(alloc, lesson.bus.view, dump.scale(), before).with_drives(driving);
+    let ending = match decode_driven(alloc, dump, &mut seen, driving) {
         Ok(ending) => ending,
-        Err(error) => return Err(halted(dump, error)),
+        Err(error) => return Ok(Err(error)),
     };
     refuse_others(alloc, driving)?;
-    let Learned { brief, status } = brief_of(alloc, seen, likeness)?;
-    write_lines(out, brief.as_bytes(), status)?;
-    Ok(Ended {
+    let status = write_learned(brief_of(alloc, seen, lesson.likeness)?, out)?;
+    Ok(Ok(Ended {
         status,
         remark: Remark::Recording(Recorded::Other, ending.rises),
-    })
+    }))
+}
+
+fn write_learned<O: Output>(learned: Learned, out: &mut O) -> Result<Status, RunError> {
+    write_lines(out, learned.brief.as_bytes(), learned.status)
 }
 
 /// Lists the signals of the dump that the reader gives, within these limits. Where a time has a unit it has to say what its

@@ -22,8 +22,8 @@ use plan_core::Plan;
 use plan_words::{PlanWords, sides_of};
 use remedies::{Reasons, count_groups, kept_apart, reasons_of};
 use report::{
-    Answered, Checked, Input, NoGate, Output, RunError, Status, answer_line, check_found,
-    check_report, read_within, status_of, status_of_answer, verify_found,
+    Checked, Input, NoGate, Output, RunError, Status, answer_line, check_found, check_report,
+    read_within, status_of, status_of_answer, verify_found,
 };
 use run_ends::{Canvas, Ended, Extras, Format, Halt, Remark, Sources, Style};
 use run_parts::devices::reading::READS;
@@ -318,19 +318,40 @@ pub fn verify<I: Input, J: Input, O: Output>(
 ) -> Result<Ended, Halt> {
     let GivenPlan { plan, origins } = plans.find(alloc)?;
     if explain {
-        let words = plans.words(&plan, &origins);
-        return verify_kept(alloc, words, cert, out, extras);
+        verify_kept(alloc, plans.words(&plan, &origins), cert, out, extras)
+    } else {
+        verify_plan(alloc, plan, &origins, plans, cert, out, extras)
     }
-    let Answered {
-        plan,
-        answer,
-        refusal,
-    } = verify_found(alloc, plan, cert)?;
-    let words = plans.words(&plan, &origins);
-    let status = tell_answer(alloc, words, answer, refusal.as_ref(), None, out, extras)?;
+}
+
+fn verify_plan<I: Input, J: Input, O: Output>(
+    alloc: Global,
+    plan: Plan,
+    origins: &Option<Origins>,
+    plans: &Sources<'_, I>,
+    cert: &mut J,
+    out: &mut O,
+    extras: Extras,
+) -> Result<Ended, Halt> {
+    let answered = verify_found(alloc, plan, cert)?;
+    let words = plans.words(&answered.plan, origins);
+    let refusal = answered.refusal.as_ref();
+    tell_verified(alloc, words, answered.answer, refusal, None, out, extras)
+}
+
+fn tell_verified<O: Output>(
+    alloc: Global,
+    words: PlanWords<'_>,
+    answer: Answer,
+    refusal: Option<&Refusal>,
+    mistake: Option<Mistake>,
+    out: &mut O,
+    extras: Extras,
+) -> Result<Ended, Halt> {
+    let status = tell_answer(alloc, words, answer, refusal, mistake, out, extras)?;
     Ok(Ended {
         status,
-        remark: remark_on_answer(alloc, words, answer, refusal.as_ref(), extras),
+        remark: remark_on_answer(alloc, words, answer, refusal, extras),
     })
 }
 
@@ -345,11 +366,7 @@ fn verify_kept<J: Input, O: Output>(
     let cert = read_within(alloc, cert, READS)?;
     let Judged { answer, refusal } = check_certificate_at(alloc, plan, cert.as_slice())?;
     let mistake = mistake_of(alloc, plan, cert.as_slice(), answer)?;
-    let status = tell_answer(alloc, words, answer, refusal.as_ref(), mistake, out, extras)?;
-    Ok(Ended {
-        status,
-        remark: remark_on_answer(alloc, words, answer, refusal.as_ref(), extras),
-    })
+    tell_verified(alloc, words, answer, refusal.as_ref(), mistake, out, extras)
 }
 
 /// Writes the answer to a certificate of the plan of these words, which may be refused there, and what is wrong with
