@@ -98,11 +98,20 @@ fn hover_in_plan<R: Threads + Sync>(
     let GivenPlan { plan, origins } = given;
     let checked = checked(rt, alloc, plan)?;
     let words = texts.words(&checked.plan, &origins);
+    hover_on_named(alloc, &checked, words, name)
+}
+
+fn hover_on_named(
+    alloc: Global,
+    checked: &Checked,
+    words: PlanWords<'_>,
+    name: &[u8],
+) -> Result<Option<String>, AllocError> {
     let messages = named_so(alloc, words, name)?;
     if messages.is_empty() {
         return Ok(None);
     }
-    hover_on(alloc, &checked, words, messages.as_slice(), name)
+    hover_on(alloc, checked, words, messages.as_slice(), name)
 }
 
 // The messages of the plan with this name, or those of the family with it.

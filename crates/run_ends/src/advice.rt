@@ -219,27 +219,31 @@ fn on_refusal<F: Read + Seek + Drop>(
     ended: RunError,
     closing: Closing<'_>,
 ) -> Result<Hints, AllocError> {
-    let Inputs {
-        last,
-        error,
-        other,
-        ..
-    } = read;
-    let Closing {
-        remark,
-        named,
-        output,
-        error: reason,
-        ..
-    } = closing;
     match ended {
-        RunError::Plan(refusal) => on_refused_text(alloc, refusal, &remark, named),
-        RunError::Brief(_) | RunError::Bench(_) => Ok(said(alloc, remark)),
-        RunError::Vcd(refusal) => on_dump(alloc, other, names, refusal, remark.wrong()),
-        RunError::Read => on_reading(alloc, last, error.as_ref()),
-        RunError::Write => on_writing(alloc, output, reason.as_ref()),
+        RunError::Brief(_) | RunError::Bench(_) => Ok(said(alloc, closing.remark)),
+        _ => on_text_refused(alloc, read, names, ended, &closing),
+    }
+}
+
+// After a text that was refused, and what the system refused.
+fn on_text_refused<F: Read + Seek + Drop>(
+    alloc: Global,
+    read: Inputs<'_, F>,
+    names: Names<'_>,
+    ended: RunError,
+    closing: &Closing<'_>,
+) -> Result<Hints, AllocError> {
+    match ended {
+        RunError::Plan(refusal) => {
+            on_refused_text(alloc, refusal, &closing.remark, closing.named)
+        }
+        RunError::Vcd(refusal) => {
+            on_dump(alloc, read.other, names, refusal, closing.remark.wrong())
+        }
+        RunError::Read => on_reading(alloc, read.last, read.error.as_ref()),
+        RunError::Write => on_writing(alloc, closing.output, closing.error.as_ref()),
         RunError::Workers => on_workers(alloc),
-        RunError::NoMemory => on_memory(alloc),
+        _ => on_memory(alloc),
     }
 }
 

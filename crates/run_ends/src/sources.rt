@@ -46,16 +46,19 @@ impl<'a, I: Input> Sources<'a, I> {
     ///
     /// Those of `find_further`.
     pub fn find_in_briefs(&mut self, alloc: Global) -> Result<GivenPlan, Halt> {
+        let BriefsRead { briefs, texts } = self.read_briefs(alloc)?;
+        self.texts = texts;
+        given(briefs)
+    }
+
+    fn read_briefs(&mut self, alloc: Global) -> Result<BriefsRead, Halt> {
         let mut read = BriefsRead::none(alloc).with(alloc, 0, &mut self.first)?;
         let mut file = 0u32;
         for text in self.further.iter_mut() {
             file = file.saturating_add(1);
             read = read.with(alloc, file, text)?;
         }
-        let BriefsRead { briefs, texts } = read;
-        self.texts = texts;
-        let given = given_by(briefs)?;
-        Ok(given)
+        Ok(read)
     }
 
     /// The plan that these give, in the words of people.
@@ -64,6 +67,13 @@ impl<'a, I: Input> Sources<'a, I> {
         'a: 'p,
     {
         PlanWords::new(plan, origins.as_ref(), self.files)
+    }
+}
+
+fn given(briefs: Briefs) -> Result<GivenPlan, Halt> {
+    match given_by(briefs) {
+        Ok(given) => Ok(given),
+        Err(_) => Err(Halt::Run(RunError::NoMemory)),
     }
 }
 
