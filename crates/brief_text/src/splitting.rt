@@ -481,7 +481,7 @@ fn push_sending(parts: &mut Vec<Part>, one: Part) -> Result<(), AllocError>
 // The plan of these messages and interrupts, with controllers.
 fn planned(alloc: Global, mut builder: Builder, split: &Split) -> Result<Plan, AllocError>
     ensures { IfOk result (λ it. plan_contents it ≡ with_pairs
-        (with_parts (builder_contents builder.entry) (map part split.now.parts.items)) (map apart split.now.pairs.items)) }
+        (with_parts (builder_contents builder) (map part split.now.parts.items)) (map apart split.now.pairs.items)) }
 {
     add_parts(alloc, &mut builder, split.parts.as_slice())?;
     add_pairs(&mut builder, split.pairs.as_slice())?;
