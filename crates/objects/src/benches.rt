@@ -1,47 +1,13 @@
 // Objects of a rehearsal.
 
+use crate::fields::add_one_at;
 use bench_run::Rehearsal;
 use bus_rows::{Labels, labels_of};
-use certificate::push_wire;
-use explain::{Track, tracks_of};
-use object_lines::{ObjectLines, OneAt, one_at};
+use explain::{Track, WireTracks, tracks_of};
+use object_lines::ObjectLines;
 use plan_words::PlanWords;
 use report::{Output, RunError};
-use serde::Serialize;
-use std::alloc::{AllocError, Global};
-
-// The wire of a run.
-#[derive(Drop, Serialize)]
-struct Wire<'a> {
-    kind: &'static str,
-    wire: &'a str,
-    #[serde(skip_serializing_if = "Option::is_none")]
-    explain: Option<Along<'a>>,
-}
-
-// Its bytes, and what its starters put.
-#[derive(Drop, Serialize)]
-struct Along<'a> {
-    bytes: &'a str,
-    starters: &'a [Starter<'a>],
-}
-
-#[derive(Drop, Serialize)]
-struct Starter<'a> {
-    participant: &'a str,
-    #[serde(skip_serializing_if = "Option::is_none")]
-    places: Option<OneAt>,
-    puts: &'a str,
-    #[serde(skip_serializing_if = "Option::is_none")]
-    lost: Option<usize>,
-}
-
-// Those who were live at its end.
-#[derive(Drop, Serialize)]
-struct Won<'a> {
-    kind: &'static str,
-    participants: &'a [&'a str],
-}
+use std::alloc::Global;
 
 /// Writes the objects of a rehearsal of the plan of these words, explained where that is wanted.
 ///
@@ -57,13 +23,23 @@ pub fn write_rehearsal<O: Output>(
 ) -> Result<(), RunError> {
     let labels = labels_of(alloc, words.plan())?;
     let mut lines = ObjectLines::new(alloc);
+    lines.begin("wire");
+    add_wire(&mut lines, rehearsal);
     if is_explained {
-        add_explained(&mut lines, rehearsal, words, &labels)?;
-    } else {
-        add_wire(&mut lines, rehearsal, None)?;
+        add_explained(&mut lines, rehearsal, words, &labels);
     }
-    add_won(&mut lines, rehearsal, &labels)?;
+    lines.end();
+    add_won(&mut lines, rehearsal, &labels);
     lines.write_rest(out)
+}
+
+// The wire of a run, behind the kind.
+fn add_wire(lines: &mut ObjectLines, rehearsal: &Rehearsal) {
+    lines.text.push(",\"wire\":\"");
+    for item in &rehearsal.played.wire {
+        lines.text.push_char(item.symbol());
+    }
+    lines.text.push("\"");
 }
 
 fn add_explained(
@@ -71,56 +47,43 @@ fn add_explained(
     rehearsal: &Rehearsal,
     words: PlanWords<'_>,
     labels: &Labels,
-) -> Result<(), AllocError> {
-    let along = tracks_of(lines.alloc, rehearsal)?;
-    let mut starters = Vec::with_capacity(lines.alloc, along.tracks.len())?;
+) {
+    match tracks_of(lines.alloc, rehearsal) {
+        Ok(along) => add_along(lines, &along, words, labels),
+        Err(_) => lines.cut(),
+    }
+}
+
+// The bytes of the wire, and what the starters put.
+fn add_along(lines: &mut ObjectLines, along: &WireTracks, words: PlanWords<'_>, labels: &Labels) {
+    lines.open("explain");
+    lines.word("bytes", along.bytes.as_str());
+    lines.open_list("starters");
     for track in &along.tracks {
-        let places = one_at(lines.alloc, words, track.participant)?;
-        starters.push(starter_of(track, places, labels))?;
+        add_starter(lines, track, words, labels);
     }
-    let explain = Along {
-        bytes: along.bytes.as_str(),
-        starters: starters.as_slice(),
-    };
-    add_wire(lines, rehearsal, Some(explain))
+    lines.close_list();
+    lines.close();
 }
 
-fn starter_of<'a>(track: &'a Track, places: Option<OneAt>, labels: &'a Labels) -> Starter<'a> {
-    Starter {
-        participant: labels.of(track.participant),
-        places,
-        puts: track.puts.as_str(),
-        lost: track.lost,
+fn add_starter(lines: &mut ObjectLines, track: &Track, words: PlanWords<'_>, labels: &Labels) {
+    lines.open_element();
+    lines.word("participant", labels.of(track.participant));
+    add_one_at(lines, words, track.participant);
+    lines.word("puts", track.puts.as_str());
+    if let Some(slot) = track.lost {
+        lines.number("lost", slot as u64);
     }
+    lines.close();
 }
 
-fn add_wire(
-    lines: &mut ObjectLines,
-    rehearsal: &Rehearsal,
-    explain: Option<Along<'_>>,
-) -> Result<(), AllocError> {
-    let mut wire = String::new(lines.alloc);
-    push_wire(&mut wire, &rehearsal.played.wire)?;
-    lines.add(&Wire {
-        kind: "wire",
-        wire: wire.as_str(),
-        explain,
-    });
-    Ok(())
-}
-
-fn add_won(
-    lines: &mut ObjectLines,
-    rehearsal: &Rehearsal,
-    labels: &Labels,
-) -> Result<(), AllocError> {
-    let mut participants = Vec::with_capacity(lines.alloc, rehearsal.played.won.len())?;
+// Those who were live at the end of a run.
+fn add_won(lines: &mut ObjectLines, rehearsal: &Rehearsal, labels: &Labels) {
+    lines.begin("won");
+    lines.open_list("participants");
     for p in &rehearsal.played.won {
-        participants.push(labels.of(*p))?;
+        lines.word_element(labels.of(*p));
     }
-    lines.add(&Won {
-        kind: "won",
-        participants: participants.as_slice(),
-    });
-    Ok(())
+    lines.close_list();
+    lines.end();
 }

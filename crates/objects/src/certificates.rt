@@ -1,61 +1,15 @@
 // Objects of the answer to a certificate.
 
+use crate::fields::add_both_at;
 use bus_rows::label_of;
 use cert_check::Answer;
 use certificate::{CertFault, Expected, Refusal};
 use explain::{Break, Mistake, Reason};
-use object_lines::{BothAt, ObjectLines, both_at};
+use object_lines::ObjectLines;
+use plan_core::Plan;
 use plan_words::PlanWords;
 use report::{Output, RunError};
-use serde::Serialize;
-use std::alloc::{AllocError, Global};
-
-#[derive(Drop, Serialize)]
-struct Certificate<'a> {
-    kind: &'static str,
-    accepted: bool,
-    #[serde(skip_serializing_if = "Option::is_none")]
-    safe: Option<bool>,
-    #[serde(skip_serializing_if = "Option::is_none")]
-    code: Option<&'static str>,
-    #[serde(skip_serializing_if = "Option::is_none")]
-    line: Option<u64>,
-    // of what is refused in this line: how many bytes of it stand before, and one, and what could stand there
-    #[serde(skip_serializing_if = "Option::is_none")]
-    column: Option<u64>,
-    #[serde(skip_serializing_if = "Option::is_none")]
-    expected: Option<&'static str>,
-    #[serde(skip_serializing_if = "Option::is_none")]
-    pair: Option<u32>,
-    #[serde(skip_serializing_if = "Option::is_none")]
-    explain: Option<Why<'a>>,
-}
-
-#[derive(Drop, Serialize)]
-#[serde(untagged)]
-enum Why<'a> {
-    Pair(Misproved<'a>),
-    Count {
-        pairs: u32,
-        proofs: u64,
-        #[serde(skip_serializing_if = "Option::is_none")]
-        says: Option<u32>,
-    },
-}
-
-// A pair of which what the certificate says is not so.
-#[derive(Drop, Serialize)]
-struct Misproved<'a> {
-    participants: (&'a str, &'a str),
-    #[serde(skip_serializing_if = "Option::is_none")]
-    places: Option<BothAt>,
-    #[serde(skip_serializing_if = "Option::is_none")]
-    word: Option<u32>,
-    #[serde(skip_serializing_if = "Option::is_none")]
-    slot: Option<u32>,
-    #[serde(skip_serializing_if = "Option::is_none")]
-    why: Option<&'static str>,
-}
+use std::alloc::Global;
 
 /// Writes the object of the answer to a certificate of the plan of these words, which may be refused there, and what is
 /// wrong with it, where that was found.
@@ -72,64 +26,58 @@ pub fn write_answer<O: Output>(
     out: &mut O,
 ) -> Result<(), RunError> {
     let mut lines = ObjectLines::new(alloc);
-    let answer = Answered { answer, refusal };
-    match mistake {
-        Some(
-            Mistake::Pair {
-                participants,
-                found,
-                ..
-            },
-        ) => add_misproved(&mut lines, words, answer, participants, found)?,
-        Some(
-            Mistake::Count {
-                pairs,
-                says,
-                proofs,
-            },
-        ) => {
-            let why = Why::Count {
-                pairs,
-                proofs,
-                says,
-            };
-            lines.add(&object_of(answer, Some(why)));
-        }
-        Some(Mistake::Text | Mistake::Unsafe { .. }) | None => lines.add(&object_of(answer, None)),
+    lines.begin("certificate");
+    add_answer(&mut lines, answer);
+    if let Some(refusal) = refusal {
+        add_refusal(&mut lines, refusal);
     }
+    if let Answer::Wrong(CertFault::Pair(pair)) = answer {
+        lines.number("pair", pair as u64);
+    }
+    if let Some(mistake) = &mistake {
+        add_mistake(&mut lines, words, mistake);
+    }
+    lines.end();
     lines.write_rest(out)
 }
 
-// An answer, and where the text is refused, if it is.
-#[derive(Clone, Copy)]
-struct Answered<'a> {
-    answer: Answer,
-    refusal: Option<&'a Refusal>,
+fn add_answer(lines: &mut ObjectLines, answer: Answer) {
+    match answer {
+        Answer::Safe => add_accepted(lines, true),
+        Answer::Unsafe => add_accepted(lines, false),
+        Answer::Wrong(fault) => add_fault(lines, fault),
+    }
 }
 
-fn object_of<'a>(answered: Answered<'_>, explain: Option<Why<'a>>) -> Certificate<'a> {
-    let Answered { answer, refusal } = answered;
-    let mut object = Certificate {
-        kind: "certificate",
-        accepted: !matches!(answer, Answer::Wrong(_)),
-        safe: None,
-        code: None,
-        line: None,
-        column: None,
-        expected: None,
-        pair: None,
-        explain,
-    };
-    if let Some(refusal) = refusal {
-        object.column = Some(refusal.place.column as u64);
-        object.expected = refusal.place.expected.map(expected_word);
+fn add_accepted(lines: &mut ObjectLines, is_safe: bool) {
+    lines.flag("accepted", true);
+    lines.flag("safe", is_safe);
+}
+
+// What is wrong, and in which line.
+fn add_fault(lines: &mut ObjectLines, fault: CertFault) {
+    lines.flag("accepted", false);
+    lines.word("code", code_of(fault));
+    if let CertFault::Format(line) | CertFault::TooDeep(line) = fault {
+        lines.number("line", line);
     }
-    match answer {
-        Answer::Safe => object.safe = Some(true),
-        Answer::Unsafe => object.safe = Some(false),
-        Answer::Wrong(fault) => place(&mut object, fault),
+}
+
+fn code_of(fault: CertFault) -> &'static str {
+    match fault {
+        CertFault::Format(_) => "C1",
+        CertFault::Count => "C2",
+        CertFault::TooDeep(_) => "C3",
+        CertFault::Pair(_) => "C5",
     }
-    object
+}
+
+// Of what is refused in a line: how many bytes of it stand before, and one, and what could stand there.
+fn add_refusal(lines: &mut ObjectLines, refusal: &Refusal) {
+    lines.number("column", refusal.place.column as u64);
+    if let Some(expected) = refusal.place.expected {
+        lines.word("expected", expected_word(expected));
+    }
 }
 
 fn expected_word(expected: Expected) -> &'static str {
@@ -147,56 +95,52 @@ fn expected_word(expected: Expected) -> &'static str {
     }
 }
 
-// What is wrong, and where.
-fn place(object: &mut Certificate<'_>, fault: CertFault) {
-    object.code = Some(match fault {
-        CertFault::Format(_) => "C1",
-        CertFault::Count => "C2",
-        CertFault::TooDeep(_) => "C3",
-        CertFault::Pair(_) => "C5",
-    });
-    match fault {
-        CertFault::Format(line) | CertFault::TooDeep(line) => object.line = Some(line),
-        CertFault::Pair(pair) => object.pair = Some(pair),
-        CertFault::Count => {}
+fn add_mistake(lines: &mut ObjectLines, words: PlanWords<'_>, mistake: &Mistake) {
+    match mistake {
+        Mistake::Pair {
+            participants,
+            found,
+            ..
+        } => add_misproved(lines, words, *participants, *found),
+        Mistake::Count {
+            pairs,
+            says,
+            proofs,
+        } => add_count(lines, *pairs, *proofs, *says),
+        Mistake::Text | Mistake::Unsafe { .. } => {}
     }
 }
 
+// A pair of which what the certificate says is not so.
 fn add_misproved(
     lines: &mut ObjectLines,
     words: PlanWords<'_>,
-    answer: Answered<'_>,
     participants: (u32, u32),
     found: Option<Break>,
-) -> Result<(), AllocError> {
-    let first = label_of(lines.alloc, words.plan(), participants.0)?;
-    let second = label_of(lines.alloc, words.plan(), participants.1)?;
-    let places = both_at(lines.alloc, words, participants)?;
-    let why = misproved_of((first.as_str(), second.as_str()), places, found);
-    lines.add(&object_of(answer, Some(Why::Pair(why))));
-    Ok(())
+) {
+    lines.open("explain");
+    lines.open_list("participants");
+    add_label(lines, words.plan(), participants.0);
+    add_label(lines, words.plan(), participants.1);
+    lines.close_list();
+    add_both_at(lines, words, participants);
+    if let Some(found) = found {
+        add_break(lines, found);
+    }
+    lines.close();
 }
 
-fn misproved_of<'a>(
-    participants: (&'a str, &'a str),
-    places: Option<BothAt>,
-    found: Option<Break>,
-) -> Misproved<'a> {
-    let (word, slot, why) = match found {
-        Some(found) => (
-            Some(found.word),
-            Some(found.slot),
-            Some(word_of(found.reason)),
-        ),
-        None => (None, None, None),
-    };
-    Misproved {
-        participants,
-        places,
-        word,
-        slot,
-        why,
+fn add_label(lines: &mut ObjectLines, plan: &Plan, p: u32) {
+    match label_of(lines.alloc, plan, p) {
+        Ok(label) => lines.word_element(label.as_str()),
+        Err(_) => lines.cut(),
     }
+}
+
+fn add_break(lines: &mut ObjectLines, found: Break) {
+    lines.number("word", found.word as u64);
+    lines.number("slot", found.slot as u64);
+    lines.word("why", word_of(found.reason));
 }
 
 fn word_of(reason: Reason) -> &'static str {
@@ -210,4 +154,15 @@ fn word_of(reason: Reason) -> &'static str {
         Reason::ReadsNeverMeet => "reads_never_meet",
         Reason::UnknownWord => "unknown_word",
     }
+}
+
+// How many pairs the plan has, and how many proofs the certificate.
+fn add_count(lines: &mut ObjectLines, pairs: u32, proofs: u64, says: Option<u32>) {
+    lines.open("explain");
+    lines.number("pairs", pairs as u64);
+    lines.number("proofs", proofs);
+    if let Some(says) = says {
+        lines.number("says", says as u64);
+    }
+    lines.close();
 }

@@ -1,5 +1,6 @@
 // Objects of a check.
 
+use crate::fields::add_words;
 use crate::oddities::add_oddities;
 use bus_rows::{Labels, Meeting, Rule, labels_of, meeting_of};
 use causes::{Group, Place};
@@ -10,77 +11,9 @@ use lint::Oddity;
 use object_lines::{ObjectLines, all_at};
 use plan_core::Plan;
 use plan_words::PlanWords;
-use remedies::{GroupMends, Grouped, Mends, Never, Parting, Reasons, Safety};
+use remedies::{GroupMends, Grouped, Mends, Never, Reasons, Safety};
 use report::{Checked, Output, RunError};
-use serde::Serialize;
-use std::alloc::{AllocError, Global};
-
-// Where the two of an unsafe pair meet.
-#[derive(Drop, Serialize)]
-struct Met<'a> {
-    slot: usize,
-    rule: &'static str,
-    bus: &'a str,
-    bytes: [&'a str; 2],
-    open: [&'a [(usize, usize)]; 2],
-}
-
-// What mends the pairs of a group.
-#[derive(Drop, Serialize)]
-struct MendedGroup<'a> {
-    #[serde(skip_serializing_if = "Option::is_none")]
-    parting: Option<&'a [(usize, usize)]>,
-    #[serde(skip_serializing_if = "Option::is_none")]
-    shape: Option<bool>,
-    never: &'a [[&'a str; 2]],
-    unchecked: u64,
-}
-
-// The verdict on a plan.
-#[derive(Drop, Serialize)]
-struct Verdict<'a> {
-    kind: &'static str,
-    safe: bool,
-    pairs: u32,
-    unsafe_pairs: usize,
-    #[serde(skip_serializing_if = "Option::is_none")]
-    explain: Option<Why<'a>>,
-}
-
-#[derive(Drop, Serialize)]
-#[serde(untagged)]
-enum Why<'a> {
-    Unsafe(Mended<'a>),
-    Safe(Kept<'a>),
-}
-
-// What mends an unsafe plan.
-#[derive(Drop, Serialize)]
-struct Mended<'a> {
-    explained: usize,
-    groups: usize,
-    never: &'a [[&'a str; 2]],
-    unchecked: u64,
-    interrupts: &'a [u32],
-    unsent: &'a [&'a str],
-    kept_apart: u64,
-}
-
-// How the pairs of a safe plan are kept apart.
-#[derive(Drop, Serialize)]
-struct Kept<'a> {
-    decided: Decided,
-    unsent: &'a [&'a str],
-    kept_apart: u64,
-}
-
-#[derive(Drop, Serialize)]
-struct Decided {
-    header: u64,
-    later: u64,
-    read: u64,
-    alike: u64,
-}
+use std::alloc::Global;
 
 /// Writes an object for each unsafe pair of a plan that was checked, one for each group of them, one for each likely mistake in the
 /// briefs that mean it, and one for the plan. The words are those of the plan. There are groups where there are reasons. Then the
@@ -113,8 +46,8 @@ pub fn write_check<O: Output>(
         told.write_pairs(&mut lines, out)?;
     }
     told.write_groups(&mut lines, detail.groups as usize, out)?;
-    add_oddities(&mut lines, words, odd)?;
-    add_plan(&mut lines, checked, reasons, detail.groups as usize)?;
+    add_oddities(&mut lines, words, odd);
+    add_plan(&mut lines, checked, reasons, detail.groups as usize);
     lines.write_rest(out)
 }
 
@@ -134,8 +67,9 @@ impl Told<'_> {
         for k in 0..faults.len() {
             let (pair, fault) = faults.get(k);
             if pair < plan.pair_count() {
-                lines.text.push("{\"kind\":\"pair\",");
-                self.add_pair(&mut lines.text, pair, plan.pair(pair), fault);
+                lines.text.push("{\"kind\":\"pair\",\"pair\":");
+                lines.text.push_number(pair as u64);
+                self.add_pair(&mut lines.text, plan.pair(pair), fault);
                 self.add_number(&mut lines.text, k);
                 lines.text.push("}\n");
             }
@@ -156,22 +90,22 @@ impl Told<'_> {
         };
         for g in 0..groups.len() {
             if let Some(group) = groups.group(g) {
-                add_group(&mut lines.text, groups, g, group);
-                self.add_example(lines, group.example, g < most)?;
+                add_group(lines, groups, g, group);
+                self.add_example(lines, group.example, g < most);
                 if let Some(mends) = groups.mends(g) {
-                    add_mends(lines, mends)?;
+                    add_mends(lines, mends);
                 }
-                lines.text.push("}\n");
+                lines.end();
             }
             lines.write_block(out)?;
         }
         Ok(())
     }
 
-    // The fields of an unsafe pair, by its number and its participants. Names, words and wires have nothing that JSON escapes.
-    // They are pushed word by word, since serde's events for all pairs cost more than the check itself.
-    fn add_pair(&self, text: &mut Text, pair: u32, both: (u32, u32), fault: &Fault) {
-        add_fields(text, &self.labels, pair, both, fault);
+    // The fields of an unsafe pair behind its number, by its participants. Names, words and wires have nothing that JSON
+    // escapes. They are pushed word by word, since there may be very many pairs.
+    fn add_pair(&self, text: &mut Text, both: (u32, u32), fault: &Fault) {
+        add_fields(text, &self.labels, both, fault);
         if let Some(places) = &self.places {
             add_places(text, places.as_slice(), both);
         }
@@ -188,93 +122,91 @@ impl Told<'_> {
     }
 
     // The example of a group, the `k`th unsafe pair.
-    fn add_example(
-        &self,
-        lines: &mut ObjectLines,
-        k: usize,
-        is_explained: bool,
-    ) -> Result<(), AllocError> {
+    fn add_example(&self, lines: &mut ObjectLines, k: usize, is_explained: bool) {
         let Checked { plan, faults } = self.checked;
         if faults.len() <= k {
-            return Ok(());
+            return;
         }
         let (pair, fault) = faults.get(k);
         if pair < plan.pair_count() {
             let both = plan.pair(pair);
-            lines.text.push(",\"example\":{");
-            self.add_pair(&mut lines.text, pair, both, fault);
+            lines.open("example");
+            lines.number("pair", pair as u64);
+            self.add_pair(&mut lines.text, both, fault);
             if is_explained {
-                add_met(lines, plan, both, fault)?;
+                add_met(lines, plan, both, fault);
             }
-            lines.text.push("}");
+            lines.close();
         }
-        Ok(())
     }
 }
 
 // The fields of a group before its example.
-fn add_group(text: &mut Text, groups: &Grouped, g: usize, group: Group) {
-    text.push("{\"kind\":\"group\",\"group\":");
-    text.push_number(g as u64);
-    text.push(",\"pairs\":");
-    text.push_number(group.pairs as u64);
-    text.push(",\"between\":[");
+fn add_group(lines: &mut ObjectLines, groups: &Grouped, g: usize, group: Group) {
+    lines.begin("group");
+    lines.number("group", g as u64);
+    lines.number("pairs", group.pairs as u64);
+    add_meets(lines, groups, g);
+    lines.number("frame", group.cause.frame as u64);
+    add_part(lines, group.cause.place);
+}
+
+// The field that says who meet in a group.
+fn add_meets(lines: &mut ObjectLines, groups: &Grouped, g: usize) {
+    lines.open_list("between");
+    let mut before = "[";
     for i in 0..groups.meets(g) {
         let (first, second) = groups.meet(g, i);
-        text.push(if i == 0 { "[\"" } else { ",[\"" });
-        text.push(first);
-        text.push("\",\"");
-        text.push(second);
-        text.push("\"]");
+        push_two(&mut lines.text, before, first, second);
+        before = ",[";
     }
-    text.push("],\"frame\":");
-    text.push_number(group.cause.frame as u64);
-    add_part(text, group.cause.place);
+    lines.close_list();
 }
 
 // The field that says what mends the pairs of a group.
-fn add_mends(lines: &mut ObjectLines, mends: &GroupMends) -> Result<(), AllocError> {
-    let never = nevers_of(lines.alloc, mends.kept.nevers.as_slice())?;
-    lines.text.push(",\"explain\":");
-    lines.value(&MendedGroup {
-        parting: slots_of(&mends.parting),
-        shape: shape_of(&mends.parting),
-        never: never.as_slice(),
-        unchecked: mends.kept.unchecked,
-    });
-    Ok(())
+fn add_mends(lines: &mut ObjectLines, mends: &GroupMends) {
+    lines.open("explain");
+    if let Some(parting) = &mends.parting {
+        lines.field("parting", &parting.slots.as_slice());
+        lines.flag("shape", parting.shape);
+    }
+    add_nevers(lines, mends.kept.nevers.as_slice());
+    lines.number("unchecked", mends.kept.unchecked);
+    lines.close();
 }
 
-fn slots_of(parting: &Option<Parting>) -> Option<&[(usize, usize)]> {
-    match parting {
-        Some(parting) => Some(parting.slots.as_slice()),
-        None => None,
+// The field with `never` items. Each is two controllers, or labels.
+fn add_nevers(lines: &mut ObjectLines, nevers: &[Never]) {
+    lines.open_list("never");
+    let mut before = "[";
+    for never in nevers {
+        push_two(
+            &mut lines.text,
+            before,
+            never.first.as_str(),
+            never.second.as_str(),
+        );
+        before = ",[";
     }
-}
-
-fn shape_of(parting: &Option<Parting>) -> Option<bool> {
-    match parting {
-        Some(parting) => Some(parting.shape),
-        None => None,
-    }
+    lines.close_list();
 }
 
 // In which part of the frame the two meet, and in which byte of it where that counts.
-fn add_part(text: &mut Text, place: Place) {
-    text.push(match place {
-        Place::Header => ",\"part\":\"header\"",
-        Place::Data | Place::Byte(_) => ",\"part\":\"data\"",
-    });
+fn add_part(lines: &mut ObjectLines, place: Place) {
+    lines.word(
+        "part",
+        match place {
+            Place::Header => "header",
+            Place::Data | Place::Byte(_) => "data",
+        },
+    );
     if let Place::Byte(byte) = place {
-        text.push(",\"byte\":");
-        text.push_number(byte as u64);
+        lines.number("byte", byte as u64);
     }
 }
 
-fn add_fields(text: &mut Text, labels: &Labels, pair: u32, both: (u32, u32), fault: &Fault) {
+fn add_fields(text: &mut Text, labels: &Labels, both: (u32, u32), fault: &Fault) {
     let (x, y) = both;
-    text.push("\"pair\":");
-    text.push_number(pair as u64);
     add_two(text, "participants", labels.of(x), labels.of(y));
     add_two(text, "meet", fault.first.word(), fault.second.word());
     text.push(",\"after\":\"");
@@ -304,7 +236,13 @@ fn push_place(text: &mut Text, place: Option<&String>) {
 fn add_two(text: &mut Text, name: &str, first: &str, second: &str) {
     text.push(",\"");
     text.push(name);
-    text.push("\":[\"");
+    push_two(text, "\":[", first, second);
+}
+
+// Two words, and the end of their list, whose beginning is what comes before them.
+fn push_two(text: &mut Text, before: &str, first: &str, second: &str) {
+    text.push(before);
+    text.push("\"");
     text.push(first);
     text.push("\",\"");
     text.push(second);
@@ -312,130 +250,97 @@ fn add_two(text: &mut Text, name: &str, first: &str, second: &str) {
 }
 
 // The field that says where these two participants meet.
-fn add_met(
-    lines: &mut ObjectLines,
-    plan: &Plan,
-    both: (u32, u32),
-    fault: &Fault,
-) -> Result<(), AllocError> {
-    let meeting = meeting_of(lines.alloc, plan, both, fault.wire.as_slice())?;
-    lines.text.push(",\"explain\":");
-    lines.value(&met_of(&meeting));
-    Ok(())
+fn add_met(lines: &mut ObjectLines, plan: &Plan, both: (u32, u32), fault: &Fault) {
+    match meeting_of(lines.alloc, plan, both, fault.wire.as_slice()) {
+        Ok(meeting) => add_meeting(lines, &meeting),
+        Err(_) => lines.cut(),
+    }
 }
 
-fn met_of(meeting: &Meeting) -> Met<'_> {
+fn add_meeting(lines: &mut ObjectLines, meeting: &Meeting) {
     let Meeting {
         slot,
         bus,
         first,
         second,
     } = meeting;
-    Met {
-        slot: *slot,
-        rule: match meeting.rule() {
-            Rule::Standard => "UM10204 3.1.8",
-            Rule::Interrupts => "interrupts",
-        },
-        bus: bus.as_str(),
-        bytes: [first.bytes.as_str(), second.bytes.as_str()],
-        open: [first.open.as_slice(), second.open.as_slice()],
+    lines.open("explain");
+    lines.number("slot", *slot as u64);
+    lines.word("rule", rule_word(meeting.rule()));
+    lines.word("bus", bus.as_str());
+    add_words(lines, "bytes", first.bytes.as_str(), second.bytes.as_str());
+    lines.field("open", &[first.open.as_slice(), second.open.as_slice()]);
+    lines.close();
+}
+
+fn rule_word(rule: Rule) -> &'static str {
+    match rule {
+        Rule::Standard => "UM10204 3.1.8",
+        Rule::Interrupts => "interrupts",
     }
 }
 
 // The verdict, where so many groups are explained at most.
-fn add_plan(
-    lines: &mut ObjectLines,
-    checked: &Checked,
-    reasons: Option<&Reasons>,
-    most: usize,
-) -> Result<(), AllocError> {
+fn add_plan(lines: &mut ObjectLines, checked: &Checked, reasons: Option<&Reasons>, most: usize) {
+    add_verdict(lines, checked);
     match reasons {
-        None => Ok(add_verdict(lines, checked, None)),
-        Some(Reasons::Safe(safety)) => add_safe(lines, checked, safety),
+        None => {}
+        Some(Reasons::Safe(safety)) => add_kept(lines, &checked.plan, safety),
         Some(Reasons::Unsafe(mends, groups)) => {
-            add_unsafe(lines, checked, mends, groups.len(), most)
+            add_mended(lines, &checked.plan, mends, groups.len(), most);
         }
+    }
+    lines.end();
+}
+
+fn add_verdict(lines: &mut ObjectLines, checked: &Checked) {
+    lines.begin("plan");
+    lines.flag("safe", checked.faults.is_safe());
+    lines.number("pairs", checked.plan.pair_count() as u64);
+    lines.number("unsafe_pairs", checked.faults.len() as u64);
+}
+
+// How the pairs of a safe plan are kept apart.
+fn add_kept(lines: &mut ObjectLines, plan: &Plan, safety: &Safety) {
+    lines.open("explain");
+    lines.open("decided");
+    lines.number("header", safety.decided.header);
+    lines.number("later", safety.decided.later);
+    lines.number("read", safety.decided.read);
+    lines.number("alike", safety.decided.alike);
+    lines.close();
+    add_unsent(lines, plan);
+    lines.number("kept_apart", safety.kept_apart);
+    lines.close();
+}
+
+// What mends an unsafe plan.
+fn add_mended(lines: &mut ObjectLines, plan: &Plan, mends: &Mends, groups: usize, most: usize) {
+    lines.open("explain");
+    lines.number("explained", groups.min(most) as u64);
+    lines.number("groups", groups as u64);
+    add_nevers(lines, mends.kept.nevers.as_slice());
+    lines.number("unchecked", mends.kept.unchecked);
+    lines.field("interrupts", &mends.interrupted.as_slice());
+    add_unsent(lines, plan);
+    lines.number("kept_apart", mends.kept_apart);
+    lines.close();
+}
+
+// The field with the names of the messages that no controller lists.
+fn add_unsent(lines: &mut ObjectLines, plan: &Plan) {
+    match unsent_in(lines.alloc, plan) {
+        Ok(unsent) => add_messages(lines, "unsent", plan, unsent.as_slice()),
+        Err(_) => lines.cut(),
     }
 }
 
-fn add_verdict(lines: &mut ObjectLines, checked: &Checked, explain: Option<Why<'_>>) {
-    lines.add(&Verdict {
-        kind: "plan",
-        safe: checked.faults.is_safe(),
-        pairs: checked.plan.pair_count(),
-        unsafe_pairs: checked.faults.len(),
-        explain,
-    });
-}
-
-fn add_safe(lines: &mut ObjectLines, checked: &Checked, safety: &Safety) -> Result<(), AllocError> {
-    let unsent = unsent_of(lines.alloc, &checked.plan)?;
-    let why = kept_of(safety, unsent.as_slice());
-    add_verdict(lines, checked, Some(Why::Safe(why)));
-    Ok(())
-}
-
-// The names of the messages that no controller lists.
-fn unsent_of<'a>(alloc: Global, plan: &'a Plan) -> Result<Vec<&'a str>, AllocError> {
-    let unsent = unsent_in(alloc, plan)?;
-    names_of(alloc, plan, unsent.as_slice())
-}
-
-fn names_of<'a>(
-    alloc: Global,
-    plan: &'a Plan,
-    messages: &[u32],
-) -> Result<Vec<&'a str>, AllocError> {
-    let mut names = Vec::with_capacity(alloc, messages.len())?;
+fn add_messages(lines: &mut ObjectLines, name: &str, plan: &Plan, messages: &[u32]) {
+    lines.open_list(name);
     for k in messages {
         if *k < plan.messages() {
-            names.push(plan.message_name(*k).as_str())?;
+            lines.word_element(plan.message_name(*k).as_str());
         }
     }
-    Ok(names)
-}
-
-fn kept_of<'a>(safety: &Safety, unsent: &'a [&'a str]) -> Kept<'a> {
-    let decided = safety.decided;
-    Kept {
-        decided: Decided {
-            header: decided.header,
-            later: decided.later,
-            read: decided.read,
-            alike: decided.alike,
-        },
-        unsent,
-        kept_apart: safety.kept_apart,
-    }
-}
-
-fn add_unsafe(
-    lines: &mut ObjectLines,
-    checked: &Checked,
-    mends: &Mends,
-    groups: usize,
-    most: usize,
-) -> Result<(), AllocError> {
-    let never = nevers_of(lines.alloc, mends.kept.nevers.as_slice())?;
-    let unsent = unsent_of(lines.alloc, &checked.plan)?;
-    let why = Mended {
-        explained: groups.min(most),
-        groups,
-        never: never.as_slice(),
-        unchecked: mends.kept.unchecked,
-        interrupts: mends.interrupted.as_slice(),
-        unsent: unsent.as_slice(),
-        kept_apart: mends.kept_apart,
-    };
-    add_verdict(lines, checked, Some(Why::Unsafe(why)));
-    Ok(())
-}
-
-fn nevers_of<'a>(alloc: Global, items: &'a [Never]) -> Result<Vec<[&'a str; 2]>, AllocError> {
-    let mut nevers = Vec::with_capacity(alloc, items.len())?;
-    for never in items {
-        nevers.push([never.first.as_str(), never.second.as_str()])?;
-    }
-    Ok(nevers)
+    lines.close_list();
 }

@@ -1,12 +1,13 @@
 //! What runs over plans find as JSON, one object a line, for programs.
 //!
-//! `checks`, `certificates`, `benches` and `orders` have the objects of what commands find: each is a plain struct, made of a
-//! value. `oddities` has those of what is likely a mistake.
+//! `checks`, `certificates`, `benches` and `orders` have the objects of what commands find: each is written field by field.
+//! `oddities` has those of what is likely a mistake, and `fields` what several have.
 #![tactic(auto)]
 
 mod benches;
 mod certificates;
 mod checks;
+mod fields;
 mod oddities;
 mod orders;
 

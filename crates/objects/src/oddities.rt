@@ -3,86 +3,78 @@
 use lint::Oddity;
 use object_lines::{At, ObjectLines, line_of};
 use plan_core::Plan;
-use plan_words::PlanWords;
-use serde::Serialize;
-use std::alloc::{AllocError, Global};
-
-#[derive(Drop, Serialize)]
-struct Odd<'a> {
-    kind: &'static str,
-    code: &'static str,
-    names: &'a [&'a str],
-    places: &'a [Option<At>],
-}
+use plan_words::{FileLine, PlanWords};
 
 /// Adds an object for each of these: what it is, of which names, and where these stand.
-///
-/// # Errors
-///
-/// Where an allocation fails.
-pub(crate) fn add_oddities(
-    lines: &mut ObjectLines,
-    words: PlanWords<'_>,
-    odd: &[Oddity<'_>],
-) -> Result<(), AllocError> {
+pub(crate) fn add_oddities(lines: &mut ObjectLines, words: PlanWords<'_>, odd: &[Oddity<'_>]) {
     for oddity in odd {
-        add_oddity(lines, words, *oddity)?;
+        add_oddity(lines, words, *oddity);
     }
-    Ok(())
 }
 
-fn add_oddity(
-    lines: &mut ObjectLines,
-    words: PlanWords<'_>,
-    oddity: Oddity<'_>,
-) -> Result<(), AllocError> {
-    let alloc = lines.alloc;
-    let code = oddity.code();
-    let place = line_of(alloc, words.at(oddity.spot()))?;
+fn add_oddity(lines: &mut ObjectLines, words: PlanWords<'_>, oddity: Oddity<'_>) {
+    lines.begin("lint");
+    lines.word("code", oddity.code());
+    lines.open_list("names");
+    add_names(lines, words, oddity);
+    lines.close_list();
+    let place = words.at(oddity.spot());
     match oddity {
-        Oddity::EmptyBrief(_) | Oddity::CarriageReturn(_) => add(lines, code, &[], &[place]),
+        Oddity::SameAddress(first, _) => add_places(lines, place, words.at(first.spot)),
+        _ => add_place(lines, place),
+    }
+    lines.end();
+}
+
+fn add_names(lines: &mut ObjectLines, words: PlanWords<'_>, oddity: Oddity<'_>) {
+    match oddity {
+        Oddity::EmptyBrief(_) | Oddity::CarriageReturn(_) => {}
         Oddity::SameAddress(first, second) => {
-            let names = [second.name.as_str(), first.name.as_str()];
-            let places = [place, line_of(alloc, words.at(first.spot))?];
-            add(lines, code, &names, &places);
+            lines.word_element(second.name.as_str());
+            lines.word_element(first.name.as_str());
         }
         Oddity::ReservedAddress(device) | Oddity::UnusedDevice(device) => {
-            add(lines, code, &[device.name.as_str()], &[place]);
+            lines.word_element(device.name.as_str());
         }
-        Oddity::UnusedByte(byte) => add(lines, code, &[byte.name.as_str()], &[place]),
-        Oddity::Unsent { first, count, .. } => {
-            let names = names_from(alloc, words.plan(), first, count)?;
-            add(lines, code, names.as_slice(), &[place]);
-        }
-        Oddity::Idle { controller, .. } => {
-            let name = words.side(alloc, controller)?;
-            add(lines, code, &[name.as_str()], &[place]);
-        }
+        Oddity::UnusedByte(byte) => lines.word_element(byte.name.as_str()),
+        Oddity::Unsent { first, count, .. } => add_messages(lines, words.plan(), first, count),
+        Oddity::Idle { controller, .. } => add_side(lines, words, controller),
     }
-    Ok(())
-}
-
-fn add(lines: &mut ObjectLines, code: &'static str, names: &[&str], places: &[Option<At>]) {
-    lines.add(&Odd {
-        kind: "lint",
-        code,
-        names,
-        places,
-    });
 }
 
 // The names of so many messages, from this one on.
-fn names_from<'a>(
-    alloc: Global,
-    plan: &'a Plan,
-    first: u32,
-    count: u32,
-) -> Result<Vec<&'a str>, AllocError> {
-    let mut names = Vec::new(alloc);
+fn add_messages(lines: &mut ObjectLines, plan: &Plan, first: u32, count: u32) {
     for k in first..first.saturating_add(count) {
         if k < plan.messages() {
-            names.push(plan.message_name(k).as_str())?;
+            lines.word_element(plan.message_name(k).as_str());
         }
     }
-    Ok(names)
+}
+
+fn add_side(lines: &mut ObjectLines, words: PlanWords<'_>, controller: u32) {
+    match words.side(lines.alloc, controller) {
+        Ok(name) => lines.word_element(name.as_str()),
+        Err(_) => lines.cut(),
+    }
+}
+
+fn add_place(lines: &mut ObjectLines, place: Option<FileLine<'_>>) {
+    match line_of(lines.alloc, place) {
+        Ok(place) => lines.field("places", &[&place]),
+        Err(_) => lines.cut(),
+    }
+}
+
+fn add_places(lines: &mut ObjectLines, place: Option<FileLine<'_>>, other: Option<FileLine<'_>>) {
+    match line_of(lines.alloc, place) {
+        Ok(place) => add_place_with(lines, &place, other),
+        Err(_) => lines.cut(),
+    }
+}
+
+fn add_place_with(lines: &mut ObjectLines, place: &Option<At>, other: Option<FileLine<'_>>) {
+    match line_of(lines.alloc, other) {
+        Ok(other) => lines.field("places", &[place, &other]),
+        Err(_) => lines.cut(),
+    }
 }

@@ -1,55 +1,12 @@
 // Objects of who wins.
 
+use crate::fields::{add_both_at, add_numbers, add_one_at, add_words};
 use bus_rows::labels_of;
-use object_lines::{BothAt, ObjectLines, OneAt, both_at, one_at};
-use order::{Order, Outcomes, Scores, Slots, Total};
+use object_lines::ObjectLines;
+use order::{Order, Outcomes, Score, Scores, Slots, Total};
 use plan_words::PlanWords;
 use run_parts::{Output, RunError};
-use serde::Serialize;
 use std::alloc::Global;
-
-// In which slots both of a pair end, the first wins and the second wins, where they can: the earliest and the latest of each.
-#[derive(Drop, Serialize)]
-struct PairOrder<'a> {
-    kind: &'static str,
-    pair: u32,
-    participants: [&'a str; 2],
-    #[serde(skip_serializing_if = "Option::is_none")]
-    places: Option<BothAt>,
-    #[serde(rename = "unsafe", skip_serializing_if = "Option::is_none")]
-    is_unsafe: Option<bool>,
-    #[serde(skip_serializing_if = "Option::is_none")]
-    both: Option<(u32, u32)>,
-    #[serde(skip_serializing_if = "Option::is_none")]
-    first: Option<(u32, u32)>,
-    #[serde(skip_serializing_if = "Option::is_none")]
-    second: Option<(u32, u32)>,
-}
-
-// How often a participant wins.
-#[derive(Drop, Serialize)]
-struct Wins<'a> {
-    kind: &'static str,
-    participant: &'a str,
-    #[serde(skip_serializing_if = "Option::is_none")]
-    places: Option<OneAt>,
-    wins: u32,
-    may_win: u32,
-    loses: u32,
-}
-
-// How the pairs of two controllers end, or of one and an interrupt, or of two interrupts: how many each of the two wins, how many
-// either may win, and so on.
-#[derive(Drop, Serialize)]
-struct Arbitration<'a> {
-    kind: &'static str,
-    between: [&'a str; 2],
-    pairs: u32,
-    wins: (u32, u32),
-    may_win: u32,
-    alike: u32,
-    unsafe_pairs: u32,
-}
 
 /// Writes an object for each two sides that have pairs, where the sides have these names.
 ///
@@ -66,32 +23,28 @@ pub fn write_scores<O: Output>(
     for (one, first) in names.iter().enumerate() {
         for (other, second) in names.iter().enumerate() {
             if one < other {
-                let between = [first.as_str(), second.as_str()];
-                add_arbitration(&mut lines, scores, (one, other), between);
+                let score = scores.between(one, other);
+                add_arbitration(&mut lines, &score, first.as_str(), second.as_str());
             }
         }
     }
     lines.write_rest(out)
 }
 
-fn add_arbitration(
-    lines: &mut ObjectLines,
-    scores: &Scores,
-    two: (usize, usize),
-    between: [&str; 2],
-) {
-    let score = scores.between(two.0, two.1);
-    if score.pairs() != 0 {
-        lines.add(&Arbitration {
-            kind: "arbitration",
-            between,
-            pairs: score.pairs(),
-            wins: (score.wins, score.loses),
-            may_win: score.may_win,
-            alike: score.alike,
-            unsafe_pairs: score.unsafe_pairs,
-        });
+// How the pairs of two controllers end, or of one and an interrupt, or of two interrupts: how many each of the two wins, how many
+// either may win, and so on.
+fn add_arbitration(lines: &mut ObjectLines, score: &Score, first: &str, second: &str) {
+    if score.pairs() == 0 {
+        return;
     }
+    lines.begin("arbitration");
+    add_words(lines, "between", first, second);
+    lines.number("pairs", score.pairs() as u64);
+    add_numbers(lines, "wins", score.wins, score.loses);
+    lines.number("may_win", score.may_win as u64);
+    lines.number("alike", score.alike as u64);
+    lines.number("unsafe_pairs", score.unsafe_pairs as u64);
+    lines.end();
 }
 
 /// Writes an object for each pair of the plan of these words, and one for each participant that can win or lose.
@@ -111,72 +64,57 @@ pub fn write_order<O: Output>(
     for pair in 0..plan.pair_count() {
         if let Some(outcomes) = order.ways.get(pair as usize) {
             let (x, y) = plan.pair(pair);
-            let places = both_at(alloc, words, (x, y))?;
-            lines.add(&pair_order(pair, [labels.of(x), labels.of(y)], places, outcomes));
+            lines.begin("order");
+            lines.number("pair", pair as u64);
+            add_words(&mut lines, "participants", labels.of(x), labels.of(y));
+            add_both_at(&mut lines, words, (x, y));
+            add_outcomes(&mut lines, outcomes);
+            lines.end();
         }
         lines.write_block(out)?;
     }
     for p in 0..plan.participants() {
-        let places = one_at(alloc, words, p)?;
-        add_total(
-            &mut lines,
-            labels.of(p),
-            places,
-            order.totals.get(p as usize),
-        );
+        if let Some(total) = order.totals.get(p as usize) {
+            add_total(&mut lines, words, p, labels.of(p), total);
+        }
     }
     lines.write_rest(out)
 }
 
-fn pair_order<'a>(
-    pair: u32,
-    participants: [&'a str; 2],
-    places: Option<BothAt>,
-    outcomes: &Option<Outcomes>,
-) -> PairOrder<'a> {
-    let Outcomes {
-        both,
-        first,
-        second,
-    } = outcomes.unwrap_or(NO_WAY);
-    PairOrder {
-        kind: "order",
-        pair,
-        participants,
-        places,
-        is_unsafe: outcomes.is_none().then_some(true),
-        both: slots_of(both),
-        first: slots_of(first),
-        second: slots_of(second),
+// In which slots both of a pair end, the first wins and the second wins, where they can: the earliest and the latest of each.
+fn add_outcomes(lines: &mut ObjectLines, outcomes: &Option<Outcomes>) {
+    match outcomes {
+        Some(outcomes) => {
+            add_slots(lines, "both", outcomes.both);
+            add_slots(lines, "first", outcomes.first);
+            add_slots(lines, "second", outcomes.second);
+        }
+        None => lines.flag("unsafe", true),
     }
 }
 
-const NO_WAY: Outcomes = Outcomes {
-    both: None,
-    first: None,
-    second: None,
-};
-
-fn slots_of(slots: Option<Slots>) -> Option<(u32, u32)> {
-    let Slots { earliest, latest } = slots?;
-    Some((earliest, latest))
+fn add_slots(lines: &mut ObjectLines, name: &str, slots: Option<Slots>) {
+    if let Some(Slots { earliest, latest }) = slots {
+        add_numbers(lines, name, earliest, latest);
+    }
 }
 
+// How often a participant wins.
 fn add_total(
     lines: &mut ObjectLines,
+    words: PlanWords<'_>,
+    p: u32,
     participant: &str,
-    places: Option<OneAt>,
-    total: Option<&Total>,
+    total: &Total,
 ) {
-    match total {
-        Some(total) if !total.is_empty() => lines.add(&Wins {
-            kind: "total",
-            participant,
-            places,
-            wins: total.wins,
-            may_win: total.may_win,
-            loses: total.loses,
-        }),
-        _ => {}
+    if total.is_empty() {
+        return;
     }
+    lines.begin("total");
+    lines.word("participant", participant);
+    add_one_at(lines, words, p);
+    lines.number("wins", total.wins as u64);
+    lines.number("may_win", total.may_win as u64);
+    lines.number("loses", total.loses as u64);
+    lines.end();
 }
