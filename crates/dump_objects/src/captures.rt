@@ -1,102 +1,17 @@
 // Objects of a capture.
 
-use crate::transactions::{Moment, Seen, Times, seen_of, times_of, too_few_of};
+use crate::transactions::{push_count, push_places, push_seen, push_times, push_too_few};
 use crate::written::Written;
 use bus_rows::{Labels, labels_of};
 use capture_check::Transaction;
 use decoding::{Ending, ExplainedSink};
-use drives::{Does, Judged, Judging};
-use dump_tokens::Scale;
-use object_lines::{OneAt, one_at};
+use drives::{Does, Judged, Judging, Verdict};
+use object_lines::ObjectLines;
 use plan_core::Plan;
 use plan_words::PlanWords;
 use run_parts::{Output, RunError};
-use serde::Serialize;
 use std::alloc::{AllocError, Global};
 use transaction_lines::{Explains, Layout, Others, Selection, Tallies};
-
-// A transaction, and who explains it.
-#[derive(Drop, Serialize)]
-struct Explained<'a> {
-    kind: &'static str,
-    from: Moment,
-    #[serde(skip_serializing_if = "Option::is_none")]
-    to: Option<Moment>,
-    end: &'static str,
-    participants: Vec<&'a str>,
-    #[serde(skip_serializing_if = "Option::is_none")]
-    drives: Option<Vec<Drove<'a>>>,
-    #[serde(skip_serializing_if = "Option::is_none")]
-    explain: Option<Seen<'a>>,
-}
-
-// What a controller did in a transaction, and in which slots.
-#[derive(Clone, Copy, Serialize)]
-struct Drove<'a> {
-    controller: &'a str,
-    does: &'static str,
-    #[serde(skip_serializing_if = "Option::is_none")]
-    slot: Option<usize>,
-    #[serde(skip_serializing_if = "Option::is_none")]
-    again: Option<usize>,
-}
-
-// In how many transactions all that are followed did what the rules of the plan give, and in how many one did not.
-#[derive(Clone, Copy, Serialize)]
-struct Rules {
-    right: u64,
-    wrong: u64,
-    others: u64,
-}
-
-// What those come to that a STOP ended.
-#[derive(Clone, Copy, Serialize)]
-struct Transactions {
-    kind: &'static str,
-    transactions: u64,
-    unexplained: u64,
-    #[serde(skip_serializing_if = "Option::is_none")]
-    drives: Option<Rules>,
-    #[serde(skip_serializing_if = "Option::is_none")]
-    explain: Option<Rest>,
-}
-
-// What is known only at the end: bits on a free bus, and levels that were too short.
-#[derive(Clone, Copy, Serialize)]
-struct Rest {
-    idle: u64,
-    short: u64,
-}
-
-// How many transactions a participant explains.
-#[derive(Drop, Serialize)]
-struct Counted<'a> {
-    kind: &'static str,
-    participant: &'a str,
-    #[serde(skip_serializing_if = "Option::is_none")]
-    places: Option<OneAt>,
-    alone: u64,
-    with_others: u64,
-}
-
-// How many others there are.
-#[derive(Clone, Copy, Serialize)]
-pub(crate) struct Count {
-    kind: &'static str,
-    what: &'static str,
-    transactions: u64,
-}
-
-impl Count {
-    /// So many transactions of this end.
-    pub(crate) fn new(what: &'static str, transactions: u64) -> Count {
-        Count {
-            kind: "count",
-            what,
-            transactions,
-        }
-    }
-}
 
 /// Writes the objects of a capture.
 #[derive(Drop)]
@@ -147,43 +62,50 @@ impl<'a, 'w, O: Output> CaptureObjects<'a, 'w, O> {
 
     fn transaction(&mut self, transaction: &Transaction, participants: &[u32]) {
         let is_told = self.selection.takes(transaction, !participants.is_empty());
-        let drives = self.drove(transaction, participants, is_told);
+        let verdict = self.judge(transaction, participants, is_told);
         if !is_told {
             return;
         }
         if let Some(tallies) = &mut self.tallies {
             return tallies.count(transaction, participants);
         }
-        let object = explained_of(
-            self.written.alloc,
-            self.words,
-            &self.labels,
-            transaction,
-            participants,
-            self.selection.told_scale(),
-            self.layout.explain,
-        );
-        self.written.add_made(with_drives(object, drives));
+        self.push(transaction, participants, &verdict);
     }
 
     // Who drove the bus in the next transaction, where that is known.
-    fn drove(
+    fn judge(
         &mut self,
         transaction: &Transaction,
         participants: &[u32],
         is_told: bool,
-    ) -> Result<Option<Vec<Drove<'w>>>, AllocError> {
-        let alloc = self.written.alloc;
-        let Some(judging) = &mut self.judging else {
-            return Ok(None);
-        };
+    ) -> Option<Result<Verdict, AllocError>> {
+        let alloc = self.written.lines.alloc;
         let plan = self.words.plan();
-        let verdict = judging.judge_next(alloc, plan, transaction, participants, is_told)?;
-        let mut drove = Vec::new(alloc);
-        for judged in verdict.all.iter() {
-            drove.push(drove_of(judging.controller(judged.number), *judged))?;
+        match &mut self.judging {
+            Some(judging) => {
+                Some(judging.judge_next(alloc, plan, transaction, participants, is_told))
+            }
+            None => None,
         }
-        Ok(Some(drove))
+    }
+
+    // A transaction, and who explains it. It is explained where that is wanted.
+    fn push(
+        &mut self,
+        transaction: &Transaction,
+        participants: &[u32],
+        verdict: &Option<Result<Verdict, AllocError>>,
+    ) {
+        let lines = &mut self.written.lines;
+        lines.begin("transaction");
+        push_times(lines, transaction, self.selection.told_scale());
+        push_participants(lines, &self.labels, participants);
+        push_drives(lines, &self.judging, verdict);
+        if self.layout.explain {
+            let is_explained = !participants.is_empty();
+            push_seen(lines, self.words, &self.labels, transaction, is_explained);
+        }
+        lines.end();
     }
 
     /// Writes the last objects of a capture that ended so, and answers what those that were told come to.
@@ -192,15 +114,8 @@ impl<'a, 'w, O: Output> CaptureObjects<'a, 'w, O> {
     ///
     /// `Write` where the writer failed or took no bytes, and `NoMemory`.
     pub fn finish(self, ending: Ending) -> Result<Selection, RunError> {
-        let explain = if self.layout.explain {
-            Some(Rest {
-                idle: ending.idle,
-                short: ending.short,
-            })
-        } else {
-            None
-        };
-        self.end(explain)
+        let is_wanted = self.layout.explain;
+        self.end(if is_wanted { Some(ending) } else { None })
     }
 
     /// Writes the last objects of a capture of which nothing more is read, where it stopped by itself.
@@ -216,42 +131,33 @@ impl<'a, 'w, O: Output> CaptureObjects<'a, 'w, O> {
         }
     }
 
-    fn end(self, explain: Option<Rest>) -> Result<Selection, RunError> {
+    fn end(mut self, ending: Option<Ending>) -> Result<Selection, RunError> {
+        self.push_last(ending);
         let CaptureObjects {
-            mut written,
-            words,
-            mut selection,
-            labels,
-            tallies,
-            judging,
+            written,
+            selection,
             ..
         } = self;
-        let drives = match &judging {
-            Some(judging) => {
-                selection.departed = judging.wrong;
-                Some(Rules {
-                    right: judging.right,
-                    wrong: judging.wrong,
-                    others: judging.others,
-                })
-            }
-            None => None,
-        };
-        if let Some(tallies) = &tallies {
-            add_tallies(&mut written, words, tallies, &labels);
+        written.finish(selection)
+    }
+
+    fn push_last(&mut self, ending: Option<Ending>) {
+        let lines = &mut self.written.lines;
+        if let Some(tallies) = &self.tallies {
+            push_tallies(lines, self.words, tallies, &self.labels);
         }
-        written.add(&Transactions {
-            kind: "transactions",
-            transactions: selection.seen.stopped,
-            unexplained: selection.seen.unexplained,
-            drives,
-            explain,
-        });
-        if let Some(too_few) = too_few_of(&selection) {
-            written.add(&too_few);
+        lines.begin("transactions");
+        lines.number("transactions", self.selection.seen.stopped);
+        lines.number("unexplained", self.selection.seen.unexplained);
+        if let Some(judging) = &self.judging {
+            self.selection.departed = judging.wrong;
+            push_rules(lines, judging);
         }
-        written.finish()?;
-        Ok(selection)
+        if let Some(ending) = ending {
+            push_ending(lines, ending);
+        }
+        lines.end();
+        push_too_few(lines, &self.selection);
     }
 }
 
@@ -282,16 +188,63 @@ impl<O: Output> ExplainedSink for CaptureObjects<'_, '_, O> {
     }
 }
 
-fn add_tallies<O: Output>(
-    written: &mut Written<'_, O>,
-    words: PlanWords<'_>,
-    tallies: &Tallies,
-    labels: &Labels,
+fn push_participants(lines: &mut ObjectLines, labels: &Labels, participants: &[u32]) {
+    lines.open_list("participants");
+    for p in participants {
+        lines.word_element(labels.of(*p));
+    }
+    lines.close_list();
+}
+
+// What each controller that is followed did in a transaction, unless an allocation failed for it.
+fn push_drives(
+    lines: &mut ObjectLines,
+    judging: &Option<Judging<'_, '_>>,
+    verdict: &Option<Result<Verdict, AllocError>>,
 ) {
+    if let Some(judging) = judging {
+        match verdict {
+            Some(Ok(verdict)) => push_verdict(lines, judging, verdict),
+            Some(Err(_)) => lines.cut(),
+            None => {}
+        }
+    }
+}
+
+fn push_verdict(lines: &mut ObjectLines, judging: &Judging<'_, '_>, verdict: &Verdict) {
+    lines.open_list("drives");
+    for judged in verdict.all.iter() {
+        push_judged(lines, judging.controller(judged.number), *judged);
+    }
+    lines.close_list();
+}
+
+// What a controller did, and in which slots.
+fn push_judged(lines: &mut ObjectLines, controller: &str, judged: Judged) {
+    lines.open_element();
+    lines.word("controller", controller);
+    match judged.does {
+        Does::GoesOn => lines.word("does", "goes on"),
+        Does::Loses { slot } => push_does(lines, "loses", slot),
+        Does::PullsOn { slot, again } => {
+            push_does(lines, "pulls on", slot);
+            lines.number("again", again as u64);
+        }
+        Does::Departs { slot, .. } => push_does(lines, "departs", slot),
+        Does::JoinsLate { slot } => push_does(lines, "joins late", slot),
+    }
+    lines.close();
+}
+
+fn push_does(lines: &mut ObjectLines, does: &str, slot: usize) {
+    lines.word("does", does);
+    lines.number("slot", slot as u64);
+}
+
+fn push_tallies(lines: &mut ObjectLines, words: PlanWords<'_>, tallies: &Tallies, labels: &Labels) {
     let mut p = 0u32;
     for (label, count) in labels.all().iter().zip(tallies.senders.as_slice()) {
-        let counted = counted_of(written.alloc, words, p, label.as_str(), *count);
-        written.add_made(counted);
+        push_explains(lines, words, p, label.as_str(), *count);
         p = p.saturating_add(1);
     }
     let Others {
@@ -299,81 +252,40 @@ fn add_tallies<O: Output>(
         cut,
         unfinished,
     } = tallies.others;
-    written.add(&Count::new("unexplained", unexplained));
-    written.add(&Count::new("cut", cut));
-    written.add(&Count::new("unfinished", unfinished));
+    push_count(lines, "unexplained", unexplained);
+    push_count(lines, "cut", cut);
+    push_count(lines, "unfinished", unfinished);
 }
 
-fn with_drives<'a>(
-    object: Result<Explained<'a>, AllocError>,
-    drives: Result<Option<Vec<Drove<'a>>>, AllocError>,
-) -> Result<Explained<'a>, AllocError> {
-    let object = object?;
-    Ok(Explained {
-        drives: drives?,
-        ..object
-    })
-}
-
-fn drove_of(controller: &str, judged: Judged) -> Drove<'_> {
-    let (does, slot, again) = match judged.does {
-        Does::GoesOn => ("goes on", None, None),
-        Does::Loses { slot } => ("loses", Some(slot), None),
-        Does::PullsOn { slot, again } => ("pulls on", Some(slot), Some(again)),
-        Does::Departs { slot, .. } => ("departs", Some(slot), None),
-        Does::JoinsLate { slot } => ("joins late", Some(slot), None),
-    };
-    Drove {
-        controller,
-        does,
-        slot,
-        again,
-    }
-}
-
-// A transaction, which is explained where that is wanted.
-fn explained_of<'a>(
-    alloc: Global,
-    words: PlanWords<'_>,
-    labels: &'a Labels,
-    transaction: &Transaction,
-    participants: &[u32],
-    scale: Option<Scale>,
-    is_wanted: bool,
-) -> Result<Explained<'a>, AllocError> {
-    let Times { from, to, end } = times_of(alloc, transaction, scale)?;
-    let mut names = Vec::new(alloc);
-    for p in participants {
-        names.push(labels.of(*p))?;
-    }
-    let mut object = Explained {
-        kind: "transaction",
-        from,
-        to,
-        end,
-        participants: names,
-        drives: None,
-        explain: None,
-    };
-    if is_wanted {
-        object.explain = Some(seen_of(alloc, words, labels, transaction, participants)?);
-    }
-    Ok(object)
-}
-
-// How often a participant explains a transaction.
-fn counted_of<'a>(
-    alloc: Global,
+// How many transactions a participant explains.
+fn push_explains(
+    lines: &mut ObjectLines,
     words: PlanWords<'_>,
     p: u32,
-    participant: &'a str,
+    participant: &str,
     count: Explains,
-) -> Result<Counted<'a>, AllocError> {
-    Ok(Counted {
-        kind: "participant",
-        participant,
-        places: one_at(alloc, words, p)?,
-        alone: count.alone,
-        with_others: count.with_others,
-    })
+) {
+    lines.begin("participant");
+    lines.word("participant", participant);
+    push_places(lines, words, p);
+    lines.number("alone", count.alone);
+    lines.number("with_others", count.with_others);
+    lines.end();
+}
+
+// In how many transactions all that are followed did what the rules of the plan give, and in how many one did not.
+fn push_rules(lines: &mut ObjectLines, judging: &Judging<'_, '_>) {
+    lines.open("drives");
+    lines.number("right", judging.right);
+    lines.number("wrong", judging.wrong);
+    lines.number("others", judging.others);
+    lines.close();
+}
+
+// What is known only at the end: bits on a free bus, and levels that were too short.
+fn push_ending(lines: &mut ObjectLines, ending: Ending) {
+    lines.open("explain");
+    lines.number("idle", ending.idle);
+    lines.number("short", ending.short);
+    lines.close();
 }

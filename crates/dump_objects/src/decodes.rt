@@ -1,44 +1,14 @@
 // Objects of the transactions of a dump, without a plan.
 
-use crate::captures::Count;
-use crate::transactions::{Moment, Times, times_of};
+use crate::transactions::{push_bytes, push_count, push_made, push_times};
 use crate::written::Written;
-use bus_rows::bytes_of;
 use capture_check::Transaction;
 use decoding::TransactionSink;
 use growing_text::Text;
+use object_lines::ObjectLines;
 use run_parts::{Output, RunError};
-use serde::Serialize;
 use std::alloc::{AllocError, Global};
 use transaction_lines::{Addresses, Calls, Selection};
-
-// A transaction, in bytes.
-#[derive(Drop, Serialize)]
-struct Decoded {
-    kind: &'static str,
-    from: Moment,
-    #[serde(skip_serializing_if = "Option::is_none")]
-    to: Option<Moment>,
-    end: &'static str,
-    bytes: String,
-}
-
-// How many a STOP ended.
-#[derive(Clone, Copy, Serialize)]
-struct Transactions {
-    kind: &'static str,
-    transactions: u64,
-}
-
-// How often an address was called, and how often nobody acknowledged it.
-#[derive(Drop, Serialize)]
-struct Called {
-    kind: &'static str,
-    address: String,
-    direction: &'static str,
-    times: u64,
-    nacks: u64,
-}
 
 /// Writes the objects of transactions with their bytes.
 #[derive(Drop)]
@@ -61,10 +31,11 @@ impl<'a, O: Output> DecodeObjects<'a, O> {
         live: bool,
         out: &'a mut O,
     ) -> Result<DecodeObjects<'a, O>, AllocError> {
+        let addresses = Addresses::wanted(alloc, &selection)?;
         Ok(DecodeObjects {
             written: Written::new(alloc, live, out),
             selection,
-            addresses: Addresses::wanted(alloc, &selection)?,
+            addresses,
         })
     }
 
@@ -75,8 +46,11 @@ impl<'a, O: Output> DecodeObjects<'a, O> {
         if let Some(addresses) = &mut self.addresses {
             return addresses.count(transaction);
         }
-        let object = decoded_of(self.written.alloc, transaction, &self.selection);
-        self.written.add_made(object);
+        let lines = &mut self.written.lines;
+        lines.begin("transaction");
+        push_times(lines, transaction, self.selection.told_scale());
+        push_bytes(lines, transaction);
+        lines.end();
     }
 
     /// Writes the last objects, and answers what those that were told come to.
@@ -84,21 +58,24 @@ impl<'a, O: Output> DecodeObjects<'a, O> {
     /// # Errors
     ///
     /// `Write` where the writer failed or took no bytes, and `NoMemory`.
-    pub fn finish(self) -> Result<Selection, RunError> {
+    pub fn finish(mut self) -> Result<Selection, RunError> {
+        self.push_last();
         let DecodeObjects {
-            mut written,
+            written,
             selection,
-            addresses,
+            ..
         } = self;
-        if let Some(addresses) = &addresses {
-            add_addresses(&mut written, addresses);
+        written.finish(selection)
+    }
+
+    fn push_last(&mut self) {
+        let lines = &mut self.written.lines;
+        if let Some(addresses) = &self.addresses {
+            push_addresses(lines, addresses);
         }
-        written.add(&Transactions {
-            kind: "transactions",
-            transactions: selection.seen.stopped,
-        });
-        written.finish()?;
-        Ok(selection)
+        lines.begin("transactions");
+        lines.number("transactions", self.selection.seen.stopped);
+        lines.end();
     }
 }
 
@@ -115,44 +92,29 @@ impl<O: Output> TransactionSink for DecodeObjects<'_, O> {
     }
 }
 
-fn decoded_of(
-    alloc: Global,
-    transaction: &Transaction,
-    selection: &Selection,
-) -> Result<Decoded, AllocError> {
-    let Times { from, to, end } = times_of(alloc, transaction, selection.told_scale())?;
-    Ok(Decoded {
-        kind: "transaction",
-        from,
-        to,
-        end,
-        bytes: bytes_of(alloc, transaction.marks.as_slice())?,
-    })
-}
-
-fn add_addresses<O: Output>(written: &mut Written<'_, O>, addresses: &Addresses) {
+fn push_addresses(lines: &mut ObjectLines, addresses: &Addresses) {
     for calls in addresses.calls() {
         if calls.times != 0 {
-            let called = called_of(written.alloc, *calls);
-            written.add_made(called);
+            push_calls(lines, *calls);
         }
     }
-    written.add(&Count::new("cut", addresses.cut));
-    written.add(&Count::new("unfinished", addresses.unfinished));
+    push_count(lines, "cut", addresses.cut);
+    push_count(lines, "unfinished", addresses.unfinished);
 }
 
-fn called_of(alloc: Global, calls: Calls) -> Result<Called, AllocError> {
-    let mut address = Text::new(alloc);
+// How often an address was called, and how often nobody acknowledged it.
+fn push_calls(lines: &mut ObjectLines, calls: Calls) {
+    let mut address = Text::new(lines.alloc);
     address.push_hex(calls.header >> 1);
-    Ok(Called {
-        kind: "address",
-        address: address.finish()?,
-        direction: if calls.header & 1 == 1 {
-            "read"
-        } else {
-            "write"
-        },
-        times: calls.times,
-        nacks: calls.nacks,
-    })
+    let address = address.finish();
+    lines.begin("address");
+    push_made(lines, "address", &address);
+    lines.word("direction", direction_of(calls.header));
+    lines.number("times", calls.times);
+    lines.number("nacks", calls.nacks);
+    lines.end();
+}
+
+fn direction_of(header: u8) -> &'static str {
+    if header & 1 == 1 { "read" } else { "write" }
 }

@@ -1,7 +1,7 @@
 //! What a dump shows as JSON, one object a line, for programs.
 //!
 //! `written` writes objects as they come. `captures` and `decodes` have those of transactions (`transactions` for both), and
-//! `listed` those of signals: each is a plain struct, made of a value.
+//! `listed` those of signals. Their fields are written one by one.
 #![tactic(auto)]
 
 mod captures;

@@ -2,34 +2,8 @@
 
 use object_lines::ObjectLines;
 use run_parts::{Output, RunError};
-use serde::Serialize;
 use signals::{Listed, Pair, Signal};
-use std::alloc::{AllocError, Global};
-
-#[derive(Clone, Copy, Serialize)]
-struct SignalObject<'a> {
-    kind: &'static str,
-    code: &'a str,
-    changes: u64,
-    #[serde(skip_serializing_if = "Option::is_none")]
-    scope: Option<&'a str>,
-    name: &'a str,
-}
-
-#[derive(Clone, Copy, Serialize)]
-struct BusObject<'a> {
-    kind: &'static str,
-    transactions: u32,
-    scl_code: &'a str,
-    sda_code: &'a str,
-}
-
-#[derive(Clone, Copy, Serialize)]
-struct SignalsObject {
-    kind: &'static str,
-    signals: usize,
-    buses: usize,
-}
+use std::alloc::Global;
 
 /// Writes an object for each signal, one for each pair that looks like a bus, and one that counts them.
 ///
@@ -42,55 +16,63 @@ pub fn write_signals<O: Output>(
     out: &mut O,
 ) -> Result<(), RunError> {
     let mut lines = ObjectLines::new(alloc);
+    write_objects(&mut lines, listed, out)
+}
+
+fn write_objects<O: Output>(
+    lines: &mut ObjectLines,
+    listed: &Listed,
+    out: &mut O,
+) -> Result<(), RunError> {
     for k in 0..listed.signals() {
-        add_signal(&mut lines, listed.signal(alloc, k))?;
+        add_signal(lines, listed, k);
         lines.write_block(out)?;
     }
     for k in 0..listed.pairs() {
-        add_bus(&mut lines, listed.pair(alloc, k))?;
+        add_bus(lines, listed, k);
     }
-    lines.add(&SignalsObject {
-        kind: "signals",
-        signals: listed.signals(),
-        buses: listed.pairs(),
-    });
-    lines.write_rest(out)
+    push_count(lines, listed);
+    lines.write_all(out)
 }
 
-fn add_signal(
-    lines: &mut ObjectLines,
-    signal: Result<Option<Signal>, AllocError>,
-) -> Result<(), AllocError> {
-    if let Some(signal) = signal? {
-        lines.add(&SignalObject {
-            kind: "signal",
-            code: signal.code.as_str(),
-            changes: signal.changes,
-            scope: text_of(&signal.scope),
-            name: signal.name.as_str(),
-        });
-    }
-    Ok(())
-}
-
-fn text_of(text: &Option<String>) -> Option<&str> {
-    match text {
-        Some(text) => Some(text.as_str()),
-        None => None,
+fn add_signal(lines: &mut ObjectLines, listed: &Listed, k: usize) {
+    match listed.signal(lines.alloc, k) {
+        Ok(Some(signal)) => push_signal(lines, &signal),
+        Ok(None) => {}
+        Err(_) => lines.cut(),
     }
 }
 
-fn add_bus(
-    lines: &mut ObjectLines,
-    pair: Result<Option<Pair>, AllocError>,
-) -> Result<(), AllocError> {
-    if let Some(pair) = pair? {
-        lines.add(&BusObject {
-            kind: "bus",
-            transactions: pair.transactions,
-            scl_code: pair.scl.as_str(),
-            sda_code: pair.sda.as_str(),
-        });
+// The texts are those of the dump, so JSON may escape some of them.
+fn push_signal(lines: &mut ObjectLines, signal: &Signal) {
+    lines.begin("signal");
+    lines.field("code", &signal.code);
+    lines.number("changes", signal.changes);
+    lines.field_if("scope", &signal.scope);
+    lines.field("name", &signal.name);
+    lines.end();
+}
+
+fn add_bus(lines: &mut ObjectLines, listed: &Listed, k: usize) {
+    match listed.pair(lines.alloc, k) {
+        Ok(Some(pair)) => push_bus(lines, &pair),
+        Ok(None) => {}
+        Err(_) => lines.cut(),
     }
-    Ok(())
+}
+
+fn push_bus(lines: &mut ObjectLines, pair: &Pair) {
+    lines.begin("bus");
+    lines.number("transactions", u64::from(pair.transactions));
+    lines.field("scl_code", &pair.scl);
+    lines.field("sda_code", &pair.sda);
+    lines.end();
+}
+
+// How many there are.
+fn push_count(lines: &mut ObjectLines, listed: &Listed) {
+    lines.begin("signals");
+    lines.number("signals", listed.signals() as u64);
+    lines.number("buses", listed.pairs() as u64);
+    lines.end();
 }

@@ -4,157 +4,123 @@ use bus_rows::{Labels, bytes_of};
 use capture_check::{Mark, Transaction, Until};
 use dump_tokens::Scale;
 use message_tree::Bit;
-use object_lines::{OneAt, one_at};
+use object_lines::{ObjectLines, one_at};
 use places::Offered;
 use plan_words::PlanWords;
-use serde::Serialize;
-use std::alloc::{AllocError, Global};
-use transaction_lines::{Cuts, Leaves, Selection, nearest};
-
-/// A time: in steps of the dump, or in parts of a second.
-#[derive(Drop, Serialize)]
-#[serde(untagged)]
-pub(crate) enum Moment {
-    Steps(u64),
-    Seconds(String),
-}
-
-/// When a transaction begins and ends.
-#[derive(Drop)]
-pub(crate) struct Times {
-    pub(crate) from: Moment,
-    pub(crate) to: Option<Moment>,
-    pub(crate) end: &'static str,
-}
-
-/// A repeated START or a STOP in the middle of a byte.
-#[derive(Clone, Copy, Serialize)]
-pub(crate) struct CutByte {
-    by: &'static str,
-    bits: u64,
-}
-
-/// Where a participant leaves a transaction that nobody explains.
-#[derive(Drop, Serialize)]
-pub(crate) struct Near<'a> {
-    participant: &'a str,
-    #[serde(skip_serializing_if = "Option::is_none")]
-    places: Option<OneAt>,
-    slot: usize,
-    does: &'static str,
-    wire: &'static str,
-}
-
-/// What a transaction is.
-#[derive(Drop, Serialize)]
-pub(crate) struct Seen<'a> {
-    bytes: String,
-    idle: u64,
-    cuts: Vec<CutByte>,
-    nearest: Vec<Near<'a>>,
-}
-
-/// How many transactions there were that a STOP ended, where there were to be more.
-#[derive(Clone, Copy, Serialize)]
-pub(crate) struct TooFew {
-    kind: &'static str,
-    transactions: u64,
-    at_least: u64,
-}
+use std::alloc::AllocError;
+use transaction_lines::{Cut, Cuts, Leaves, Selection, nearest};
 
 /// When it begins and ends, and how.
-pub(crate) fn times_of(
-    alloc: Global,
-    transaction: &Transaction,
-    scale: Option<Scale>,
-) -> Result<Times, AllocError> {
-    let (to, end) = match transaction.until {
-        Until::Stopped(time) => (Some(time), "stop"),
-        Until::Cut(time) => (Some(time), "cut"),
-        Until::Unfinished => (None, "unfinished"),
-    };
-    Ok(Times {
-        from: moment_of(alloc, transaction.from, scale)?,
-        to: match to {
-            Some(time) => Some(moment_of(alloc, time, scale)?),
-            None => None,
-        },
-        end,
-    })
+pub(crate) fn push_times(lines: &mut ObjectLines, transaction: &Transaction, scale: Option<Scale>) {
+    push_time(lines, "from", transaction.from, scale);
+    match transaction.until {
+        Until::Stopped(time) => {
+            push_time(lines, "to", time, scale);
+            lines.word("end", "stop");
+        }
+        Until::Cut(time) => {
+            push_time(lines, "to", time, scale);
+            lines.word("end", "cut");
+        }
+        Until::Unfinished => lines.word("end", "unfinished"),
+    }
 }
 
-fn moment_of(alloc: Global, time: u64, scale: Option<Scale>) -> Result<Moment, AllocError> {
+// A time: in steps of the dump, or in parts of a second.
+fn push_time(lines: &mut ObjectLines, name: &str, time: u64, scale: Option<Scale>) {
     match scale {
-        Some(scale) => Ok(Moment::Seconds(scale.told(alloc, time)?)),
-        None => Ok(Moment::Steps(time)),
+        Some(scale) => {
+            let told = scale.told(lines.alloc, time);
+            push_made(lines, name, &told);
+        }
+        None => lines.number(name, time),
+    }
+}
+
+/// A field with a word that was made, unless an allocation failed for it.
+pub(crate) fn push_made(lines: &mut ObjectLines, name: &str, word: &Result<String, AllocError>) {
+    match word {
+        Ok(word) => lines.word(name, word.as_str()),
+        Err(_) => lines.cut(),
+    }
+}
+
+/// Its bytes.
+pub(crate) fn push_bytes(lines: &mut ObjectLines, transaction: &Transaction) {
+    let bytes = bytes_of(lines.alloc, transaction.marks.as_slice());
+    push_made(lines, "bytes", &bytes);
+}
+
+/// Where a participant stands in briefs, if briefs mean the plan.
+pub(crate) fn push_places(lines: &mut ObjectLines, words: PlanWords<'_>, p: u32) {
+    match one_at(lines.alloc, words, p) {
+        Ok(places) => lines.field_if("places", &places),
+        Err(_) => lines.cut(),
     }
 }
 
 /// What it is, and, where a STOP ended it and nobody explains it, which participants go along with it furthest.
-pub(crate) fn seen_of<'a>(
-    alloc: Global,
+pub(crate) fn push_seen(
+    lines: &mut ObjectLines,
     words: PlanWords<'_>,
-    labels: &'a Labels,
+    labels: &Labels,
     transaction: &Transaction,
-    participants: &[u32],
-) -> Result<Seen<'a>, AllocError> {
-    let marks = transaction.marks.as_slice();
-    Ok(Seen {
-        bytes: bytes_of(alloc, marks)?,
-        idle: transaction.idle,
-        cuts: cuts_of(alloc, transaction)?,
-        nearest: match transaction.until {
-            Until::Stopped(_) if participants.is_empty() => {
-                nearest_of(alloc, words, labels, marks)?
-            }
-            _ => Vec::new(alloc),
-        },
-    })
+    is_explained: bool,
+) {
+    lines.open("explain");
+    push_bytes(lines, transaction);
+    lines.number("idle", transaction.idle);
+    push_cuts(lines, transaction);
+    lines.open_list("nearest");
+    if matches!(transaction.until, Until::Stopped(_)) && !is_explained {
+        push_nearest(lines, words, labels, transaction.marks.as_slice());
+    }
+    lines.close_list();
+    lines.close();
 }
 
-fn cuts_of(alloc: Global, transaction: &Transaction) -> Result<Vec<CutByte>, AllocError> {
-    let mut found = Vec::new(alloc);
+fn push_cuts(lines: &mut ObjectLines, transaction: &Transaction) {
+    lines.open_list("cuts");
     let mut cuts = Cuts::new();
     for mark in transaction.marks.iter() {
         if let Some(cut) = cuts.next(*mark) {
-            found.push(CutByte {
-                by: if cut.again { "restart" } else { "stop" },
-                bits: cut.bits,
-            })?;
+            push_cut(lines, cut);
         }
     }
-    Ok(found)
+    lines.close_list();
 }
 
-fn nearest_of<'a>(
-    alloc: Global,
-    words: PlanWords<'_>,
-    labels: &'a Labels,
-    marks: &[Mark],
-) -> Result<Vec<Near<'a>>, AllocError> {
-    let mut found = Vec::new(alloc);
+// A repeated START or a STOP in the middle of a byte.
+fn push_cut(lines: &mut ObjectLines, cut: Cut) {
+    lines.open_element();
+    lines.word("by", if cut.again { "restart" } else { "stop" });
+    lines.number("bits", cut.bits);
+    lines.close();
+}
+
+fn push_nearest(lines: &mut ObjectLines, words: PlanWords<'_>, labels: &Labels, marks: &[Mark]) {
     for near in nearest(words.plan(), marks).iter() {
         if let Some(near) = near {
-            let places = one_at(alloc, words, near.participant)?;
-            found.push(near_of(labels, places, *near, marks.get(near.slot)))?;
+            push_near(lines, words, labels, *near, marks.get(near.slot));
         }
     }
-    Ok(found)
 }
 
-fn near_of<'a>(
-    labels: &'a Labels,
-    places: Option<OneAt>,
+// Where a participant leaves a transaction that nobody explains.
+fn push_near(
+    lines: &mut ObjectLines,
+    words: PlanWords<'_>,
+    labels: &Labels,
     near: Leaves,
     mark: Option<&Mark>,
-) -> Near<'a> {
-    Near {
-        participant: labels.of(near.participant),
-        places,
-        slot: near.slot,
-        does: does(near.offered),
-        wire: shown(mark),
-    }
+) {
+    lines.open_element();
+    lines.word("participant", labels.of(near.participant));
+    push_places(lines, words, near.participant);
+    lines.number("slot", near.slot as u64);
+    lines.word("does", does(near.offered));
+    lines.word("wire", shown(mark));
+    lines.close();
 }
 
 fn does(offered: Offered) -> &'static str {
@@ -180,12 +146,20 @@ fn shown(mark: Option<&Mark>) -> &'static str {
     }
 }
 
-/// That there were too few transactions, where it is so.
-pub(crate) fn too_few_of(selection: &Selection) -> Option<TooFew> {
-    let at_least = selection.missed()?;
-    Some(TooFew {
-        kind: "too_few",
-        transactions: selection.seen.stopped,
-        at_least,
-    })
+/// How many others there are that end so.
+pub(crate) fn push_count(lines: &mut ObjectLines, what: &str, transactions: u64) {
+    lines.begin("count");
+    lines.word("what", what);
+    lines.number("transactions", transactions);
+    lines.end();
+}
+
+/// That there were too few transactions that a STOP ended, where it is so.
+pub(crate) fn push_too_few(lines: &mut ObjectLines, selection: &Selection) {
+    if let Some(at_least) = selection.missed() {
+        lines.begin("too_few");
+        lines.number("transactions", selection.seen.stopped);
+        lines.number("at_least", at_least);
+        lines.end();
+    }
 }

@@ -2,14 +2,13 @@
 
 use object_lines::ObjectLines;
 use run_parts::{Output, RunError};
-use serde::Serialize;
-use std::alloc::{AllocError, Global};
+use std::alloc::Global;
+use transaction_lines::Selection;
 
 /// Objects, one a line, and where they are written.
 #[derive(Drop)]
 pub(crate) struct Written<'a, O> {
-    pub(crate) alloc: Global,
-    lines: ObjectLines,
+    pub(crate) lines: ObjectLines,
     out: &'a mut O,
     // whether all that is there is written at each pause
     live: bool,
@@ -19,23 +18,9 @@ impl<'a, O: Output> Written<'a, O> {
     /// Nothing yet.
     pub(crate) fn new(alloc: Global, live: bool, out: &'a mut O) -> Written<'a, O> {
         Written {
-            alloc,
             lines: ObjectLines::new(alloc),
             out,
             live,
-        }
-    }
-
-    /// One more object.
-    pub(crate) fn add<T: Serialize>(&mut self, object: &T) {
-        self.lines.add(object);
-    }
-
-    /// One more object, unless an allocation failed for it.
-    pub(crate) fn add_made<T: Serialize + Drop>(&mut self, object: Result<T, AllocError>) {
-        match object {
-            Ok(object) => self.lines.add(&object),
-            Err(_) => self.lines.cut(),
         }
     }
 
@@ -52,13 +37,14 @@ impl<'a, O: Output> Written<'a, O> {
         }
     }
 
-    /// Writes what is left.
+    /// Writes what is left, and answers what the transactions that were told come to.
     ///
     /// # Errors
     ///
     /// Those of `pause`.
-    pub(crate) fn finish(self) -> Result<(), RunError> {
+    pub(crate) fn finish(self, selection: Selection) -> Result<Selection, RunError> {
         let Written { lines, out, .. } = self;
-        lines.write_rest(out)
+        lines.write_rest(out)?;
+        Ok(selection)
     }
 }

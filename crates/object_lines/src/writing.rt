@@ -153,17 +153,6 @@ impl ObjectLines {
         }
     }
 
-    /// One more object.
-    pub fn add<T: Serialize>(&mut self, object: &T) {
-        self.push(object);
-        self.text.push("\n");
-    }
-
-    /// A field's value, in an object whose fields are pushed.
-    pub fn value<T: Serialize>(&mut self, value: &T) {
-        self.push(value);
-    }
-
     /// An allocation failed for what would come next.
     pub fn cut(&mut self) {
         self.text.cut();
