@@ -1,6 +1,6 @@
 -- The tokens of a canonical spelling are those of the grammar, from words up to items.
 use Rattle.std.proofs.Common.{◌≡◌, ◌+◌, ℕ, Bool, true, false, ◌||◌, List, [], ◌∷◌, ◌++◌, refl, ap, sym, ◌∙◌, subst, codes, true≢false, lit<, append-nil, append_assoc, inr}
-use Rattle.std.specs.Prelude.{All, nat_lt}
+use Rattle.std.specs.Prelude.{All, nat_lt, Option, Some, None, is_some}
 use Rattle.std.proofs.lemmas.Bool.{or_left, or_right}
 use Rattle.std.proofs.lemmas.List.Elements.{All-head, All-tail}
 use Rattle.lexer.specs.declared.lexemes.Letters.{Letters}
@@ -14,18 +14,20 @@ use Rattle.message_tree.specs.Patterns.{address_bits, pattern_bits}
 use Rattle.message_tree.specs.Trees.{FrameTree, write, read, PayloadTree, byte, last, TailTree, stop, again}
 use Rattle.plan_core.specs.Names.{IsName}
 use Rattle.plan_core.specs.Participants.{interrupt_bits}
-use Rattle.plan_text.specs.declared.symbols.Keyword.{Keyword}
-use Rattle.plan_text.specs.declared.symbols.Keyword.TheVariants as keywords
-use Rattle.plan_text.specs.declared.versions.Version.{Version}
-use Rattle.plan_text.specs.declared.versions.Version.TheVariants.{Two}
+use Rattle.plan_text.specs.Reader.{version_of}
 use Rattle.plan_text.specs.Symbols.{address_word, pattern_word, interrupt_word}
 use Rattle.spellings.specs.Canonical.{count_word, spaced, frame_words, payload_words, tail_words, frame_has_range, payload_has_range, tail_has_range, item_line, message_line, interrupt_line}
 use Rattle.plan_text.specs.Grammar.{Phrase, one, ◌▸◌, SpellsName, SpellsNames, SpellsCount, SpellsFrame, SpellsPayload, SpellsTail, SpellsItem, message, controller, interrupt, never_both}
-use Rattle.plan_text.specs.Tokens.{Token, keyword, word, semicolon, next, tokens_of, token_of_word}
+use Rattle.plan_text.specs.Tokens.{Token, word, semicolon, next, tokens_of, token_of_word}
 use Rattle.spellings.proofs.Adding.{spaced-append}
 use Rattle.plan_text.proofs.WholeWords.{word_token, is_word, Apart, space_apart, bits_are_word, bits_token, address_some, pattern_some}
 use Rattle.spellings.proofs.CanonicalWords.{name_is_word, name_token, count_is_word}
 use Rattle.plan_text.proofs.TokenLemmas.{skips_space, skips_line_feed, semicolon_here}
+
+-- what there is, where there is something
+abbrev pub the : {X : Type 0} (o : Option X) → is_some o ≡ true → X
+the (Some x) h = x
+the None h = absurd (true≢false (sym h))
 
 -- the words at the front of a text, each after a space, are this phrase
 pub record Said (d : Alphabet) (words : List (List ℕ)) (P : Phrase) : Type 0 where
@@ -110,25 +112,25 @@ module _ (d : Alphabet) (steady : later d ≡ d) where
 
   -- ---- frames
 
-  said_write : Said d (codes "write" ∷ []) (one (keyword keywords.Write))
+  said_write : Said d (codes "write" ∷ []) (one (token_of_word (codes "write")))
   unfolding token_of_word
-  said_write = said_one (codes "write") (keyword keywords.Write) refl refl
+  said_write = said_one (codes "write") (token_of_word (codes "write")) refl refl
 
-  said_read : Said d (codes "read" ∷ []) (one (keyword keywords.Read))
+  said_read : Said d (codes "read" ∷ []) (one (token_of_word (codes "read")))
   unfolding token_of_word
-  said_read = said_one (codes "read") (keyword keywords.Read) refl refl
+  said_read = said_one (codes "read") (token_of_word (codes "read")) refl refl
 
-  said_again : Said d (codes "again" ∷ []) (one (keyword keywords.Again))
+  said_again : Said d (codes "again" ∷ []) (one (token_of_word (codes "again")))
   unfolding token_of_word
-  said_again = said_one (codes "again") (keyword keywords.Again) refl refl
+  said_again = said_one (codes "again") (token_of_word (codes "again")) refl refl
 
-  said_else : Said d (codes "else" ∷ []) (one (keyword keywords.Else))
+  said_else : Said d (codes "else" ∷ []) (one (token_of_word (codes "else")))
   unfolding token_of_word
-  said_else = said_one (codes "else") (keyword keywords.Else) refl refl
+  said_else = said_one (codes "else") (token_of_word (codes "else")) refl refl
 
-  said_stop : Said d (codes "stop" ∷ []) (one (keyword keywords.Stop))
+  said_stop : Said d (codes "stop" ∷ []) (one (token_of_word (codes "stop")))
   unfolding token_of_word
-  said_stop = said_one (codes "stop") (keyword keywords.Stop) refl refl
+  said_stop = said_one (codes "stop") (token_of_word (codes "stop")) refl refl
 
   said_address : (a : Address) → Said d (address_word a ∷ []) (one (word (address_word a)))
   said_address a = said_one (address_word a) (word (address_word a)) (bits_are_word (letters d) (address_bits a) (address_some a)) (bits_token (address_bits a) (address_some a))
@@ -141,6 +143,7 @@ module _ (d : Alphabet) (steady : later d ≡ d) where
 
   -- where dots are parts of words if there is a range
   mutual
+    unfolding token_of_word
     said_frame : (f : FrameTree) → (frame_has_range f ≡ true → letters d ≡ Dots) → Said d (frame_words f) (SpellsFrame f)
     said_frame (write address acked refused) needs =
         said_then said_write (said_then (said_address address) (said_then (said_payload acked (λ h. needs (or_left _ (tail_has_range refused) h))) (said_then said_else (said_tail refused (λ h. needs (or_right (payload_has_range acked) _ h))))))
@@ -159,30 +162,30 @@ module _ (d : Alphabet) (steady : later d ≡ d) where
 
   -- ---- items
 
-  item_said : (first : List ℕ) {words : List (List ℕ)} {P : Phrase} (k : Keyword) → is_word (letters d) first ≡ true → token_of_word first ≡ keyword k → Ended d words P
-      → (line : ℕ) (rest : List ℕ) → (one (keyword k) ▸ P) (tokens_of d line (item_line first words ++ rest)) (tokens_of d (line + 1) rest)
-  item_said first {words} {P} k is e ended line rest =
+  item_said : (first : List ℕ) {words : List (List ℕ)} {P : Phrase} → is_word (letters d) first ≡ true → Ended d words P
+      → (line : ℕ) (rest : List ℕ) → (one (token_of_word first) ▸ P) (tokens_of d line (item_line first words ++ rest)) (tokens_of d (line + 1) rest)
+  item_said first {words} {P} is ended line rest =
       let end : List ℕ = codes " ;\n" ++ rest in
       let more : List ℕ = spaced words ++ end in
       let whole : item_line first words ++ rest ≡ first ++ more = append_assoc first (spaced words ++ codes " ;\n") rest ∙ ap (λ l. first ++ l) (append_assoc (spaced words) (codes " ;\n") rest) in
-      (tokens_of d line more, (line, ap (tokens_of d line) whole ∙ word_token d steady line first more (keyword k) is e (spaced_apart (letters d) words end (space_apart (letters d) (codes ";\n" ++ rest)))), ended.says line rest)
+      (tokens_of d line more, (line, ap (tokens_of d line) whole ∙ word_token d steady line first more (token_of_word first) is refl (spaced_apart (letters d) words end (space_apart (letters d) (codes ";\n" ++ rest)))), ended.says line rest)
 
-  pub message_said : (v : Version) (name : List ℕ) (f : FrameTree) → IsName name → (frame_has_range f ≡ true → letters d ≡ Dots)
+  pub message_said : (v : _) (name : List ℕ) (f : FrameTree) → IsName name → (frame_has_range f ≡ true → letters d ≡ Dots)
       → (line : ℕ) (rest : List ℕ) → SpellsItem v (message name f) (tokens_of d line (message_line (name, f) ++ rest)) (tokens_of d (line + 1) rest)
   unfolding token_of_word
-  message_said v name f is needs line rest = item_said (codes "message") keywords.Message refl refl (ended_then (said_name name is) (ended_last (said_frame f needs))) line rest
+  message_said v name f is needs line rest = item_said (codes "message") refl (ended_then (said_name name is) (ended_last (said_frame f needs))) line rest
 
-  pub controller_said : (v : Version) (name : List ℕ) (names : List (List ℕ)) → IsName name → All IsName names
+  pub controller_said : (v : _) (name : List ℕ) (names : List (List ℕ)) → IsName name → All IsName names
       → (line : ℕ) (rest : List ℕ) → SpellsItem v (controller name names) (tokens_of d line (item_line (codes "controller") (name ∷ names) ++ rest)) (tokens_of d (line + 1) rest)
   unfolding token_of_word
-  controller_said v name names is are line rest = item_said (codes "controller") keywords.Controller refl refl (ended_then (said_name name is) (ended_last (said_names names are))) line rest
+  controller_said v name names is are line rest = item_said (codes "controller") refl (ended_then (said_name name is) (ended_last (said_names names are))) line rest
 
-  pub interrupt_said : (v : Version) (name : List ℕ) (address : ℕ) → IsName name
+  pub interrupt_said : (v : _) (name : List ℕ) (address : ℕ) → IsName name
       → (line : ℕ) (rest : List ℕ) → SpellsItem v (interrupt name address) (tokens_of d line (interrupt_line (name, address) ++ rest)) (tokens_of d (line + 1) rest)
   unfolding token_of_word
-  interrupt_said v name address is line rest = item_said (codes "interrupt") keywords.Interrupt refl refl (ended_then (said_name name is) (ended_last (said_interrupt address))) line rest
+  interrupt_said v name address is line rest = item_said (codes "interrupt") refl (ended_then (said_name name is) (ended_last (said_interrupt address))) line rest
 
   pub never_said : (first second : List ℕ) → IsName first → IsName second
-      → (line : ℕ) (rest : List ℕ) → SpellsItem Two (never_both first second) (tokens_of d line (item_line (codes "never") (first ∷ (second ∷ [])) ++ rest)) (tokens_of d (line + 1) rest)
+      → (line : ℕ) (rest : List ℕ) → SpellsItem (the (version_of (codes "2")) refl) (never_both first second) (tokens_of d line (item_line (codes "never") (first ∷ (second ∷ [])) ++ rest)) (tokens_of d (line + 1) rest)
   unfolding token_of_word
-  never_said first second is_first is_second line rest = item_said (codes "never") keywords.Never refl refl (ended_then (said_name first is_first) (ended_last (said_name second is_second))) line rest
+  never_said first second is_first is_second line rest = item_said (codes "never") refl (ended_then (said_name first is_first) (ended_last (said_name second is_second))) line rest

@@ -12,25 +12,24 @@ use Rattle.message_tree.specs.Trees.{FrameTree}
 use Rattle.plan_core.specs.Contents.{Contents, empty}
 use Rattle.plan_core.specs.Labels.{name_at}
 use Rattle.plan_core.specs.Limits.{IsWithinLimits}
-use Rattle.plan_text.specs.declared.versions.Version.{Version}
-use Rattle.plan_text.specs.declared.versions.Version.TheVariants.{One, Two}
+use Rattle.plan_text.specs.Reader.{version_of}
 use Rattle.spellings.specs.Canonical.{frame_has_range, message_line, controller_line, interrupt_line, never_line, needs_second, plan_text}
 use Rattle.plan_text.specs.Grammar.{Item, message, controller, interrupt, never_both, SpellsItem, SpellsItems, Spells, Fits, with_item, Begins}
 use Rattle.plan_text.specs.Tokens.{Tokens, tokens_of, token_of_word}
 use Rattle.spellings.proofs.CanonicalItems.{up_to_messages, up_to_controllers, up_to_interrupts, up_to_nevers, message_fits, message_adds, message_named, controller_fits, controller_adds, controller_named, sent_named, interrupt_fits, interrupt_adds, interrupt_named, never_fits, never_adds, both_named}
-use Rattle.spellings.proofs.CanonicalPhrases.{message_said, controller_said, interrupt_said, never_said}
+use Rattle.spellings.proofs.CanonicalPhrases.{the, message_said, controller_said, interrupt_said, never_said}
 use Rattle.plan_text.proofs.TokenLemmas.{ends_here}
 
 -- items of a text up to a line, and then these bytes
-abbrev ItemsUpTo : Alphabet → Version → List Item → Contents → Tokens → Contents → List ℕ → Type 0
-ItemsUpTo d v items plan from whole rest = (line : ℕ) × SpellsItems v items plan from whole (tokens_of d line rest)
+abbrev ItemsUpTo : Alphabet → (List Item → Contents → Tokens → Contents → Tokens → Type 0) → List Item → Contents → Tokens → Contents → List ℕ → Type 0
+ItemsUpTo d spells items plan from whole rest = (line : ℕ) × spells items plan from whole (tokens_of d line rest)
 
 -- an item for each of these entries, where each fits the plan of those before it
-module _ {X : Type 0} (d : Alphabet) (v : Version) (item : X → Item) (line_of : X → List ℕ) (plan_of : List X → Contents) (whole : List X)
+module _ {X : Type 0} (d : Alphabet) (v : _) (item : X → Item) (line_of : X → List ℕ) (plan_of : List X → Contents) (whole : List X)
     (fits : (before : List X) (x : X) (after : List X) → before ++ (x ∷ after) ≡ whole → Fits (plan_of before) (item x))
     (adds : (before : List X) (x : X) (after : List X) → before ++ (x ∷ after) ≡ whole → plan_of (before ++ (x ∷ [])) ≡ with_item (plan_of before) (item x))
     (said : (before : List X) (x : X) (after : List X) → before ++ (x ∷ after) ≡ whole → (line : ℕ) (rest : List ℕ) → SpellsItem v (item x) (tokens_of d line (line_of x ++ rest)) (tokens_of d (line + 1) rest)) where
-  items_from : (before xs : List X) → before ++ xs ≡ whole → (line : ℕ) (rest : List ℕ) → ItemsUpTo d v (map item xs) (plan_of before) (tokens_of d line (flat_map line_of xs ++ rest)) (plan_of whole) rest
+  items_from : (before xs : List X) → before ++ xs ≡ whole → (line : ℕ) (rest : List ℕ) → ItemsUpTo d (SpellsItems v) (map item xs) (plan_of before) (tokens_of d line (flat_map line_of xs ++ rest)) (plan_of whole) rest
   items_from before [] e line rest = (line, (ap plan_of (sym e ∙ append-nil before), refl))
   items_from before (x ∷ xs) e line rest =
       let more = items_from (before ++ (x ∷ [])) xs (append_assoc before (x ∷ []) xs ∙ e) (line + 1) rest in
@@ -40,7 +39,7 @@ module _ {X : Type 0} (d : Alphabet) (v : Version) (item : X → Item) (line_of 
       let others = subst (λ p. SpellsItems v (map item xs) p (tokens_of d (line + 1) after) (plan_of whole) (tokens_of d more.0 rest)) (adds before x xs e) more.1 in
       (more.0, (fits before x xs e, (tokens_of d (line + 1) after, first, others)))
 
-items_then : (v : Version) (xs ys : List Item) (p q r : Contents) (a b c : Tokens) → SpellsItems v xs p a q b → SpellsItems v ys q b r c → SpellsItems v (xs ++ ys) p a r c
+items_then : (v : _) (xs ys : List Item) (p q r : Contents) (a b c : Tokens) → SpellsItems v xs p a q b → SpellsItems v ys q b r c → SpellsItems v (xs ++ ys) p a r c
 items_then v [] ys p q r a b c first second = subst (λ t. SpellsItems v ys p t r c) first.1 (subst (λ s. SpellsItems v ys s b r c) first.0 second)
 items_then v (x ∷ xs) ys p q r a b c first second =
     (first.0, (first.1.0, first.1.1, items_then v xs ys (with_item p x) q r first.1.0 b c first.1.2 second))
@@ -63,7 +62,7 @@ module _ (plan : Contents) (limits : IsWithinLimits plan) (d : Alphabet) (steady
   abbrev never_of : ℕ × ℕ → Item
   never_of n = never_both (name_at plan.controllers n.0) (name_at plan.controllers n.1)
 
-  nevers_said : (v : Version) → v ≡ Two → (line : ℕ) (rest : List ℕ) → ItemsUpTo d v (map never_of plan.nevers) (up_to_nevers plan []) (tokens_of d line (flat_map (never_line plan) plan.nevers ++ rest)) plan rest
+  nevers_said : (v : _) → v ≡ the (version_of (codes "2")) refl → (line : ℕ) (rest : List ℕ) → ItemsUpTo d (SpellsItems v) (map never_of plan.nevers) (up_to_nevers plan []) (tokens_of d line (flat_map (never_line plan) plan.nevers ++ rest)) plan rest
   nevers_said v two line rest =
       items_from d v never_of (never_line plan) (up_to_nevers plan) plan.nevers
       (λ before x after e. never_fits plan limits before x after e)
@@ -73,12 +72,12 @@ module _ (plan : Contents) (limits : IsWithinLimits plan) (d : Alphabet) (steady
       [] plan.nevers refl line rest
 
   -- the first version has none
-  no_nevers : (v : Version) → plan.nevers ≡ [] → (line : ℕ) (rest : List ℕ) → ItemsUpTo d v (map never_of plan.nevers) (up_to_nevers plan []) (tokens_of d line (flat_map (never_line plan) plan.nevers ++ rest)) plan rest
+  no_nevers : (v : _) → plan.nevers ≡ [] → (line : ℕ) (rest : List ℕ) → ItemsUpTo d (SpellsItems v) (map never_of plan.nevers) (up_to_nevers plan []) (tokens_of d line (flat_map (never_line plan) plan.nevers ++ rest)) plan rest
   no_nevers v none line rest =
       (line, subst (λ ns. SpellsItems v (map never_of ns) (up_to_nevers plan []) (tokens_of d line (flat_map (never_line plan) ns ++ rest)) (up_to_nevers plan ns) (tokens_of d line rest)) (sym none) (refl, refl))
 
-  items_said : (v : Version) (nevers : (line : ℕ) (rest : List ℕ) → ItemsUpTo d v (map never_of plan.nevers) (up_to_nevers plan []) (tokens_of d line (flat_map (never_line plan) plan.nevers ++ rest)) plan rest)
-      → (line : ℕ) → (items : List Item) × ItemsUpTo d v items empty (tokens_of d line (flat_map message_line plan.messages ++ (flat_map (controller_line plan) plan.controllers ++ (flat_map interrupt_line plan.interrupts ++ flat_map (never_line plan) plan.nevers)))) plan []
+  items_said : (v : _) (nevers : (line : ℕ) (rest : List ℕ) → ItemsUpTo d (SpellsItems v) (map never_of plan.nevers) (up_to_nevers plan []) (tokens_of d line (flat_map (never_line plan) plan.nevers ++ rest)) plan rest)
+      → (line : ℕ) → (items : List Item) × ItemsUpTo d (SpellsItems v) items empty (tokens_of d line (flat_map message_line plan.messages ++ (flat_map (controller_line plan) plan.controllers ++ (flat_map interrupt_line plan.interrupts ++ flat_map (never_line plan) plan.nevers)))) plan []
   items_said v nevers line =
       let n : List ℕ = flat_map (never_line plan) plan.nevers in
       let i : List ℕ = flat_map interrupt_line plan.interrupts ++ n in
@@ -110,11 +109,11 @@ module _ (plan : Contents) (limits : IsWithinLimits plan) (d : Alphabet) (steady
       )
 
 -- the first line
-begins_one : (rest : List ℕ) → Begins (codes "plan 1\n" ++ rest) One (tokens_of no_dots 2 rest)
+begins_one : (rest : List ℕ) → Begins (codes "plan 1\n" ++ rest) (the (version_of (codes "1")) refl) (tokens_of no_dots 2 rest)
 unfolding tokens_of token_of_word lexemes_of
 begins_one rest = (tokens_of no_dots 1 (codes " 1\n" ++ rest), (1, refl), (1, refl))
 
-begins_two : (rest : List ℕ) → Begins (codes "plan 2\n" ++ rest) Two (tokens_of (dots_after 0) 2 rest)
+begins_two : (rest : List ℕ) → Begins (codes "plan 2\n" ++ rest) (the (version_of (codes "2")) refl) (tokens_of (dots_after 0) 2 rest)
 unfolding tokens_of token_of_word lexemes_of
 begins_two rest = (tokens_of (dots_after 1) 1 (codes " 2\n" ++ rest), (1, refl), (1, refl))
 
@@ -127,24 +126,26 @@ unfolding plan_text
 spelled_by plan true second limits =
     let rest : List ℕ = flat_map message_line plan.messages ++ (flat_map (controller_line plan) plan.controllers ++ (flat_map interrupt_line plan.interrupts ++ flat_map (never_line plan) plan.nevers)) in
     let d = dots_after 0 in
-    let items = items_said plan limits d refl (λ h. refl) Two (nevers_said plan limits d refl (λ h. refl) Two refl) 2 in
+    let two = the (version_of (codes "2")) refl in
+    let items = items_said plan limits d refl (λ h. refl) two (nevers_said plan limits d refl (λ h. refl) two refl) 2 in
     let whole : plan_text plan ≡ codes "plan 2\n" ++ rest = ap (λ b. (if b then codes "plan 2\n" else codes "plan 1\n") ++ rest) second in
     subst (λ text. Spells text plan) (sym whole) (record {
-      version = Two;
+      version = two;
       line = items.1.0;
-      whole = record { items = items.0; start = tokens_of d 2 rest; begins = begins_two rest; spelled = subst (λ t. SpellsItems Two items.0 empty (tokens_of d 2 rest) plan t) (ends_here d items.1.0 [] refl) items.1.1 };
+      whole = record { items = items.0; start = tokens_of d 2 rest; begins = begins_two rest; spelled = subst (λ t. SpellsItems two items.0 empty (tokens_of d 2 rest) plan t) (ends_here d items.1.0 [] refl) items.1.1 };
     })
 spelled_by plan false second limits =
     let rest : List ℕ = flat_map message_line plan.messages ++ (flat_map (controller_line plan) plan.controllers ++ (flat_map interrupt_line plan.interrupts ++ flat_map (never_line plan) plan.nevers)) in
     let d = no_dots in
+    let first = the (version_of (codes "1")) refl in
     let neither = or_parts (nat_lt 0 (length plan.nevers)) (list_any (λ m. frame_has_range m.1) plan.messages) second in
     let ranges : list_any (λ m. frame_has_range m.1) plan.messages ≡ true → letters d ≡ Dots = λ h. absurd (true≢false (sym h ∙ neither.1)) in
-    let items = items_said plan limits d refl ranges One (no_nevers plan limits d refl ranges One (none_from_length plan.nevers neither.0)) 2 in
+    let items = items_said plan limits d refl ranges first (no_nevers plan limits d refl ranges first (none_from_length plan.nevers neither.0)) 2 in
     let whole : plan_text plan ≡ codes "plan 1\n" ++ rest = ap (λ b. (if b then codes "plan 2\n" else codes "plan 1\n") ++ rest) second in
     subst (λ text. Spells text plan) (sym whole) (record {
-      version = One;
+      version = first;
       line = items.1.0;
-      whole = record { items = items.0; start = tokens_of d 2 rest; begins = begins_one rest; spelled = subst (λ t. SpellsItems One items.0 empty (tokens_of d 2 rest) plan t) (ends_here d items.1.0 [] refl) items.1.1 };
+      whole = record { items = items.0; start = tokens_of d 2 rest; begins = begins_one rest; spelled = subst (λ t. SpellsItems first items.0 empty (tokens_of d 2 rest) plan t) (ends_here d items.1.0 [] refl) items.1.1 };
     })
 
 pub spelled : (plan : Contents) → IsWithinLimits plan → Spells (plan_text plan) plan
