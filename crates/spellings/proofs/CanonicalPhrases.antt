@@ -144,6 +144,7 @@ module _ (d : Alphabet) (steady : later d ≡ d) where
   -- where dots are parts of words if there is a range
   mutual
     unfolding token_of_word
+
     said_frame : (f : FrameTree) → (frame_has_range f ≡ true → letters d ≡ Dots) → Said d (frame_words f) (SpellsFrame f)
     said_frame (write address acked refused) needs =
         said_then said_write (said_then (said_address address) (said_then (said_payload acked (λ h. needs (or_left _ (tail_has_range refused) h))) (said_then said_else (said_tail refused (λ h. needs (or_right (payload_has_range acked) _ h))))))
