@@ -9,12 +9,10 @@ use diagnostics::{Diagnostic, diagnose_check};
 use given_plans::GivenPlan;
 use hints::Named;
 use lint::{Oddity, oddities};
-use origins::Origins;
 use plan_core::Plan;
-use plan_text::PlanError;
 use plan_words::{BriefFiles, PlanWords};
 use report::{Checked, NoGate, RunError, Watched, check_found};
-use run_ends::{Halt, NamedSources, RefusedSource, Sources};
+use run_ends::{Halt, NamedSources, Sources};
 use std::alloc::{AllocError, Global};
 use std::thread::Threads;
 
@@ -91,29 +89,15 @@ pub(crate) fn wrong_in<R: Threads + Sync>(
     let mut texts = texts_of(alloc, parts, names.as_slice())?;
     match texts.find(alloc) {
         Ok(given) => wrong_in_plan(rt, alloc, given, &texts),
-        Err(halt) => wrong_in_text(alloc, halt, &texts),
+        Err(Halt::Text(RunError::Plan(error), Some(source))) => {
+            let diagnostic = source.diagnose(alloc, error, named(&texts))?;
+            Ok(Found {
+                all: vec![in alloc; diagnostic]?,
+                is_plan: false,
+            })
+        }
+        Err(_) => Err(AllocError),
     }
-}
-
-// A text is refused, or an allocation failed.
-fn wrong_in_text(alloc: Global, halt: Halt, texts: &Texts<'_>) -> Result<Found, AllocError> {
-    match halt {
-        Halt::Text(RunError::Plan(error), Some(source)) => refused(alloc, error, &source, texts),
-        _ => Err(AllocError),
-    }
-}
-
-fn refused(
-    alloc: Global,
-    error: PlanError,
-    source: &RefusedSource,
-    texts: &Texts<'_>,
-) -> Result<Found, AllocError> {
-    let diagnostic = source.diagnose(alloc, error, named(texts))?;
-    Ok(Found {
-        all: vec![in alloc; diagnostic]?,
-        is_plan: false,
-    })
 }
 
 fn named<'a>(texts: &Texts<'a>) -> NamedSources<'a> {
@@ -136,22 +120,11 @@ fn wrong_in_plan<R: Threads + Sync>(
 ) -> Result<Found, AllocError> {
     let GivenPlan { plan, origins } = given;
     let checked = checked(rt, alloc, plan)?;
-    wrong_by(alloc, &checked, &origins, texts)
-}
-
-fn wrong_by(
-    alloc: Global,
-    checked: &Checked,
-    origins: &Option<Origins>,
-    texts: &Texts<'_>,
-) -> Result<Found, AllocError>
-    requires { AreFaults (plan_contents checked.now.plan) (fault_list checked.now.faults) }
-{
-    let words = texts.words(&checked.plan, origins);
-    let odd = oddities(alloc, &checked.plan, origins, texts.texts.as_slice())?;
+    let words = texts.words(&checked.plan, &origins);
+    let odd = oddities(alloc, &checked.plan, &origins, texts.texts.as_slice())?;
     wrong_in_checked(
         alloc,
-        checked,
+        &checked,
         words,
         odd.as_slice(),
         texts.texts.as_slice(),

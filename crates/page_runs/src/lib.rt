@@ -7,11 +7,10 @@ ghost use Rattle.verdicts.specs.Faults.{AreFaults, fault_list};
 
 use bus_rows::Paint;
 use capture_check::{Rises, Transaction};
-use decoding::{Ending, ExplainedSink, Explaining};
-use dump_tokens::{Bus, Quiet};
+use decoding::{ExplainedSink, Explaining};
+use dump_tokens::Bus;
 use given_plans::GivenPlan;
 use order::{order_of, order_report};
-use origins::Origins;
 use page::{Page, Recording, Texts, page_of};
 use plan_core::Plan;
 use plan_words::PlanWords;
@@ -21,7 +20,7 @@ use report::{
 };
 use run_ends::{Ended, Halt, Recorded, Remark, Sources, halted, open_dump};
 use run_parts::write_lines;
-use signals::{Dump, RecordedLines, Recorder};
+use signals::{Dump, Recorder};
 use spellings::print_plan;
 use std::alloc::Global;
 use std::str;
@@ -36,19 +35,8 @@ pub fn write_page_alone<R: AllocGlobal + Threads + Sync, I: Input, O: Output>(
     out: &mut O,
 ) -> Result<Ended, Halt> {
     let GivenPlan { plan, origins } = plans.find(rt.alloc())?;
-    page_alone(rt, title, plan, &origins, plans, out)
-}
-
-fn page_alone<R: AllocGlobal + Threads + Sync, I: Input, O: Output>(
-    rt: &R,
-    title: &str,
-    plan: Plan,
-    origins: &Option<Origins>,
-    plans: &Sources<'_, I>,
-    out: &mut O,
-) -> Result<Ended, Halt> {
     let checked = check_found(rt, rt.alloc(), plan, 1, &NoGate)?;
-    let words = plans.words(&checked.plan, origins);
+    let words = plans.words(&checked.plan, &origins);
     write_page(rt.alloc(), title, &checked, words, None, out)?;
     Ok(Ended::quietly(status_of(checked.faults.is_safe())))
 }
@@ -63,55 +51,20 @@ pub fn write_page_with<R: AllocGlobal + Threads + Sync, I: Input, J: Input, O: O
     bus: Bus<'_>,
 ) -> Result<Ended, Halt> {
     let GivenPlan { plan, origins } = plans.find(rt.alloc())?;
-    page_with(rt, title, plan, &origins, plans, vcd, out, bus)
-}
-
-fn page_with<R: AllocGlobal + Threads + Sync, I: Input, J: Input, O: Output>(
-    rt: &R,
-    title: &str,
-    plan: Plan,
-    origins: &Option<Origins>,
-    plans: &Sources<'_, I>,
-    vcd: &mut J,
-    out: &mut O,
-    bus: Bus<'_>,
-) -> Result<Ended, Halt> {
     let checked = check_found(rt, rt.alloc(), plan, 1, &NoGate)?;
-    let words = plans.words(&checked.plan, origins);
-    write_page_of(rt, title, &checked, words, vcd, out, bus)
-}
-
-fn write_page_of<R: AllocGlobal + Threads + Sync, J: Input, O: Output>(
-    rt: &R,
-    title: &str,
-    checked: &Checked,
-    words: PlanWords<'_>,
-    vcd: &mut J,
-    out: &mut O,
-    bus: Bus<'_>,
-) -> Result<Ended, Halt>
-    requires { AreFaults (plan_contents checked.now.plan) (fault_list checked.now.faults) }
-{
+    let words = plans.words(&checked.plan, &origins);
     let mut written = Watched::new(Vec::new(rt.alloc()));
-    let recorded = recording_of(rt, words, vcd, &mut written, bus)?;
+    let (recording, seen, rises) = recording_of(rt, words, vcd, &mut written, bus)?;
     let capture = written.into_inner();
-    let shown = Shown {
-        recording: &recorded.recording,
+    let capture = Shown {
+        recording: &recording,
         report: text_of(capture.as_slice()),
     };
-    write_page(rt.alloc(), title, checked, words, Some(shown), out)?;
+    write_page(rt.alloc(), title, &checked, words, Some(capture), out)?;
     Ok(Ended {
-        status: worse(status_of(checked.faults.is_safe()), recorded.status),
-        remark: Remark::Recording(Recorded::Other, recorded.rises),
+        status: worse(status_of(checked.faults.is_safe()), seen),
+        remark: Remark::Recording(Recorded::Other, rises),
     })
-}
-
-// What a dump shows, the status of a run with its explained report, and how often SCL rises.
-#[derive(Drop)]
-struct Seen {
-    recording: Recording,
-    status: Status,
-    rises: Rises,
 }
 
 // A capture, and its explained report.
@@ -121,19 +74,19 @@ struct Shown<'a> {
     report: &'a str,
 }
 
-// What a dump shows, with its explained report.
+// What a dump shows, with its explained report, the status of a run with that, and how often SCL rises.
 fn recording_of<R: AllocGlobal + Threads + Sync, J: Input, O: Output>(
     rt: &R,
     words: PlanWords<'_>,
     vcd: &mut J,
     report: &mut O,
     bus: Bus<'_>,
-) -> Result<Seen, Halt> {
+) -> Result<(Recording, Status, Rises), Halt> {
     let mut dump = open_dump(rt.alloc(), vcd, bus)?;
     let selection = Selection::new(bus.view, dump.scale());
     let recorder = Recorder::new(rt.alloc(), dump.scl(), dump.sda())?;
     match record(rt, words, &mut dump, report, selection, recorder) {
-        Ok(seen) => Ok(seen),
+        Ok(recorded) => Ok(recorded),
         Err(error) => Err(halted(dump, error)),
     }
 }
@@ -145,10 +98,11 @@ fn record<R: AllocGlobal + Threads + Sync, J: Input, O: Output>(
     report: &mut O,
     selection: Selection,
     mut recorder: Recorder,
-) -> Result<Seen, RunError> {
+) -> Result<(Recording, Status, Rises), RunError> {
     let alloc = rt.alloc();
+    let lines = CaptureLines::new(alloc, words, selection, LAYOUT, report)?;
     let both = Both {
-        lines: CaptureLines::new(alloc, words, selection, LAYOUT, report)?,
+        lines,
         recording: Recording::new(alloc, selection),
     };
     let mut explaining = Explaining {
@@ -157,51 +111,31 @@ fn record<R: AllocGlobal + Threads + Sync, J: Input, O: Output>(
         plan: words.plan(),
         sink: both,
     };
-    match dump.decode_with(alloc, &mut explaining, &mut recorder) {
-        Ok(ending) => finish(alloc, explaining.sink, recorder, dump.quiet(), ending),
-        Err(error) => Err(error),
-    }
+    let ended = dump.decode_with(alloc, &mut explaining, &mut recorder);
+    let Explaining { sink, .. } = explaining;
+    let Both {
+        lines,
+        mut recording,
+    } = sink;
+    let ending = ended?;
+    let selection = lines.finish(dump.quiet(), ending)?;
+    put_lines(alloc, &mut recording, recorder, dump.quiet().least)?;
+    Ok((recording, selection.status(), ending.rises))
 }
 
-// The last lines of the report, and the two lines of the bus beside the transactions.
-fn finish<O: Output>(
-    alloc: Global,
-    both: Both<'_, '_, O>,
-    recorder: Recorder,
-    quiet: Quiet,
-    ending: Ending,
-) -> Result<Seen, RunError> {
-    let Both { lines, recording } = both;
-    let selection = lines.finish(quiet, ending)?;
-    Ok(Seen {
-        recording: with_lines(alloc, recording, recorder.finish()?, quiet.least)?,
-        status: selection.status(),
-        rises: ending.rises,
-    })
-}
-
-// The same with the two lines, also without what is shorter than this.
-fn with_lines(
-    alloc: Global,
-    mut recording: Recording,
-    recorded: RecordedLines,
-    least: u64,
-) -> Result<Recording, RunError> {
-    put_lines(alloc, &mut recording, &recorded, least)?;
-    Ok(recording)
-}
-
+// Puts the two lines beside the transactions, also without what is shorter than this.
 fn put_lines(
     alloc: Global,
     recording: &mut Recording,
-    recorded: &RecordedLines,
+    recorder: Recorder,
     least: u64,
 ) -> Result<(), RunError> {
+    let recorded = recorder.finish()?;
     if least == 0 {
-        recording.put_lines(recorded, None)?;
+        recording.put_lines(&recorded, None)?;
     } else {
         let lasting = recorded.lasting(alloc, least)?;
-        recording.put_lines(recorded, Some(&lasting))?;
+        recording.put_lines(&recorded, Some(&lasting))?;
     }
     Ok(())
 }
