@@ -264,6 +264,13 @@ hint:   byte spare 0x09 ;  device eeprom 0x50 ;
 hint:                             ^^^^^^
 hint: an earlier device has this name, on line 2 of "devices.brief"'
 run "a name that an earlier file has" check devices.brief --with second.brief --hints always
+want 2 "" 'refused P7 line 2 of devices.brief
+hint: line 2 of the brief "devices.brief":
+hint:   device eeprom 0x50 ;  device sensor 0x48 ;
+hint:          ^^^^^^
+hint: an earlier device has this name, on line 2 of "devices.brief"
+hint: both files have the same text: one of the two is enough'
+run "a file that is given twice" check devices.brief --with bmc.brief --with devices.brief --hints always
 lines second.brief "brief 1" "byte spare 0x09 ;" "byte spare 0x0A ;"
 want 2 "" 'refused P7 line 3 of second.brief
 hint: line 3 of the brief "second.brief":

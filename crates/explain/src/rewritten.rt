@@ -1,10 +1,11 @@
 // Messages of a brief that could be written as one family: their names are alike but for a number, and each writes one byte more
 // than the one before it.
 
+use brief_tokens::is_brief_word;
 use bus_rows::{begin, say_all};
 use growing_text::{Lines, Text};
 use message_tree::{Address, Bit, Frame, Pattern, Payload, Tail};
-use plan_core::Plan;
+use plan_core::{Name, NameError, Plan};
 use plan_words::PlanWords;
 use remedies::{both_of, controller_of, name_of, stem_of};
 use std::alloc::{AllocError, Global};
@@ -234,7 +235,7 @@ fn tell_run(
     faults: &Faults,
     run: Run,
 ) -> Result<bool, AllocError> {
-    let Some(family) = family_of(words.plan(), run) else {
+    let Some(family) = family_of(alloc, words.plan(), run)? else {
         return Ok(false);
     };
     let between = between_of(alloc, words, faults, run)?;
@@ -254,42 +255,29 @@ fn tell_run(
 }
 
 // The name of the family, where no message has it, nor one that the family would make.
-fn family_of(plan: &Plan, run: Run) -> Option<&str> {
-    let stem = stem_of(name_of(plan, run.first))?;
-    let family = match stem.strip_suffix("_") {
-        Some(family) => family,
-        None => stem,
+fn family_of(alloc: Global, plan: &Plan, run: Run) -> Result<Option<&str>, AllocError> {
+    let Some(stem) = stem_of(name_of(plan, run.first)) else {
+        return Ok(None);
     };
-    if NAME < family.len() || is_word(family) {
-        return None;
+    let family = stem.strip_suffix("_").unwrap_or(stem);
+    if NAME < family.len() || !is_name(alloc, family)? {
+        return Ok(None);
     }
     for k in 0..plan.messages() {
         if !run.has(k) && is_made_by(name_of(plan, k), family) {
-            return None;
+            return Ok(None);
         }
     }
-    Some(family)
+    Ok(Some(family))
 }
 
-// What is no name in a brief.
-fn is_word(name: &str) -> bool {
-    matches!(
-        name,
-        "" | "plan"
-            | "message"
-            | "controller"
-            | "interrupt"
-            | "never"
-            | "write"
-            | "read"
-            | "stop"
-            | "again"
-            | "else"
-            | "brief"
-            | "device"
-            | "byte"
-            | "any"
-    )
+// Whether a brief can have this name.
+fn is_name(alloc: Global, name: &str) -> Result<bool, AllocError> {
+    match Name::new(alloc, name) {
+        Ok(_) => Ok(!is_brief_word(name)),
+        Err(NameError::BadName) => Ok(false),
+        Err(NameError::NoMemory) => Err(AllocError),
+    }
 }
 
 // Whether this is the name of the family, or could be that of one of its messages.

@@ -207,6 +207,20 @@ fn push_stands(alloc: Global, lines: &mut Lines, refused: &RefusedIn<'_>, stands
         push_place(alloc, lines, refused, stand);
     }
     lines.end();
+    if is_in_a_copy(refused, stands) {
+        lines.say("both files have the same text: one of the two is enough");
+    }
+}
+
+// Whether it stands in an earlier brief that has the same text.
+fn is_in_a_copy(refused: &RefusedIn<'_>, stands: Stands) -> bool {
+    match stands.stand() {
+        Some(stand) => match refused.earlier.get(stand.file as usize) {
+            Some(brief) => brief.text == refused.text,
+            None => false,
+        },
+        None => false,
+    }
 }
 
 // A place in a sentence: the line, and the file where that is another one than that of the refused text.

@@ -4,9 +4,8 @@
 ghost use Rattle.std.specs.Prelude.{◌<◌, All, length};
 ghost use Rattle.plan_core.specs.PlanContents.{plan_contents};
 
-use crate::writing::{
-    Run, address, count, end, end_run, interrupts, message, nevers, pattern, with_byte, word,
-};
+use crate::items::{count, end, nevers, word};
+use crate::writing::{Run, address, end_run, interrupts, message, pattern, with_byte};
 use brief_text::{Lengths, member_text};
 use brief_tokens::is_brief_word;
 use message_tree::{Address, Count, Frame, Pattern, Payload, Tail};

@@ -2,11 +2,12 @@
 //! the runs of `print`, `expand` and `brief` do so over any readers and writers.
 //!
 //! `print` writes the canonical spelling. `writing` writes the items of a brief, `families` those of messages that it says
-//! as one. `laws` says that the canonical spelling of a plan is one of its spellings, and that what `writing` writes for a
-//! plan means it. `runs` reads, and writes the canonical spelling or the brief.
+//! as one, `items` those that are alike in both. `laws` says that the canonical spelling of a plan is one of its spellings,
+//! and that what `writing` writes for a plan means it. `runs` reads, and writes the canonical spelling or the brief.
 #![tactic(auto)]
 
 mod families;
+mod items;
 pub mod laws;
 pub mod print;
 pub mod runs;

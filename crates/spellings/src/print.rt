@@ -1,19 +1,18 @@
 // The canonical spelling of a plan.
 
-ghost use Rattle.std.specs.Prelude.{◌≡◌, ◌<◌, ◌∷◌, ◌++◌, [], length, map, codes, All, IfOk, OnOk, string_bytes};
+ghost use Rattle.std.specs.Prelude.{◌≡◌, ◌∷◌, ◌++◌, [], IfOk, OnOk, string_bytes};
 ghost use Rattle.std.specs.List.{list_any, flat_map};
 ghost use Rattle.message_tree.specs.Trees.{frame_tree, payload_tree, tail_tree};
-ghost use Rattle.plan_core.specs.Labels.{name_at};
 ghost use Rattle.plan_core.specs.PlanContents.{plan_contents};
 ghost use Rattle.plan_text.specs.Symbols.{address_word, pattern_word};
-ghost use Rattle.spellings.specs.Canonical.{Adds, count_word, frame_words, payload_words};
-ghost use Rattle.plan_text.specs.Symbols.{bit_symbol};
+ghost use Rattle.spellings.specs.Canonical.{Adds, frame_words, payload_words};
 ghost use Rattle.spellings.specs.Canonical.{tail_words, frame_has_range, payload_has_range, tail_has_range};
-ghost use Rattle.spellings.specs.Canonical.{item_line, message_line, controller_line, interrupt_line, never_line};
+ghost use Rattle.spellings.specs.Canonical.{message_line, interrupt_line};
 ghost use Rattle.spellings.specs.Canonical.{version_line, plan_text};
 ghost use Rattle.plan_text.specs.Grammar.{Spells};
 
-use message_tree::{Address, Bit, Count, Frame, Pattern, Payload, Tail};
+use crate::items::{controllers, count, end, nevers, symbol, word};
+use message_tree::{Address, Frame, Pattern, Payload, Tail};
 use plan_core::Plan;
 use std::alloc::{AllocError, Global};
 
@@ -84,40 +83,6 @@ fn message(text: &mut String, name: &str, it: &Frame) -> Result<(), AllocError>
     end(text)
 }
 
-fn controllers(text: &mut String, plan: &Plan) -> Result<(), AllocError>
-    ensures { OnOk result (string_bytes text.new ≡ string_bytes text.old ++
-        flat_map (controller_line (plan_contents plan.now)) (plan_contents plan.now).controllers) }
-{
-    for k in 0..plan.controllers() {
-        let name = plan.controller_name(k).as_str();
-        controller(text, plan, name, plan.controller_messages(k))?;
-    }
-    Ok(())
-}
-
-fn controller(text: &mut String, plan: &Plan, name: &str, sends: &[u32]) -> Result<(), AllocError>
-    requires { All (λ m. m < length (plan_contents plan.now).messages) sends.now }
-    ensures { OnOk result (string_bytes text.new ≡ string_bytes text.old ++
-        controller_line (plan_contents plan.now) (name.now, sends.now)) }
-{
-    text.push_str("controller")?;
-    word(text, name)?;
-    message_names(text, plan, sends)?;
-    end(text)
-}
-
-// The names of the messages with these numbers.
-fn message_names(text: &mut String, plan: &Plan, numbers: &[u32]) -> Result<(), AllocError>
-    requires { All (λ m. m < length (plan_contents plan.now).messages) numbers.now }
-    ensures { OnOk result (Adds (string_bytes text.old) (string_bytes text.new)
-        (map (name_at (plan_contents plan.now).messages) numbers.now)) }
-{
-    for message in numbers {
-        word(text, plan.message_name(*message).as_str())?;
-    }
-    Ok(())
-}
-
 fn interrupts(text: &mut String, plan: &Plan) -> Result<(), AllocError>
     ensures { OnOk result (string_bytes text.new ≡ string_bytes text.old ++
         flat_map interrupt_line (plan_contents plan.now).interrupts) }
@@ -135,28 +100,6 @@ fn interrupt(text: &mut String, name: &str, target: u8) -> Result<(), AllocError
     text.push_str("interrupt")?;
     word(text, name)?;
     address(text, &Address::new(0x7f, target))?;
-    end(text)
-}
-
-fn nevers(text: &mut String, plan: &Plan) -> Result<(), AllocError>
-    ensures { OnOk result (string_bytes text.new ≡ string_bytes text.old ++
-        flat_map (never_line (plan_contents plan.now)) (plan_contents plan.now).nevers) }
-{
-    for k in 0..plan.nevers() {
-        let (first, second) = plan.never(k);
-        let first = plan.controller_name(first).as_str();
-        never(text, first, plan.controller_name(second).as_str())?;
-    }
-    Ok(())
-}
-
-fn never(text: &mut String, first: &str, second: &str) -> Result<(), AllocError>
-    ensures { OnOk result (string_bytes text.new ≡ string_bytes text.old ++
-        item_line (codes "never") (first.now ∷ (second.now ∷ []))) }
-{
-    text.push_str("never")?;
-    word(text, first)?;
-    word(text, second)?;
     end(text)
 }
 
@@ -259,21 +202,6 @@ fn tail_has_range(it: &Tail) -> bool
     }
 }
 
-// A space, and the word.
-fn word(text: &mut String, it: &str) -> Result<(), AllocError>
-    ensures { OnOk result (Adds (string_bytes text.old) (string_bytes text.new) (it.now ∷ [])) }
-{
-    text.push(' ')?;
-    text.push_str(it)
-}
-
-// The end of an item.
-fn end(text: &mut String) -> Result<(), AllocError>
-    ensures { OnOk result (string_bytes text.new ≡ string_bytes text.old ++ codes " ;\n") }
-{
-    text.push_str(" ;\n")
-}
-
 fn address(text: &mut String, it: &Address) -> Result<(), AllocError>
     ensures { OnOk result (Adds (string_bytes text.old) (string_bytes text.new) (address_word it.now ∷ [])) }
 {
@@ -292,26 +220,4 @@ fn pattern(text: &mut String, it: &Pattern) -> Result<(), AllocError>
         text.push(symbol(it.bit(k)))?;
     }
     Ok(())
-}
-
-fn symbol(bit: Bit) -> char
-    ensures { result ≡ bit_symbol bit }
-{
-    match bit {
-        Bit::Zero => '0',
-        Bit::One => '1',
-        Bit::Either => 'x',
-    }
-}
-
-// One number, or the least and the greatest around `..`.
-fn count(text: &mut String, it: &Count) -> Result<(), AllocError>
-    ensures { OnOk result (Adds (string_bytes text.old) (string_bytes text.new) (count_word it.now ∷ [])) }
-{
-    let (least, greatest) = (it.least(), it.greatest());
-    if least == greatest {
-        write!(text, " {least}")
-    } else {
-        write!(text, " {least}..{greatest}")
-    }
 }

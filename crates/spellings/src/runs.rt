@@ -40,8 +40,7 @@ pub fn run_print<I: Input, O: Output>(
 {
     let text = read_within(alloc, plan, READS)?;
     let plan = read_plan(alloc, text.as_slice())?;
-    let report = print_plan(alloc, &plan)?;
-    write_lines(out, report.as_slice(), Status::Good)
+    print_found(alloc, &plan, out)
 }
 
 /// The same of a plan that was found.
@@ -80,8 +79,7 @@ pub fn run_expand<I: Input, O: Output>(
 {
     let text = read_within(alloc, brief, READS)?;
     let plan = expand_brief(alloc, text.as_slice())?;
-    let report = print_plan(alloc, &plan)?;
-    write_lines(out, report.as_slice(), Status::Good)
+    print_found(alloc, &plan, out)
 }
 
 /// Writes a brief of the plan that the reader gives. Expanded, it means the same plan. The status is `Good`.

@@ -1,17 +1,16 @@
 // A brief of a plan.
 
-ghost use Rattle.std.specs.Prelude.{◌≡◌, ◌<◌, ◌≤◌, ◌⊎◌, [], ◌∷◌, ◌++◌, All, IfOk, IfErr, IfSome, OnOk, length, map};
+ghost use Rattle.std.specs.Prelude.{◌≡◌, ◌<◌, ◌≤◌, ◌⊎◌, [], ◌∷◌, ◌++◌, IfOk, IfErr, IfSome, OnOk, length, map};
 ghost use Rattle.std.specs.Prelude.{codes, string_bytes, true, false, is_some};
 ghost use Rattle.std.specs.List.{find, flat_map, list_all};
 ghost use Rattle.std.specs.Map.{keys_of};
 ghost use Rattle.std.specs.Option.{option_map};
 ghost use Rattle.message_tree.specs.Patterns.{address_bits, pattern_bits};
 ghost use Rattle.message_tree.specs.Trees.{frame_tree, payload_tree, tail_tree};
-ghost use Rattle.plan_core.specs.Labels.{name_at};
 ghost use Rattle.plan_core.specs.NameBytes.{name_bytes};
 ghost use Rattle.plan_core.specs.PlanContents.{plan_contents};
 ghost use Rattle.plan_text.specs.Symbols.{bit_symbol};
-ghost use Rattle.spellings.specs.Canonical.{Adds, count_word, item_line, controller_line, never_line};
+ghost use Rattle.spellings.specs.Canonical.{Adds};
 ghost use Rattle.brief_text.specs.Briefs.{Means};
 ghost use Rattle.brief_tokens.specs.Names.{is_brief_word, has_brief_word, first_brief_word, LacksBrief};
 ghost use Rattle.spellings.specs.Runs.{run_of, run_before};
@@ -22,10 +21,11 @@ ghost use Rattle.brief_text.specs.Words.{known_number};
 ghost use Rattle.spellings.specs.Writing.{ended_by, with_byte};
 
 use crate::families::gathered;
+use crate::items::{controllers, count, end, nevers, symbol, word};
 use crate::print::print_plan;
 use brief_text::expand_brief;
 use brief_tokens::is_brief_word;
-use message_tree::{Address, Bit, Count, Frame, Pattern, Payload, Tail};
+use message_tree::{Address, Bit, Frame, Pattern, Payload, Tail};
 use plan_core::{Name, Plan};
 use plan_text::{NoBrief, PlanError};
 use std::alloc::{AllocError, Global};
@@ -152,40 +152,6 @@ pub(crate) fn message(text: &mut String, name: &str, it: &Frame) -> Result<(), A
     end(text)
 }
 
-fn controllers(text: &mut String, plan: &Plan) -> Result<(), AllocError>
-    ensures { OnOk result (string_bytes text.new ≡ string_bytes text.old ++
-        flat_map (controller_line (plan_contents plan.now)) (plan_contents plan.now).controllers) }
-{
-    for k in 0..plan.controllers() {
-        let name = plan.controller_name(k).as_str();
-        controller(text, plan, name, plan.controller_messages(k))?;
-    }
-    Ok(())
-}
-
-fn controller(text: &mut String, plan: &Plan, name: &str, sends: &[u32]) -> Result<(), AllocError>
-    requires { All (λ m. m < length (plan_contents plan.now).messages) sends.now }
-    ensures { OnOk result (string_bytes text.new ≡ string_bytes text.old ++
-        controller_line (plan_contents plan.now) (name.now, sends.now)) }
-{
-    text.push_str("controller")?;
-    word(text, name)?;
-    message_names(text, plan, sends)?;
-    end(text)
-}
-
-// The names of the messages with these numbers.
-fn message_names(text: &mut String, plan: &Plan, numbers: &[u32]) -> Result<(), AllocError>
-    requires { All (λ m. m < length (plan_contents plan.now).messages) numbers.now }
-    ensures { OnOk result (Adds (string_bytes text.old) (string_bytes text.new)
-        (map (name_at (plan_contents plan.now).messages) numbers.now)) }
-{
-    for message in numbers {
-        word(text, plan.message_name(*message).as_str())?;
-    }
-    Ok(())
-}
-
 pub(crate) fn interrupts(text: &mut String, plan: &Plan) -> Result<(), AllocError>
     ensures { OnOk result (string_bytes text.new ≡ string_bytes text.old ++
         flat_map interrupt_line (plan_contents plan.now).interrupts) }
@@ -203,28 +169,6 @@ fn interrupt(text: &mut String, name: &str, target: u8) -> Result<(), AllocError
     text.push_str("interrupt")?;
     word(text, name)?;
     address(text, &Address::new(0x7f, target))?;
-    end(text)
-}
-
-pub(crate) fn nevers(text: &mut String, plan: &Plan) -> Result<(), AllocError>
-    ensures { OnOk result (string_bytes text.new ≡ string_bytes text.old ++
-        flat_map (never_line (plan_contents plan.now)) (plan_contents plan.now).nevers) }
-{
-    for k in 0..plan.nevers() {
-        let (first, second) = plan.never(k);
-        let first = plan.controller_name(first).as_str();
-        never(text, first, plan.controller_name(second).as_str())?;
-    }
-    Ok(())
-}
-
-fn never(text: &mut String, first: &str, second: &str) -> Result<(), AllocError>
-    ensures { OnOk result (string_bytes text.new ≡ string_bytes text.old ++
-        item_line (codes "never") (first.now ∷ (second.now ∷ []))) }
-{
-    text.push_str("never")?;
-    word(text, first)?;
-    word(text, second)?;
     end(text)
 }
 
@@ -367,21 +311,6 @@ fn repeated(text: &mut String, run: Run) -> Result<(), AllocError>
     }
 }
 
-// A space, and the word.
-pub(crate) fn word(text: &mut String, it: &str) -> Result<(), AllocError>
-    ensures { OnOk result (Adds (string_bytes text.old) (string_bytes text.new) (it.now ∷ [])) }
-{
-    text.push(' ')?;
-    text.push_str(it)
-}
-
-// The end of an item.
-pub(crate) fn end(text: &mut String) -> Result<(), AllocError>
-    ensures { OnOk result (string_bytes text.new ≡ string_bytes text.old ++ codes " ;\n") }
-{
-    text.push_str(" ;\n")
-}
-
 pub(crate) fn pattern(text: &mut String, it: &Pattern) -> Result<(), AllocError>
     ensures { OnOk result (Adds (string_bytes text.old) (string_bytes text.new) (data_word it.now ∷ [])) }
 {
@@ -519,27 +448,5 @@ fn hex_symbol(value: u8) -> char
         (b'0' + value) as char
     } else {
         (b'A' + (value - 10)) as char
-    }
-}
-
-fn symbol(bit: Bit) -> char
-    ensures { result ≡ bit_symbol bit }
-{
-    match bit {
-        Bit::Zero => '0',
-        Bit::One => '1',
-        Bit::Either => 'x',
-    }
-}
-
-// One number, or the least and the greatest around `..`.
-pub(crate) fn count(text: &mut String, it: &Count) -> Result<(), AllocError>
-    ensures { OnOk result (Adds (string_bytes text.old) (string_bytes text.new) (count_word it.now ∷ [])) }
-{
-    let (least, greatest) = (it.least(), it.greatest());
-    if least == greatest {
-        write!(text, " {least}")
-    } else {
-        write!(text, " {least}..{greatest}")
     }
 }

@@ -1,14 +1,13 @@
 use Rattle.std.proofs.Common.{◌∙◌, refl, subst, ℕ, List}
+use Rattle.plan_core.proofs.PlanLemmas.{limits_of}
 use Rattle.plan_core.specs.PlanContents.{plan_contents}
 use Rattle.spellings.specs.Spellings.{Printed}
 use Rattle.run_parts.specs.PlanTexts.{RefusesPlan}
 use Rattle.run_parts.specs.Runs.{ReadsText, HaltsAtText, unread, refused}
 use Rattle.run_parts.specs.RunErrors.{run_error}
-use Rattle.run_parts.specs.declared.errors.RunError.TheVariants as error
-use Rattle.run_parts.specs.declared.runs.Status.TheVariants as status
-use Rattle.spellings.proofs.SpellingLemmas.{prints}
+use Rattle.spellings.proofs.SpellingLemmas.{prints, found_stops}
 use Rattle.run_parts.proofs.PlanTextLemmas.{refuses_plan}
-use Rattle.run_parts.proofs.RunLemmas.{halting_stops, writing_reports, writing_stops}
+use Rattle.run_parts.proofs.RunLemmas.{halting_stops, writing_reports}
 use Rattle.spellings.proofs.runs.run_print.Goals as goal
 
 pub returns-in_err-text-clause-stops : goal.returns-in_err-text-clause-stops
@@ -23,21 +22,16 @@ returns-in_err-plan-clause-stops g c =
     let first = subst (λ (t : List ℕ). RefusesPlan t (run_error e)) c.as_slice.ensures.value (refuses_plan c.as_slice.result.now e c.in_err-plan.ensures.refused) in
     halting_stops (ReadsText reader) Printed g.O.Output.writer (HaltsAtText reader RefusesPlan) c.args.plan.now c.args.out.now _ c.from_residual-in_err-plan.result (run_error e) c.from_residual-in_err-plan.ensures.1 (refused c.in_ok-text.ensures.all first)
 
-pub returns-in_err-report-clause-stops : goal.returns-in_err-report-clause-stops
-returns-in_err-report-clause-stops g c =
-    let reader = g.I.Input.reader in
-    halting_stops (ReadsText reader) Printed g.O.Output.writer (HaltsAtText reader RefusesPlan) c.args.plan.now c.args.out.now _ c.from_residual-in_err-report.result error.NoMemory c.from_residual-in_err-report.ensures.1 (refused c.in_ok-text.ensures.all tt)
-
 pub returns-clause-report : goal.returns-clause-report
 returns-clause-report g c =
     let reader = g.I.Input.reader in
-    let it = c.in_ok-report.ensures in
-    let due = prints c.in_ok-text.text.items c.as_slice.result.now c.in_ok-report.report.items c.as_slice-2.result.now (plan_contents c.in_ok-plan.plan) c.as_slice.ensures.value c.as_slice-2.ensures.value c.in_ok-plan.ensures.spelled it.canonical it.read_back in
-    writing_reports (ReadsText reader) Printed g.O.Output.writer (HaltsAtText reader RefusesPlan) c.args.plan.now c.args.out.now _ _ c.in_ok-text.ensures.all _ _ due c.write_lines.new.out c.write_lines.result c.write_lines.ensures.status c.write_lines.ensures.all
+    let plan = plan_contents c.in_ok-plan.plan in
+    let due = prints c.in_ok-text.text.items c.as_slice.result.now plan (limits_of c.in_ok-plan.plan) c.as_slice.ensures.value c.in_ok-plan.ensures.spelled in
+    writing_reports (ReadsText reader) Printed g.O.Output.writer (HaltsAtText reader RefusesPlan) c.args.plan.now c.args.out.now _ _ c.in_ok-text.ensures.all _ _ due c.print_found.new.out c.print_found.result c.print_found.ensures.status c.print_found.ensures.written
 
 pub returns-clause-stops : goal.returns-clause-stops
 returns-clause-stops g c =
     let reader = g.I.Input.reader in
-    let it = c.in_ok-report.ensures in
-    let due = prints c.in_ok-text.text.items c.as_slice.result.now c.in_ok-report.report.items c.as_slice-2.result.now (plan_contents c.in_ok-plan.plan) c.as_slice.ensures.value c.as_slice-2.ensures.value c.in_ok-plan.ensures.spelled it.canonical it.read_back in
-    writing_stops (ReadsText reader) Printed g.O.Output.writer (HaltsAtText reader RefusesPlan) c.args.plan.now c.args.out.now _ _ c.in_ok-text.ensures.all _ _ due c.write_lines.new.out c.write_lines.result c.write_lines.ensures.stops
+    let plan = plan_contents c.in_ok-plan.plan in
+    let due = prints c.in_ok-text.text.items c.as_slice.result.now plan (limits_of c.in_ok-plan.plan) c.as_slice.ensures.value c.in_ok-plan.ensures.spelled in
+    found_stops (ReadsText reader) Printed g.O.Output.writer (HaltsAtText reader RefusesPlan) c.args.plan.now c.args.out.now _ _ c.in_ok-text.ensures.all _ _ due c.print_found.new.out c.print_found.result (refused c.in_ok-text.ensures.all tt) c.print_found.ensures.stops

@@ -5,7 +5,7 @@ use Rattle.plan_core.specs.Labels.{name_at}
 use Rattle.plan_core.specs.PlanContents.{plan_contents}
 use Rattle.spellings.specs.Canonical.{never_line, item_line}
 use Rattle.spellings.proofs.Adding.{line_more}
-use Rattle.spellings.proofs.print.nevers.Goals as goal
+use Rattle.spellings.proofs.items.nevers.Goals as goal
 
 pub loop-k-preserved : goal.loop-k-preserved
 loop-k-preserved c =

@@ -2,7 +2,7 @@ use Rattle.std.proofs.Common.{◌≡◌, ◌++◌, drop, string_bytes}
 use Rattle.std.specs.List.{flat_map}
 use Rattle.plan_core.specs.PlanContents.{plan_contents}
 use Rattle.spellings.specs.Canonical.{never_line}
-use Rattle.spellings.proofs.print.nevers.Given as goal
+use Rattle.spellings.proofs.items.nevers.Given as goal
 
 -- the lines so far and those of what is left are all lines
 abbrev pub invariant-loop-k : goal.invariant-loop-k

@@ -2,7 +2,7 @@ use Rattle.std.proofs.Common.{ap, sym, ◌∙◌, Some, ◌≡◌, arith, get_or
 use Rattle.std.specs.Map.{keys_of}
 use Rattle.plan_core.specs.PlanContents.{plan_contents}
 use Rattle.spellings.proofs.Adding.{names_more}
-use Rattle.spellings.proofs.print.message_names.Goals as goal
+use Rattle.spellings.proofs.items.message_names.Goals as goal
 
 pub loop-message-preserved : goal.loop-message-preserved
 loop-message-preserved c =

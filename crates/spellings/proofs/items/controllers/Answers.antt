@@ -3,7 +3,7 @@ use Rattle.std.specs.Map.{keys_of}
 use Rattle.plan_core.specs.PlanContents.{plan_contents}
 use Rattle.spellings.specs.Canonical.{controller_line}
 use Rattle.spellings.proofs.Adding.{entry_at, line_more}
-use Rattle.spellings.proofs.print.controllers.Goals as goal
+use Rattle.spellings.proofs.items.controllers.Goals as goal
 
 pub loop-k-preserved : goal.loop-k-preserved
 loop-k-preserved c =
