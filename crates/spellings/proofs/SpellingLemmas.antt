@@ -44,7 +44,7 @@ module _ {In Texts Out : Type 0} (Reads : Readings In Texts) (Due : DueReports T
   -- a run that writes what it found stops for want of memory, or as it writes
   pub found_stops : (r : Result Status RunError) → halts input error.NoMemory input_now → IfErr r (λ e. ((e ≡ error.NoMemory) × (output_now ≡ output)) ⊎ WritingStops writer output report e output_now) → IfErr r (λ e. Stops Reads Due writer halts input output e input_now output_now)
   found_stops (Ok it) halted h = tt
-  found_stops (Err e) halted (inl gone) = subst (λ o. Stops Reads Due writer halts input output e input_now o) (sym gone.2) (subst (λ x. Stops Reads Due writer halts input output x input_now output) (sym gone.1) (unwritten halted))
+  found_stops (Err e) halted (inl gone) = subst (λ o. Stops Reads Due writer halts input output e input_now o) (sym gone.1) (subst (λ x. Stops Reads Due writer halts input output x input_now output) (sym gone.0) (unwritten halted))
   found_stops (Err e) halted (inr h) = writing read due h
 
 pub abbreviates : (text slice report bytes : List ℕ) (plan : Contents) → slice ≡ text → bytes ≡ report → Spells slice plan → has_brief_word plan ≡ false → Means report plan → Abbreviated text bytes Good
