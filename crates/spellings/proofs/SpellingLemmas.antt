@@ -41,7 +41,7 @@ expands text slice plan limits same meant = record {
 }
 
 module _ {In Texts Out : Type 0} (Reads : Readings In Texts) (Due : DueReports Texts) (writer : Writer Out) (halts : Halts In) (input : In) (output : Out) (input_now : In) (texts : Texts) (read : Reads input texts input_now) (report : List ℕ) (status : Status) (due : Due texts report status) (output_now : Out) where
-  -- a run that writes what it found stops for want of memory, or as it writes
+  -- a run that ends as print_found stops out of memory with nothing written, or where the writer stops
   pub found_stops : (r : Result Status RunError) → halts input error.NoMemory input_now → IfErr r (λ e. ((e ≡ error.NoMemory) × (output_now ≡ output)) ⊎ WritingStops writer output report e output_now) → IfErr r (λ e. Stops Reads Due writer halts input output e input_now output_now)
   found_stops (Ok it) halted h = tt
   found_stops (Err e) halted (inl gone) = subst (λ o. Stops Reads Due writer halts input output e input_now o) (sym gone.1) (subst (λ x. Stops Reads Due writer halts input output x input_now output) (sym gone.0) (unwritten halted))
