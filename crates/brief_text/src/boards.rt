@@ -45,7 +45,6 @@ pub(crate) struct Never {
 }
 
 /// What the items of briefs make up so far.
-#[derive(Drop)]
 pub(crate) struct Board {
     pub(crate) alloc: Global,
     pub(crate) devices: Named<Address>,
@@ -73,8 +72,53 @@ pub(crate) struct Board {
     ghost few: { sendings ≤ MOST_SENDINGS },
 }
 
+// Written out, so that one call lets it go.
+impl Drop for Board {
+    fn drop(self) {
+        let Self {
+            alloc: _,
+            devices: _,
+            bytes: _,
+            builder: _,
+            messages: _,
+            families: _,
+            controllers: _,
+            sendings: _,
+            labels: _,
+            nevers: _,
+            spots: _,
+            interrupts: _,
+            file: _,
+            uses: _,
+        } = self;
+    }
+}
+
 impl Board {
     ghost use Rattle.brief_text.specs.Standing.{draft, said, side, sides};
+
+    /// The messages and the interrupts of the plan.
+    pub(crate) fn into_builder(self) -> Builder
+        ensures { builder_contents result ≡ (draft self).plan }
+    {
+        let Self {
+            alloc: _,
+            devices: _,
+            bytes: _,
+            builder,
+            messages: _,
+            families: _,
+            controllers: _,
+            sendings: _,
+            labels: _,
+            nevers: _,
+            spots: _,
+            interrupts: _,
+            file: _,
+            uses: _,
+        } = self;
+        builder
+    }
 
     /// No items.
     pub(crate) fn new(alloc: Global) -> Self

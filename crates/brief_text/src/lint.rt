@@ -10,11 +10,21 @@ use plan_core::Name;
 use std::alloc::{AllocError, Global};
 
 /// What is declared, in the order of the briefs.
-#[derive(Drop)]
 pub(crate) struct Uses {
     alloc: Global,
     devices: IndexMap<Name, Device>,
     bytes: IndexMap<Name, NamedByte>,
+}
+
+// Written out, so that one call lets it go.
+impl Drop for Uses {
+    fn drop(self) {
+        let Self {
+            alloc: _,
+            devices: _,
+            bytes: _,
+        } = self;
+    }
 }
 
 impl Uses {

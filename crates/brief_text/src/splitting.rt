@@ -51,7 +51,7 @@ impl Board {
         ensures { IfOk result (λ it. plan_contents it ≡ plan_meant (draft self)) }
     {
         let split = self.split()?;
-        planned(self.alloc, self.built(), &split)
+        planned(self.alloc, self.into_builder(), &split)
     }
 
     // What the items of the plan are split into.
@@ -62,13 +62,6 @@ impl Board {
         let parts = self.parts()?;
         let pairs = self.pairs_apart(parts.as_slice())?;
         Ok(Split { parts, pairs })
-    }
-
-    // The messages and the interrupts of the plan. (No `?` stands beside what is left of the board: its proof would be long.)
-    fn built(self) -> Builder
-        ensures { builder_contents result ≡ (draft self).plan }
-    {
-        self.builder
     }
 
     /// Where the controllers, the messages and the interrupts of the plan come from.

@@ -18,20 +18,41 @@ pub enum Rule {
 
 /// One of the two along the wire: its bytes up to the end of the one in which the wire ends, the slots in which it
 /// may send either bit, as first and last ones, and what it does next.
-#[derive(Drop)]
 pub struct Side {
     pub bytes: Bytes,
     pub open: Vec<(usize, usize)>,
     pub next: Offered,
 }
 
+// Written out, so that one call lets it go.
+impl Drop for Side {
+    fn drop(self) {
+        let Self {
+            bytes: _,
+            open: _,
+            next: _,
+        } = self;
+    }
+}
+
 /// Where the two of an unsafe pair meet: in this slot, after these bytes on the bus.
-#[derive(Drop)]
 pub struct Meeting {
     pub slot: usize,
     pub bus: Bytes,
     pub first: Side,
     pub second: Side,
+}
+
+// Written out, so that one call lets it go.
+impl Drop for Meeting {
+    fn drop(self) {
+        let Self {
+            slot: _,
+            bus: _,
+            first: _,
+            second: _,
+        } = self;
+    }
 }
 
 impl Meeting {

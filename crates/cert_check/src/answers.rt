@@ -30,12 +30,22 @@ pub struct Judged {
 }
 
 /// A plan, and the answer for it and a certificate.
-#[derive(Drop)]
 pub struct Answered {
     pub plan: Plan,
     pub answer: Answer,
     /// Where the text of the certificate is refused, if it is: after C1 and C3.
     pub refusal: Option<Refusal>,
+}
+
+// Written out, so that one call lets it go.
+impl Drop for Answered {
+    fn drop(self) {
+        let Self {
+            plan: _,
+            answer: _,
+            refusal: _,
+        } = self;
+    }
 }
 
 /// Why there is no answer.

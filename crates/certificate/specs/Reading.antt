@@ -50,6 +50,10 @@ pub record Stands (before : List ℕ) (trees : List ProofTree) (standing : Stand
   pub fits : standing.number < 2 ^ 32
   pub text_is : before ≡ codes "cert 1\n" ++ proofs_text standing.number trees
 
+-- how many proofs the second line of the text announces
+abbrev pub announced : ProofLines → ℕ
+announced left = left.number
+
 -- the text that is left
 abbrev pub text_left : ProofLines → List ℕ
 text_left left = left.source.rest.now

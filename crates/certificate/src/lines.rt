@@ -41,7 +41,7 @@ pub struct ProofLines<'a> {
 
 impl<'a> ProofLines<'a> {
     ghost use Rattle.certificate.specs.Places.{place};
-    ghost use Rattle.certificate.specs.Reading.{AddsTree, AddsProof, EndsHere, RefusedHere, bytes_left, text_left};
+    ghost use Rattle.certificate.specs.Reading.{AddsTree, AddsProof, EndsHere, RefusedHere, announced, bytes_left, text_left};
     ghost use Rattle.certificate.specs.Reading.{ReadSoFar, Stands};
 
     /// What is left after the first two lines, which announce this number of proofs.
@@ -118,6 +118,13 @@ impl<'a> ProofLines<'a> {
         self.source = source;
         self.seen += 1;
         true
+    }
+
+    /// How many proofs the text announces in its second line.
+    pub fn announced(&self) -> u32
+        ensures { result ≡ announced self.now }
+    {
+        self.number
     }
 
     /// The text that is left.

@@ -191,7 +191,6 @@ impl Follower {
 }
 
 /// The lines of controllers, followed beside the bus.
-#[derive(Drop)]
 pub struct Drivers {
     alloc: Global,
     pulling: Pulling,
@@ -205,6 +204,24 @@ pub struct Drivers {
     // the transaction that goes on, and those that have ended and were not taken
     open: Option<Drove>,
     ended: Vec<Drove>,
+}
+
+// Written out, so that one call lets it go.
+impl Drop for Drivers {
+    fn drop(self) {
+        let Self {
+            alloc: _,
+            pulling: _,
+            bus: _,
+            watch: _,
+            listener: _,
+            followers: _,
+            slots: _,
+            is_starting: _,
+            open: _,
+            ended: _,
+        } = self;
+    }
 }
 
 impl Drivers {

@@ -14,7 +14,6 @@ use std::alloc::{AllocError, Global};
 use transaction_lines::{Explains, Layout, Others, Selection, Tallies};
 
 /// Writes the objects of a capture.
-#[derive(Drop)]
 pub struct CaptureObjects<'a, 'w, O> {
     written: Written<'a, O>,
     words: PlanWords<'w>,
@@ -26,6 +25,22 @@ pub struct CaptureObjects<'a, 'w, O> {
     // where lines of controllers are followed
     judging: Option<Judging<'w, 'w>>,
     has_stopped: bool,
+}
+
+// Written out, so that one call lets it go.
+impl<O> Drop for CaptureObjects<'_, '_, O> {
+    fn drop(self) {
+        let Self {
+            written: _,
+            words: _,
+            layout: _,
+            selection: _,
+            labels: _,
+            tallies: _,
+            judging: _,
+            has_stopped: _,
+        } = self;
+    }
 }
 
 impl<'a, 'w, O: Output> CaptureObjects<'a, 'w, O> {
@@ -56,8 +71,9 @@ impl<'a, 'w, O: Output> CaptureObjects<'a, 'w, O> {
     }
 
     /// The same where lines of controllers are followed.
-    pub fn with_drives(self, judging: Option<Judging<'w, 'w>>) -> CaptureObjects<'a, 'w, O> {
-        CaptureObjects { judging, ..self }
+    pub fn with_drives(mut self, judging: Option<Judging<'w, 'w>>) -> CaptureObjects<'a, 'w, O> {
+        self.judging = judging;
+        self
     }
 
     fn transaction(&mut self, transaction: &Transaction, participants: &[u32]) {
@@ -133,10 +149,15 @@ impl<'a, 'w, O: Output> CaptureObjects<'a, 'w, O> {
 
     fn end(mut self, ending: Option<Ending>) -> Result<Selection, RunError> {
         self.push_last(ending);
-        let CaptureObjects {
+        let Self {
             written,
+            words: _,
+            layout: _,
             selection,
-            ..
+            labels: _,
+            tallies: _,
+            judging: _,
+            has_stopped: _,
         } = self;
         written.finish(selection)
     }

@@ -2,6 +2,7 @@
 
 use crate::broken::Wires;
 use bus_rows::{Side, own_bit, pass, pass_own};
+use certificate::Cert;
 use message_tree::{Bit, Item};
 use places::{Offered, Place};
 use plan_core::Plan;
@@ -51,13 +52,13 @@ pub(crate) fn break_of(
     alloc: Global,
     plan: &Plan,
     pair: (u32, u32),
-    line: &[u8],
+    proof: &Cert,
 ) -> Result<Option<(Break, (Side, Side))>, AllocError> {
     let mut left = Left::new(alloc);
     if let Some(both) = start_of(plan, pair) {
-        left.push(both);
+        left.push(both, proof);
     }
-    let found = first_break(&mut left, line);
+    let found = first_break(&mut left);
     if !left.is_whole {
         return Err(AllocError);
     }
@@ -85,14 +86,12 @@ fn start_of(plan: &Plan, pair: (u32, u32)) -> Option<Both<'_>> {
     })
 }
 
-fn first_break(left: &mut Left<'_>, line: &[u8]) -> Option<Break> {
-    let mut number = 0u32;
-    for word in line.split(is_blank) {
-        number = number.saturating_add(1);
-        let mut both = left.pop()?;
-        if let Some(reason) = unproved(left, &mut both, word) {
+fn first_break(left: &mut Left<'_, '_>) -> Option<Break> {
+    for word in 1..u32::MAX {
+        let (mut both, proof) = left.pop()?;
+        if let Some(reason) = unproved(left, &mut both, proof) {
             return Some(Break {
-                word: number,
+                word,
                 slot: both.slot,
                 reason,
             });
@@ -101,21 +100,17 @@ fn first_break(left: &mut Left<'_>, line: &[u8]) -> Option<Break> {
     None
 }
 
-fn is_blank(byte: &u8) -> bool {
-    *byte == b' '
-}
-
-// What further words are to prove, the next one last, and what both send up to where the walk is.
+// What is left to prove, with its proof, the next one last, and what both send up to where the walk is.
 #[derive(Drop)]
-struct Left<'a> {
-    both: Vec<Both<'a>>,
+struct Left<'a, 'c> {
+    both: Vec<(Both<'a>, &'c Cert)>,
     wires: Wires,
     // whether there was memory for all of it
     is_whole: bool,
 }
 
-impl<'a> Left<'a> {
-    fn new(alloc: Global) -> Left<'a> {
+impl<'a, 'c> Left<'a, 'c> {
+    fn new(alloc: Global) -> Left<'a, 'c> {
         Left {
             both: Vec::new(alloc),
             wires: Wires::new(alloc),
@@ -123,48 +118,63 @@ impl<'a> Left<'a> {
         }
     }
 
-    fn push(&mut self, both: Both<'a>) {
-        if self.both.push(both).is_err() {
+    fn push(&mut self, both: Both<'a>, proof: &'c Cert) {
+        if self.both.push((both, proof)).is_err() {
             self.is_whole = false;
         }
     }
 
-    // The next two, with the wires up to them.
-    fn pop(&mut self) -> Option<Both<'a>> {
-        let both = self.both.pop()?;
+    // The next two and their proof, with the wires up to them. The word of each node comes before those of its parts.
+    fn pop(&mut self) -> Option<(Both<'a>, &'c Cert)> {
+        let (both, proof) = self.both.pop()?;
         if let Some(item) = both.last {
             self.wires.put(both.slot.saturating_sub(1), item, item);
         }
-        Some(both)
+        Some((both, proof))
     }
 }
 
-// Why a word does not prove what it stands for, where it does not. What further words are to prove is left to them. Where two
-// reads have to come to an end first, they are taken there.
-fn unproved<'a>(left: &mut Left<'a>, both: &mut Both<'a>, word: &[u8]) -> Option<Reason> {
+// Why the first word of a proof does not prove what it stands for, where it does not. Its parts are left. Where two reads have
+// to come to an end first, they are taken there.
+fn unproved<'a, 'c>(
+    left: &mut Left<'a, 'c>,
+    both: &mut Both<'a>,
+    proof: &'c Cert,
+) -> Option<Reason> {
     if both.are_reads {
         let mut ended = *both;
         let is_ended = ended.pass_reads(&mut left.wires);
-        match word {
-            b"R" if is_ended => return Some(Reason::ReadsMayMeet),
-            b"R" => return None,
+        match proof {
+            Cert::Short if is_ended => return Some(Reason::ReadsMayMeet),
+            Cert::Short => return None,
             _ if !is_ended => return Some(Reason::ReadsNeverMeet),
             _ => *both = ended,
         }
     }
-    let (is_proved, reason) = match word {
-        b"B" => (push_answers(left, *both, false), Reason::NotBothWrite),
-        b"D" => (push_answers(left, *both, true), Reason::NotBothRead),
-        b"S" => (push_frames(left, *both), Reason::NotBothRestart),
-        b"." => (both.both_stop(), Reason::NotBothStop),
-        [b'P', digit] => (both.differ(digit.wrapping_sub(b'0')), Reason::NoSplit),
-        _ => (false, Reason::UnknownWord),
+    let (is_proved, reason) = match proof {
+        Cert::Byte(acked, refused) => {
+            let is_proved = push_answers(left, *both, (&**acked, &**refused), false);
+            (is_proved, Reason::NotBothWrite)
+        }
+        Cert::Read(after, refused) => {
+            let is_proved = push_answers(left, *both, (&**after, &**refused), true);
+            (is_proved, Reason::NotBothRead)
+        }
+        Cert::Again(frames) => (push_frames(left, *both, &**frames), Reason::NotBothRestart),
+        Cert::Alike => (both.both_stop(), Reason::NotBothStop),
+        Cert::Part(bit) => (both.differ(*bit), Reason::NoSplit),
+        Cert::Short => (false, Reason::UnknownWord),
     };
     if is_proved { None } else { Some(reason) }
 }
 
-// Two bytes that are written, or two headers of reads: what follows both answers is left.
-fn push_answers<'a>(left: &mut Left<'a>, both: Both<'a>, are_reads: bool) -> bool {
+// Two bytes that are written, or two headers of reads: what follows both answers is left, each with its part of the proof.
+fn push_answers<'a, 'c>(
+    left: &mut Left<'a, 'c>,
+    both: Both<'a>,
+    parts: (&'c Cert, &'c Cert),
+    are_reads: bool,
+) -> bool {
     let mut refused = both;
     if !refused.pass_bits(&mut left.wires) {
         return false;
@@ -176,16 +186,16 @@ fn push_answers<'a>(left: &mut Left<'a>, both: Both<'a>, are_reads: bool) -> boo
         return false;
     }
     acknowledged.are_reads = are_reads;
-    left.push(refused);
-    left.push(acknowledged);
+    left.push(refused, parts.1);
+    left.push(acknowledged, parts.0);
     listens(acknowledged.first) == are_reads && listens(acknowledged.second) == are_reads
 }
 
 // Two repeated STARTs: the frames after them are left.
-fn push_frames<'a>(left: &mut Left<'a>, both: Both<'a>) -> bool {
+fn push_frames<'a, 'c>(left: &mut Left<'a, 'c>, both: Both<'a>, frames: &'c Cert) -> bool {
     let mut next = both;
     let is_passed = next.pass(&mut left.wires, Item::Again);
-    left.push(next);
+    left.push(next, frames);
     is_passed
 }
 

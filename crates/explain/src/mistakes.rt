@@ -7,7 +7,7 @@ ghost use Rattle.plan_core.specs.Pairs.{pairs_of};
 use crate::breaks::{Break, break_of};
 use bus_rows::Side;
 use cert_check::Answer;
-use certificate::{CertError, CertFault, Fault, Head, read_head};
+use certificate::{Cert, CertError, CertFault, Fault, Head, ProofLines, read_head};
 use plan_core::Plan;
 use std::alloc::{AllocError, Global};
 
@@ -56,11 +56,7 @@ pub fn mistake_of(
         Answer::Wrong(CertFault::Pair(pair)) if pair < plan.pair_count() => {
             Ok(Some(misproved_pair(alloc, plan, cert, pair)?))
         }
-        Answer::Wrong(CertFault::Count) => Ok(Some(Mistake::Count {
-            pairs: plan.pair_count(),
-            says: proofs_said(cert),
-            proofs: proofs_in(cert),
-        })),
+        Answer::Wrong(CertFault::Count) => Ok(Some(miscounted(alloc, plan, cert)?)),
         Answer::Wrong(_) => Ok(Some(Mistake::Text)),
     }
 }
@@ -82,8 +78,8 @@ fn misproved_pair(alloc: Global, plan: &Plan, cert: &[u8], pair: u32) -> Result<
     requires { pair < length (pairs_of (plan_contents plan.now)) }
 {
     let participants = plan.pair(pair);
-    let broken = match proof_line(cert, pair) {
-        Some(proof) => break_of(alloc, plan, participants, proof)?,
+    let broken = match proof_of(alloc, cert, pair)? {
+        Some(proof) => break_of(alloc, plan, participants, &proof)?,
         None => None,
     };
     let (found, sides) = match broken {
@@ -98,29 +94,53 @@ fn misproved_pair(alloc: Global, plan: &Plan, cert: &[u8], pair: u32) -> Result<
     })
 }
 
-// The line of a pair's proof, where the text has proofs.
-fn proof_line(cert: &[u8], pair: u32) -> Option<&[u8]> {
-    let rest = cert.strip_prefix(b"cert 1\npairs ")?;
-    rest.split(is_line_feed)
-        .nth((pair as usize).saturating_add(1))
+// How many proofs the certificate has, and announces, where it is one of proofs.
+fn miscounted(alloc: Global, plan: &Plan, cert: &[u8]) -> Result<Mistake, AllocError> {
+    let (says, proofs) = match proofs_of(alloc, cert)? {
+        Some(lines) => (Some(lines.announced()), proofs_in(alloc, lines)?),
+        None => (None, 0),
+    };
+    Ok(Mistake::Count {
+        pairs: plan.pair_count(),
+        says,
+        proofs: u64::from(proofs),
+    })
 }
 
-// How many proofs the text says that it has.
-fn proofs_said(cert: &[u8]) -> Option<u32> {
-    let rest = cert.strip_prefix(b"cert 1\npairs ")?;
-    let number = rest.split(is_line_feed).next()?;
-    str::from_utf8(number).ok()?.parse::<u32>().ok()
-}
-
-fn is_line_feed(byte: &u8) -> bool {
-    *byte == b'\n'
-}
-
-// How many lines stand below the two of the head.
-fn proofs_in(cert: &[u8]) -> u64 {
-    let mut count = 0u64;
-    for byte in cert {
-        count = count.saturating_add(u64::from(is_line_feed(byte)));
+fn proofs_in(alloc: Global, mut lines: ProofLines<'_>) -> Result<u32, AllocError> {
+    for proofs in 0..u32::MAX {
+        if next_proof(alloc, &mut lines)?.is_none() {
+            return Ok(proofs);
+        }
     }
-    count.saturating_sub(2)
+    Ok(u32::MAX)
+}
+
+// The proof of the pair with this number, where the certificate has one.
+fn proof_of(alloc: Global, cert: &[u8], pair: u32) -> Result<Option<Cert>, AllocError> {
+    let Some(mut lines) = proofs_of(alloc, cert)? else {
+        return Ok(None);
+    };
+    for _ in 0..pair {
+        let _ = next_proof(alloc, &mut lines)?;
+    }
+    next_proof(alloc, &mut lines)
+}
+
+// The proofs of a certificate, where it is one of proofs.
+fn proofs_of(alloc: Global, cert: &[u8]) -> Result<Option<ProofLines<'_>>, AllocError> {
+    match read_head(alloc, cert) {
+        Ok(Head::Proofs(lines)) => Ok(Some(lines)),
+        Ok(Head::Flaw(_, _)) | Err(CertError::Wrong(_)) => Ok(None),
+        Err(CertError::NoMemory) => Err(AllocError),
+    }
+}
+
+// The next proof, up to the first that is refused.
+fn next_proof(alloc: Global, lines: &mut ProofLines<'_>) -> Result<Option<Cert>, AllocError> {
+    match lines.next_proof(alloc) {
+        Ok(next) => Ok(next),
+        Err(CertError::Wrong(_)) => Ok(None),
+        Err(CertError::NoMemory) => Err(AllocError),
+    }
 }

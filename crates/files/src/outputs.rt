@@ -50,7 +50,6 @@ impl<'a> Form<'a> {
 }
 
 /// What takes a report. It keeps the last error.
-#[derive(Drop)]
 pub struct Sheet<'a, 'i, R: Files> {
     rt: &'a R,
     form: Form<'a>,
@@ -61,6 +60,21 @@ pub struct Sheet<'a, 'i, R: Files> {
     watcher: Watcher,
     // how much of a long text was written, where it is seen neither here nor there
     count: Option<Count>,
+}
+
+// Written out, so that one call lets it go.
+impl<R: Files> Drop for Sheet<'_, '_, R> {
+    fn drop(self) {
+        let Self {
+            rt: _,
+            form: _,
+            read: _,
+            target: _,
+            error: _,
+            watcher: _,
+            count: _,
+        } = self;
+    }
 }
 
 // What is written. It is not looked for before the first byte.

@@ -4,12 +4,22 @@ use crate::uris::path_of;
 use std::alloc::{AllocError, Global};
 
 /// A text that is open.
-#[derive(Drop)]
 pub(crate) struct Document {
     pub(crate) uri: String,
     /// The path of its file, where it has one.
     pub(crate) path: Option<String>,
     pub(crate) text: String,
+}
+
+// Written out, so that one call lets it go.
+impl Drop for Document {
+    fn drop(self) {
+        let Self {
+            uri: _,
+            path: _,
+            text: _,
+        } = self;
+    }
 }
 
 /// All of them, in the order in which they were opened.

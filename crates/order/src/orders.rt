@@ -8,7 +8,6 @@ use std::alloc::{AllocError, Global};
 use verdicts::Faults;
 
 /// Who wins arbitration in each pair of a plan (UM10204, 3.1.8).
-#[derive(Drop)]
 pub struct Order {
     /// By the number of the pair: its two participants, the lower number first.
     pub pairs: Vec<(u32, u32)>,
@@ -18,6 +17,17 @@ pub struct Order {
     /// By the number of the participant: in how many pairs it alone can win, in how many either can, and in how many the
     /// other alone can.
     pub totals: Vec<Total>,
+}
+
+// Written out, so that one call lets it go.
+impl Drop for Order {
+    fn drop(self) {
+        let Self {
+            pairs: _,
+            ways: _,
+            totals: _,
+        } = self;
+    }
 }
 
 /// Who wins in each pair of the plan, which has these faults.

@@ -56,7 +56,6 @@ pub struct NamedByte {
 }
 
 /// Where the controllers, the messages and the interrupts of a plan come from, by their numbers in the plan.
-#[derive(Drop)]
 pub struct Origins {
     pub controllers: Vec<ControllerOrigin>,
     /// Where each message stands. Those of a family stand where the family stands.
@@ -68,4 +67,18 @@ pub struct Origins {
     /// The devices and the data bytes with names, in the order of the briefs.
     pub devices: Vec<Device>,
     pub bytes: Vec<NamedByte>,
+}
+
+// Written out, so that one call lets it go.
+impl Drop for Origins {
+    fn drop(self) {
+        let Self {
+            controllers: _,
+            messages: _,
+            interrupts: _,
+            families: _,
+            devices: _,
+            bytes: _,
+        } = self;
+    }
 }

@@ -23,7 +23,7 @@ pub struct Recording {
 }
 
 /// A transaction. Its times are whole numbers, which may be too great for a number of a script.
-#[derive(Drop, Serialize)]
+#[derive(Serialize)]
 pub(crate) struct Shown {
     #[serde(skip)]
     span: Span,
@@ -42,6 +42,24 @@ pub(crate) struct Shown {
     wire: String,
     #[serde(skip_serializing_if = "Option::is_none")]
     lasting: Option<String>,
+}
+
+// Written out, so that one call lets it go.
+impl Drop for Shown {
+    fn drop(self) {
+        let Self {
+            span: _,
+            from: _,
+            to: _,
+            times: _,
+            end: _,
+            by: _,
+            bytes: _,
+            nearest: _,
+            wire: _,
+            lasting: _,
+        } = self;
+    }
 }
 
 // Where a participant leaves a transaction that nobody explains.

@@ -33,7 +33,6 @@ pub enum Participant {
 ///
 /// A plan has at most 256 messages, of at most 4096 nodes and 256 bytes on a path each, 32 controllers, 32 interrupts and
 /// 512 sendings.
-#[derive(Drop)]
 pub struct Plan {
     pub(crate) messages: IndexMap<Name, Frame>,
     pub(crate) controllers: IndexMap<Name, Vec<u32>>,
@@ -45,6 +44,20 @@ pub struct Plan {
     pub ghost numbered: { participants.items ≡
         participants_of (contents_of messages.entries controllers.entries interrupts.entries nevers.items) },
     pub ghost paired: { IsPairTable (contents_of messages.entries controllers.entries interrupts.entries nevers.items) pairs },
+}
+
+// Written out, so that one call lets it go.
+impl Drop for Plan {
+    fn drop(self) {
+        let Self {
+            messages: _,
+            controllers: _,
+            interrupts: _,
+            nevers: _,
+            participants: _,
+            pairs: _,
+        } = self;
+    }
 }
 
 impl Plan {

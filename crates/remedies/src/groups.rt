@@ -90,7 +90,6 @@ pub struct Alike<'a> {
 }
 
 /// The unsafe pairs of a plan, in groups of one cause each: the shortest wire first.
-#[derive(Drop)]
 pub struct Grouped {
     groups: Groups,
     labels: Labels,
@@ -104,6 +103,21 @@ pub struct Grouped {
     starts: Vec<usize>,
     /// What mends the first groups.
     mends: Vec<GroupMends>,
+}
+
+// Written out, so that one call lets it go.
+impl Drop for Grouped {
+    fn drop(self) {
+        let Self {
+            groups: _,
+            labels: _,
+            families: _,
+            parties: _,
+            meets: _,
+            starts: _,
+            mends: _,
+        } = self;
+    }
 }
 
 impl Grouped {

@@ -10,13 +10,24 @@ use std::alloc::Global;
 use vcd_read::{Probe, Wrong};
 
 /// A dump, and what its definitions say, where that has to be known ahead.
-#[derive(Drop)]
 pub struct Dump<'a, 'l, J> {
     again: Watched<Again<'a, J>>,
     lines: BusLines<'l>,
     picked: Option<Picked>,
     // what is wrong with it, where it was refused
     wrong: Option<Wrong>,
+}
+
+// Written out, so that one call lets it go.
+impl<J> Drop for Dump<'_, '_, J> {
+    fn drop(self) {
+        let Self {
+            again: _,
+            lines: _,
+            picked: _,
+            wrong: _,
+        } = self;
+    }
 }
 
 impl<'a, 'l, J: Input> Dump<'a, 'l, J> {

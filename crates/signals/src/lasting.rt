@@ -31,7 +31,6 @@ const UNSEEN: One = One {
 };
 
 /// The signals, as far as their levels last.
-#[derive(Drop)]
 pub(crate) struct Lasting {
     // how long a run has to last, and at what times a change counts
     least: u64,
@@ -49,6 +48,26 @@ pub(crate) struct Lasting {
     changed: Vec<Change>,
     candidates: Candidates,
     buses: Buses,
+}
+
+// Written out, so that one call lets it go.
+impl Drop for Lasting {
+    fn drop(self) {
+        let Self {
+            least: _,
+            window: _,
+            scale: _,
+            time: _,
+            begun: _,
+            ones: _,
+            waiting: _,
+            stamp: _,
+            counts: _,
+            changed: _,
+            candidates: _,
+            buses: _,
+        } = self;
+    }
 }
 
 impl Lasting {

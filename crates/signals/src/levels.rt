@@ -9,7 +9,6 @@ use std::alloc::{AllocError, Global};
 use vcd_read::Level;
 
 /// Follows the changes of a dump.
-#[derive(Drop)]
 pub(crate) struct Levels {
     parts: Parts,
     codes: Codes,
@@ -18,6 +17,20 @@ pub(crate) struct Levels {
     given: Vec<Option<Level>>,
     touched: Vec<u32>,
     lasting: Lasting,
+}
+
+// Written out, so that one call lets it go.
+impl Drop for Levels {
+    fn drop(self) {
+        let Self {
+            parts: _,
+            codes: _,
+            time: _,
+            given: _,
+            touched: _,
+            lasting: _,
+        } = self;
+    }
 }
 
 impl Levels {
@@ -42,10 +55,16 @@ impl Levels {
     }
 
     /// What the signals have shown at the end of the dump.
-    pub(crate) fn finish(self) -> Result<Lasting, AllocError> {
-        let mut levels = self;
-        levels.settle()?;
-        let Levels { mut lasting, .. } = levels;
+    pub(crate) fn finish(mut self) -> Result<Lasting, AllocError> {
+        self.settle()?;
+        let Self {
+            parts: _,
+            codes: _,
+            time: _,
+            given: _,
+            touched: _,
+            mut lasting,
+        } = self;
         lasting.finish()?;
         Ok(lasting)
     }

@@ -37,13 +37,23 @@ struct Entry {
 }
 
 // The signals that the definitions declare.
-#[derive(Drop)]
 struct Declared {
     // the scopes that have signals
     scopes: Vec<Scope>,
     entries: Vec<Entry>,
     // for each number its code
     by_number: Vec<usize>,
+}
+
+// Written out, so that one call lets it go.
+impl Drop for Declared {
+    fn drop(self) {
+        let Self {
+            scopes: _,
+            entries: _,
+            by_number: _,
+        } = self;
+    }
 }
 
 // The same, and their codes.
@@ -186,11 +196,21 @@ fn is_point(byte: &u8) -> bool {
 }
 
 /// The signals of one bit that a dump has, and the pairs of them that look like the two lines of a bus.
-#[derive(Drop)]
 pub struct Listed {
     declared: Declared,
     shown: Lasting,
     buses: Vec<Bus>,
+}
+
+// Written out, so that one call lets it go.
+impl Drop for Listed {
+    fn drop(self) {
+        let Self {
+            declared: _,
+            shown: _,
+            buses: _,
+        } = self;
+    }
 }
 
 /// A signal. A byte of a text that does not print is `\x` and two digits.
@@ -215,12 +235,23 @@ pub struct Pair {
 }
 
 /// A dump whose definitions have been read.
-#[derive(Drop)]
 pub struct SignalDump<'a, J> {
     again: Again<'a, J>,
     codes: Codes,
     declared: Declared,
     header: Header,
+}
+
+// Written out, so that one call lets it go.
+impl<J> Drop for SignalDump<'_, J> {
+    fn drop(self) {
+        let Self {
+            again: _,
+            codes: _,
+            declared: _,
+            header: _,
+        } = self;
+    }
 }
 
 impl<'a, J: Input> SignalDump<'a, J> {

@@ -9,7 +9,6 @@ use std::alloc::{AllocError, Global};
 use vcd_read::Probe;
 
 /// The two lines, where signals were found that have them, and what one step of the dump's time is.
-#[derive(Drop)]
 pub struct Picked {
     scl: Option<Line>,
     sda: Option<Line>,
@@ -17,6 +16,19 @@ pub struct Picked {
     others: Vec<Option<Line>>,
     pub scale: Option<Scale>,
     pub(crate) lacks_scale: bool,
+}
+
+// Written out, so that one call lets it go.
+impl Drop for Picked {
+    fn drop(self) {
+        let Self {
+            scl: _,
+            sda: _,
+            others: _,
+            scale: _,
+            lacks_scale: _,
+        } = self;
+    }
 }
 
 impl Picked {

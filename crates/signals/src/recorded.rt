@@ -12,12 +12,22 @@ use vcd_read::{Level, Probe, Reader, Sample, VcdError};
 
 /// A tap that keeps the levels of the two lines, and what the numbers of the dump count. What is wrong with a dump is for its
 /// decoder to say.
-#[derive(Drop)]
 pub struct Recorder {
     reader: Reader,
     lines: RecordedLines,
     // the definitions, until they end
     definitions: Option<Cutter<Definitions<Nobody>>>,
+}
+
+// Written out, so that one call lets it go.
+impl Drop for Recorder {
+    fn drop(self) {
+        let Self {
+            reader: _,
+            lines: _,
+            definitions: _,
+        } = self;
+    }
 }
 
 // Nobody is told of the signals.
@@ -65,10 +75,10 @@ impl Recorder {
     ///
     /// Where an allocation fails.
     pub fn finish(self) -> Result<RecordedLines, AllocError> {
-        let Recorder {
+        let Self {
             reader,
             mut lines,
-            ..
+            definitions: _,
         } = self;
         if let Ok(samples) = reader.end() {
             lines.add(samples.as_slice())?;

@@ -31,7 +31,6 @@ pub struct Layout {
 }
 
 /// Writes the lines of a capture.
-#[derive(Drop)]
 pub struct CaptureLines<'a, 'w, O> {
     written: Written<'a, O>,
     words: PlanWords<'w>,
@@ -47,6 +46,24 @@ pub struct CaptureLines<'a, 'w, O> {
     // whether the last transaction was told
     was_told: bool,
     has_stopped: bool,
+}
+
+// Written out, so that one call lets it go.
+impl<O> Drop for CaptureLines<'_, '_, O> {
+    fn drop(self) {
+        let Self {
+            written: _,
+            words: _,
+            layout: _,
+            selection: _,
+            labels: _,
+            called: _,
+            tallies: _,
+            judging: _,
+            was_told: _,
+            has_stopped: _,
+        } = self;
+    }
 }
 
 impl<'a, 'w, O: Output> CaptureLines<'a, 'w, O> {
@@ -80,8 +97,9 @@ impl<'a, 'w, O: Output> CaptureLines<'a, 'w, O> {
     }
 
     /// The same where lines of controllers are followed.
-    pub fn with_drives(self, judging: Option<Judging<'w, 'w>>) -> CaptureLines<'a, 'w, O> {
-        CaptureLines { judging, ..self }
+    pub fn with_drives(mut self, judging: Option<Judging<'w, 'w>>) -> CaptureLines<'a, 'w, O> {
+        self.judging = judging;
+        self
     }
 
     fn transaction(&mut self, transaction: &Transaction, participants: &[u32]) {
@@ -188,13 +206,17 @@ impl<'a, 'w, O: Output> CaptureLines<'a, 'w, O> {
     }
 
     fn end(self) -> Result<Selection, RunError> {
-        let CaptureLines {
+        let Self {
             mut written,
+            words: _,
+            layout: _,
             mut selection,
             labels,
+            called: _,
             tallies,
             judging,
-            ..
+            was_told: _,
+            has_stopped: _,
         } = self;
         if let Some(tallies) = &tallies {
             tallies.push_to(&mut written.text, &labels);

@@ -40,7 +40,6 @@ pub(crate) struct Levels {
 }
 
 /// What the tokens of a dump have said so far.
-#[derive(Drop)]
 pub(crate) struct Dump {
     pub(crate) scl: Wire,
     pub(crate) sda: Wire,
@@ -54,6 +53,21 @@ pub(crate) struct Dump {
     pub(crate) time: u64,
     ghost scl_code_fits: { vec_len code ≤ vec_capacity scl.code },
     ghost sda_code_fits: { vec_len code ≤ vec_capacity sda.code },
+}
+
+// Written out, so that one call lets it go.
+impl Drop for Dump {
+    fn drop(self) {
+        let Self {
+            scl: _,
+            sda: _,
+            context: _,
+            block: _,
+            code: _,
+            defined: _,
+            time: _,
+        } = self;
+    }
 }
 
 impl Dump {

@@ -14,7 +14,6 @@ use std::alloc::{AllocError, Global};
 /// It keeps the token that has not ended, the command that is open, the codes and levels of the two signals, and the
 /// samples that were not cleared. A token counts as read once the white space after it has been fed, the last one at
 /// the end.
-#[derive(Drop)]
 pub struct Reader {
     scanner: Scanner,
     refused: Option<Refusal>,
@@ -23,6 +22,18 @@ pub struct Reader {
     wrong: Option<Wrong>,
     ghost held_fits: { RoomForToken 0 scanner },
     ghost last_samples_fit: { RoomForSamples 2 scanner },
+}
+
+// Written out, so that one call lets it go.
+impl Drop for Reader {
+    fn drop(self) {
+        let Self {
+            scanner: _,
+            refused: _,
+            line: _,
+            wrong: _,
+        } = self;
+    }
 }
 
 impl Reader {
@@ -140,12 +151,11 @@ impl Reader {
             MatchResult result (λ samples. samples_of scl sda text ≡ Ok (cleared ++ samples.items))
             (λ e. IsRefusal (samples_of scl sda text) e.error) }
     {
-        let Reader {
+        let Self {
             mut scanner,
             refused,
             line,
             wrong,
-            ..
         } = self;
         if let Some(refusal) = refused {
             let error = VcdError::from(refusal);
