@@ -77,20 +77,11 @@ pub(crate) struct Entry {
 }
 
 /// Frames by their numbers.
+#[derive(Drop)]
 pub(crate) struct Frames {
     pub(crate) entries: Vec<Entry>,
     // the last number of each likeness
     seen: HashMap<u64, u32>,
-}
-
-// Written out, so that one call lets it go.
-impl Drop for Frames {
-    fn drop(self) {
-        let Self {
-            entries: _,
-            seen: _,
-        } = self;
-    }
 }
 
 impl Frames {

@@ -46,16 +46,10 @@ pub struct SharedNodes {
 }
 
 // A list of nodes that grows, and the last node of each likeness.
+#[derive(Drop)]
 pub(crate) struct Gathering {
     pub(crate) nodes: Vec<Node>,
     seen: HashMap<(u32, u32, u32), u32>,
-}
-
-// Written out, so that one call lets it go.
-impl Drop for Gathering {
-    fn drop(self) {
-        let Self { nodes: _, seen: _ } = self;
-    }
 }
 
 /// The messages of the plan as hash-consed nodes.
@@ -68,7 +62,7 @@ pub fn shared_nodes(alloc: Global, plan: &Plan) -> Result<SharedNodes, AllocErro
         let root = gathering.frame(plan.message(k))?;
         roots.push(root)?;
     }
-    let nodes = gathering.into_nodes();
+    let Gathering { nodes, seen: _ } = gathering;
     let marks = marks_of(alloc, &nodes, &roots)?;
     Ok(SharedNodes {
         nodes,
@@ -85,13 +79,6 @@ impl Gathering {
             nodes: Vec::new(alloc),
             seen: HashMap::new(alloc),
         }
-    }
-
-    fn into_nodes(self) -> Vec<Node>
-        ensures { result ≡ self.nodes }
-    {
-        let Self { nodes, seen: _ } = self;
-        nodes
     }
 }
 
