@@ -12,7 +12,6 @@ use dump_objects::{CaptureObjects, DecodeObjects, write_signals};
 use dump_tokens::{Bus, BusLines, Drives, Limits, Quiet, Window};
 use given_plans::GivenPlan;
 use lessons::{BriefBefore, Learned, Likeness, Sights, brief_of};
-use origins::Origins;
 use plan_core::Plan;
 use plan_words::PlanWords;
 use report::{
@@ -92,17 +91,6 @@ pub fn explain_capture<R: AllocGlobal + Threads + Sync, I: Input, J: Input, O: O
 ) -> Result<Ended, Halt> {
     let GivenPlan { plan, origins } = plans.find(rt.alloc())?;
     let words = plans.words(&plan, &origins);
-    explain_by(rt, words, vcd, out, capture, style)
-}
-
-fn explain_by<R: AllocGlobal + Threads + Sync, J: Input, O: Output>(
-    rt: &R,
-    words: PlanWords<'_>,
-    vcd: &mut J,
-    out: &mut O,
-    capture: Capture<'_>,
-    style: Style,
-) -> Result<Ended, Halt> {
     refuse_unknown(rt.alloc(), words, capture.drives)?;
     let Told {
         status,
@@ -488,20 +476,7 @@ pub fn learn_with_names<I: Input, J: Input, O: Output>(
         return learn(alloc, vcd, out, lesson);
     };
     let file = briefs.files.of(0).unwrap_or("");
-    learn_with(alloc, file, &plan, &origins, vcd, out, lesson)
-}
-
-// The same after the brief of this file, which means this plan.
-fn learn_with<J: Input, O: Output>(
-    alloc: Global,
-    file: &str,
-    plan: &Plan,
-    origins: &Origins,
-    vcd: &mut J,
-    out: &mut O,
-    lesson: Lesson<'_>,
-) -> Result<Ended, Halt> {
-    let before = BriefBefore::new(alloc, file, plan, origins)?;
+    let before = BriefBefore::new(alloc, file, &plan, &origins)?;
     learn_after(alloc, vcd, out, lesson, Some(&before))
 }
 
@@ -529,17 +504,7 @@ fn learn_open<J: Input, O: Output>(
     before: Option<&BriefBefore<'_>>,
 ) -> Result<Result<Ended, RunError>, Halt> {
     let driving = driving_of(alloc, &*dump, lesson.drives)?;
-    learn_driven(alloc, dump, out, lesson, before, driving.as_ref())
-}
-
-fn learn_driven<J: Input, O: Output>(
-    alloc: Global,
-    dump: &mut Dump<'_, '_, J>,
-    out: &mut O,
-    lesson: Lesson<'_>,
-    before: Option<&BriefBefore<'_>>,
-    driving: Option<&Driving<'_>>,
-) -> Result<Result<Ended, RunError>, Halt> {
+    let driving = driving.as_ref();
     let mut seen = Sights::new(alloc, lesson.bus.view, dump.scale(), before).with_drives(driving);
     let ending = match decode_driven(alloc, dump, &mut seen, driving) {
         Ok(ending) => ending,

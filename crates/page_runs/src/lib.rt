@@ -1,5 +1,4 @@
-//! The run that writes a page, over a plan and perhaps a dump. Each value and each text of it has a function that owns it, and
-//! the next one borrows it.
+//! The run that writes a page, over a plan and perhaps a dump.
 #![tactic(auto)]
 
 ghost use Rattle.plan_core.specs.PlanContents.{plan_contents};
@@ -14,7 +13,7 @@ use order::{order_of, order_report};
 use page::{Page, Recording, Texts, page_of};
 use plan_core::Plan;
 use plan_words::PlanWords;
-use remedies::{Grouped, grouped_of};
+use remedies::grouped_of;
 use report::{
     Checked, Input, NoGate, Output, RunError, Status, Watched, check_found, check_report, status_of,
 };
@@ -172,73 +171,40 @@ impl<O: Output> ExplainedSink for Both<'_, '_, O> {
     }
 }
 
-fn write_page<'a, O: Output>(
+fn write_page<O: Output>(
     alloc: Global,
-    title: &'a str,
-    checked: &'a Checked,
-    words: PlanWords<'a>,
-    capture: Option<Shown<'a>>,
+    title: &str,
+    checked: &Checked,
+    words: PlanWords<'_>,
+    capture: Option<Shown<'_>>,
     out: &mut O,
 ) -> Result<(), RunError>
     requires { AreFaults (plan_contents checked.now.plan) (fault_list checked.now.faults) }
 {
     let groups = grouped_of(alloc, &checked.plan, words, &checked.faults, 0)?;
-    write_grouped(alloc, title, checked, words, &groups, capture, out)
-}
-
-fn write_grouped<'a, O: Output>(
-    alloc: Global,
-    title: &'a str,
-    checked: &'a Checked,
-    words: PlanWords<'a>,
-    groups: &'a Grouped,
-    capture: Option<Shown<'a>>,
-    out: &mut O,
-) -> Result<(), RunError> {
     let order = order_of(alloc, &checked.plan, &checked.faults)?;
     let plan = print_plan(alloc, &checked.plan)?;
+    let check = check_report(alloc, checked)?;
+    let ordered = order_report(alloc, &checked.plan, &order)?;
     let (recording, report) = match capture {
         Some(Shown { recording, report }) => (Some(recording), Some(report)),
         None => (None, None),
-    };
-    let texts = Texts {
-        plan: text_of(plan.as_slice()),
-        check: "",
-        order: "",
-        capture: report,
     };
     let page = Page {
         title,
         checked,
         words,
         order: &order,
-        groups,
+        groups: &groups,
         recording,
-        texts,
+        texts: Texts {
+            plan: text_of(plan.as_slice()),
+            check: check.as_str(),
+            order: ordered.as_str(),
+            capture: report,
+        },
     };
-    with_check(alloc, &page, out)
-}
-
-fn with_check<O: Output>(alloc: Global, page: &Page<'_>, out: &mut O) -> Result<(), RunError> {
-    let check = check_report(alloc, page.checked)?;
-    let texts = Texts {
-        check: check.as_str(),
-        ..page.texts
-    };
-    with_order(alloc, &Page { texts, ..*page }, out)
-}
-
-fn with_order<O: Output>(alloc: Global, page: &Page<'_>, out: &mut O) -> Result<(), RunError> {
-    let order = order_report(alloc, &page.checked.plan, page.order)?;
-    let texts = Texts {
-        order: order.as_str(),
-        ..page.texts
-    };
-    write_texts(alloc, &Page { texts, ..*page }, out)
-}
-
-fn write_texts<O: Output>(alloc: Global, page: &Page<'_>, out: &mut O) -> Result<(), RunError> {
-    let text = page_of(alloc, page)?;
+    let text = page_of(alloc, &page)?;
     write_lines(out, text.as_bytes(), Status::Good)?;
     Ok(())
 }

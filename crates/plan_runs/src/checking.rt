@@ -17,7 +17,6 @@ use hints::{Found, Hints, on_certificate, on_checked, on_safe};
 use lint::{Oddity, oddities};
 use objects::{write_answer, write_check, write_order, write_scores};
 use order::{Called, Order, order_of, order_report, order_summary, scores_of};
-use origins::Origins;
 use plan_core::Plan;
 use plan_words::{PlanWords, sides_of};
 use remedies::{Reasons, count_groups, kept_apart, reasons_of};
@@ -62,80 +61,19 @@ pub fn check<R: Files + Print + Eprint + Clock + AllocGlobal + Threads + Sync, I
     if !(1..=MOST_WORKERS).contains(&look.workers) {
         return Err(Halt::Run(RunError::Workers));
     }
-    let GivenPlan { plan, origins } = plans.find(rt.alloc())?;
-    check_plan(rt, plan, &origins, plans, out, look, extras, canvas)
-}
-
-// Each of the plan's values has a function that owns it, and the next one borrows it.
-fn check_plan<
-    R: Files + Print + Eprint + Clock + AllocGlobal + Threads + Sync,
-    I: Input,
-    O: Output,
->(
-    rt: &R,
-    plan: Plan,
-    origins: &Option<Origins>,
-    plans: &Sources<'_, I>,
-    out: &mut O,
-    look: Look<'_>,
-    extras: Extras,
-    canvas: Option<Canvas<'_, '_>>,
-) -> Result<Ended, Halt> {
-    let gate = Comparing::new(rt, extras.watcher);
-    let checked = check_found(rt, rt.alloc(), plan, look.workers, &gate)?;
-    let words = plans.words(&checked.plan, origins);
-    let texts = plans.texts.as_slice();
-    tell_found(
-        rt, &checked, words, origins, texts, out, look, extras, canvas,
-    )
-}
-
-fn tell_found<R: Files + Print + Eprint + Clock + AllocGlobal, O: Output>(
-    rt: &R,
-    checked: &Checked,
-    words: PlanWords<'_>,
-    origins: &Option<Origins>,
-    texts: &[Vec<u8>],
-    out: &mut O,
-    look: Look<'_>,
-    extras: Extras,
-    canvas: Option<Canvas<'_, '_>>,
-) -> Result<Ended, Halt>
-    requires { AreFaults (plan_contents checked.now.plan) (fault_list checked.now.faults) }
-{
-    let odd = oddities(rt.alloc(), &checked.plan, origins, texts)?;
-    tell_all(
-        rt,
-        checked,
-        words,
-        odd.as_slice(),
-        texts,
-        out,
-        look,
-        extras,
-        canvas,
-    )
-}
-
-fn tell_all<R: Files + Print + Eprint + Clock + AllocGlobal, O: Output>(
-    rt: &R,
-    checked: &Checked,
-    words: PlanWords<'_>,
-    odd: &[Oddity<'_>],
-    texts: &[Vec<u8>],
-    out: &mut O,
-    look: Look<'_>,
-    extras: Extras,
-    canvas: Option<Canvas<'_, '_>>,
-) -> Result<Ended, Halt>
-    requires { AreFaults (plan_contents checked.now.plan) (fault_list checked.now.faults) }
-{
     let alloc = rt.alloc();
+    let GivenPlan { plan, origins } = plans.find(alloc)?;
+    let gate = Comparing::new(rt, extras.watcher);
+    let checked = check_found(rt, alloc, plan, look.workers, &gate)?;
+    let words = plans.words(&checked.plan, &origins);
+    let texts = plans.texts.as_slice();
+    let odd = oddities(alloc, &checked.plan, &origins, texts)?;
+    let odd = odd.as_slice();
     let status = match extras.format {
-        Format::Messages => write_messages(alloc, checked, words, odd, look.strict, texts, out)?,
+        Format::Messages => write_messages(alloc, &checked, words, odd, look.strict, texts, out)?,
         _ => tell_checked(
             alloc,
-            checked,
+            &checked,
             words,
             odd,
             out,
@@ -144,12 +82,12 @@ fn tell_all<R: Files + Print + Eprint + Clock + AllocGlobal, O: Output>(
         )?,
     };
     if let Some(canvas) = canvas {
-        draw_fault(rt, checked, look.pair, status, canvas)?;
+        draw_fault(rt, &checked, look.pair, status, canvas)?;
     }
     let is_explained = look.explain.is_some();
     Ok(Ended {
         status: judged(status, &checked.plan, look.strict),
-        remark: remark_on(alloc, checked, words, odd, is_explained, extras),
+        remark: remark_on(alloc, &checked, words, odd, is_explained, extras),
     })
 }
 
@@ -318,23 +256,10 @@ pub fn verify<I: Input, J: Input, O: Output>(
 ) -> Result<Ended, Halt> {
     let GivenPlan { plan, origins } = plans.find(alloc)?;
     if explain {
-        verify_kept(alloc, plans.words(&plan, &origins), cert, out, extras)
-    } else {
-        verify_plan(alloc, plan, &origins, plans, cert, out, extras)
+        return verify_kept(alloc, plans.words(&plan, &origins), cert, out, extras);
     }
-}
-
-fn verify_plan<I: Input, J: Input, O: Output>(
-    alloc: Global,
-    plan: Plan,
-    origins: &Option<Origins>,
-    plans: &Sources<'_, I>,
-    cert: &mut J,
-    out: &mut O,
-    extras: Extras,
-) -> Result<Ended, Halt> {
     let answered = verify_found(alloc, plan, cert)?;
-    let words = plans.words(&answered.plan, origins);
+    let words = plans.words(&answered.plan, &origins);
     let refusal = answered.refusal.as_ref();
     tell_verified(alloc, words, answered.answer, refusal, None, out, extras)
 }
@@ -420,20 +345,8 @@ pub fn order<R: AllocGlobal + Threads + Sync, I: Input, O: Output>(
     style: Style,
 ) -> Result<Ended, Halt> {
     let GivenPlan { plan, origins } = plans.find(rt.alloc())?;
-    order_plan(rt, plan, &origins, plans, out, explain, style)
-}
-
-fn order_plan<R: AllocGlobal + Threads + Sync, I: Input, O: Output>(
-    rt: &R,
-    plan: Plan,
-    origins: &Option<Origins>,
-    plans: &Sources<'_, I>,
-    out: &mut O,
-    explain: bool,
-    style: Style,
-) -> Result<Ended, Halt> {
     let checked = check_found(rt, rt.alloc(), plan, 1, &NoGate)?;
-    let words = plans.words(&checked.plan, origins);
+    let words = plans.words(&checked.plan, &origins);
     write_orders(rt.alloc(), words, &checked, out, explain, style)?;
     Ok(Ended::quietly(status_of(checked.faults.is_safe())))
 }

@@ -1,7 +1,7 @@
 // Runs that write a text in another form.
 
 use diagnostics::push_file;
-use given_plans::{GivenPlan, NoPlan, RefusedText};
+use given_plans::{NoPlan, RefusedText};
 use growing_text::Text;
 use hints::on_no_brief;
 use layout::{Unread, formatted};
@@ -50,10 +50,10 @@ impl Rewriting {
         out: &mut O,
     ) -> Result<Ended, Halt> {
         let status = match self {
-            Rewriting::Certify => certify(alloc, sources.find(alloc)?, out)?,
-            Rewriting::Print => print(alloc, sources.find(alloc)?, out)?,
+            Rewriting::Certify => certify_found(alloc, &sources.find(alloc)?.plan, out)?,
+            Rewriting::Print => print_found(alloc, &sources.find(alloc)?.plan, out)?,
             Rewriting::Brief => write_brief(alloc, &mut sources.first, out)?,
-            Rewriting::Expand => print(alloc, sources.find_in_briefs(alloc)?, out)?,
+            Rewriting::Expand => print_found(alloc, &sources.find_in_briefs(alloc)?.plan, out)?,
             Rewriting::Format(layout) => {
                 let file = sources.files.of(0).unwrap_or("");
                 return format(alloc, file, &mut sources.first, out, layout);
@@ -71,14 +71,6 @@ impl Rewriting {
             _ => Remark::Nothing,
         }
     }
-}
-
-fn certify<O: Output>(alloc: Global, given: GivenPlan, out: &mut O) -> Result<Status, RunError> {
-    certify_found(alloc, &given.plan, out)
-}
-
-fn print<O: Output>(alloc: Global, given: GivenPlan, out: &mut O) -> Result<Status, RunError> {
-    print_found(alloc, &given.plan, out)
 }
 
 // Writes a brief of the plan that the reader gives.
