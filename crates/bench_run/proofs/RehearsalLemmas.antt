@@ -9,7 +9,7 @@ use Rattle.plan_core.proofs.PlanLemmas.{limits_of}
 use Rattle.plan_core.specs.declared.plans.Plan.{Plan}
 use Rattle.plan_text.specs.Grammar.{Spells}
 use Rattle.cert_check.specs.Accepts.{IsAnswer}
-use Rattle.cert_check.proofs.AnswerLemmas.{answers_texts}
+use Rattle.verifying.proofs.AcceptLemmas.{answers_texts}
 use Rattle.cert_check.specs.Holds.{accepted_plan}
 use Rattle.cert_check.specs.declared.accepted.Accepted.{Accepted}
 use Rattle.cert_check.specs.declared.answers.Answer.TheVariants.{Safe}

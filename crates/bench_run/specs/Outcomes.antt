@@ -4,7 +4,7 @@ use Rattle.plan_core.specs.Contents.{Contents}
 use Rattle.plan_core.specs.Participants.{participant_count}
 use Rattle.plan_core.specs.PlanContents.{plan_contents}
 use Rattle.plan_text.specs.Grammar.{Spells}
-use Rattle.cert_check.specs.Accepts.{IsCertified, AnswersBytes}
+use Rattle.verifying.specs.Accepts.{IsCertified, AnswersBytes}
 use Rattle.cert_check.specs.Holds.{accepted_plan}
 use Rattle.cert_check.specs.declared.answers.Answer.TheVariants.{Safe}
 use Rattle.cert_check.specs.declared.answers.Answered.{Answered}

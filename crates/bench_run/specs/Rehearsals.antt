@@ -3,7 +3,7 @@ use Rattle.std.specs.Prelude.{◌≡◌, ◌≢◌, ◌⊎◌, ℕ, Bool, List, 
 use Rattle.message_tree.specs.declared.items.Item.{Item}
 use Rattle.plan_core.specs.Contents.{Contents}
 use Rattle.plan_text.specs.Grammar.{Spells}
-use Rattle.cert_check.specs.Accepts.{IsCertified, AnswersBytes}
+use Rattle.verifying.specs.Accepts.{IsCertified, AnswersBytes}
 use Rattle.cert_check.specs.declared.answers.Answer.{Answer}
 use Rattle.cert_check.specs.declared.answers.Answer.TheVariants.{Safe}
 use Rattle.plays.specs.Starters.{starters_refusal}

@@ -3,7 +3,7 @@
 use crate::scarcity::be_there_again;
 use crate::tasks::Task;
 use crate::words::Call;
-use cert_check::{AcceptError, Answer, accept, accept_plan};
+use cert_check::{Answer, accept_plan};
 use certificate::{Cert, CertError, CertText, print_cert, read_cert};
 use growing_text::Text;
 use plan_core::Plan;
@@ -14,6 +14,7 @@ use std::alloc::{AllocError, Global};
 use std::str;
 use std::thread::Threads;
 use verdicts::{NoGate, Table, TableError, table, table_with};
+use verifying::{AcceptError, accept};
 
 // ---- in place of `verify`
 

@@ -1,24 +1,16 @@
--- What the parts of `accept` answer. Only private contracts and proofs use this.
-use Rattle.std.specs.Prelude.{◌≡◌, ◌≢◌, ◌↔◌, ℕ, ◌-◌, ◌<◌, ◌^◌, min, List, [], ◌∷◌, ◌++◌, length, Option, Some, None}
+-- What the parts of `check_certificate` answer. Only private contracts and proofs use this.
+use Rattle.std.specs.Prelude.{◌≡◌, ◌↔◌, ℕ, ◌-◌, ◌<◌, ◌^◌, min, List, [], ◌∷◌, ◌++◌, length, Option, Some, None}
 use Rattle.std.specs.declared.alloc.Global.{Global}
-use Rattle.std.specs.Prelude.{Result, Ok, Err, Vec, slice_get, Bool, IsTrue, IfSome, nat_lt, if◌then◌else◌}
+use Rattle.std.specs.Prelude.{Vec, slice_get, Bool, IsTrue, IfSome, nat_lt, if◌then◌else◌}
 use Rattle.certificate.specs.declared.lines.ProofLines.{ProofLines}
 use Rattle.certificate.specs.Reading.{ReadSoFar}
 use Rattle.certificate.specs.Texts.{SpellsLine}
 use Rattle.plan_core.specs.SenderPlaces.{place, place_count}
 use Rattle.certificate.specs.Proofs.{ProofTree}
 use Rattle.plan_core.specs.Contents.{Contents}
-use Rattle.plan_core.specs.Limits.{IsWithinLimits}
 use Rattle.plan_core.specs.Pairs.{pairs_of}
-use Rattle.plan_text.specs.declared.errors.PlanError.TheVariants as plan_error
-use Rattle.plan_text.specs.Grammar as plans
-use Rattle.plan_text.specs.Refusals as refusals
-use Rattle.cert_check.specs.declared.answers.Answer.{Answer}
-use Rattle.cert_check.specs.declared.answers.AcceptError.{AcceptError}
-use Rattle.cert_check.specs.declared.answers.AcceptError.TheVariants.{Plan, NoMemory}
 use Rattle.cert_check.specs.declared.memos.Memo.{Memo}
 use Rattle.cert_check.specs.declared.tallies.Tally.{Tally}
-use Rattle.cert_check.specs.Accepts.{IsAnswer}
 use Rattle.cert_check.specs.Proved.{ProvesPair, FirstUnproved}
 
 -- the first of these that does not prove its pair, among those that have a pair
@@ -67,15 +59,3 @@ AddsOne plan old new =
 -- nothing has been read
 abbrev pub Stays : ProofLines × Tally → ProofLines × Tally → Type 0
 Stays old new = (new.0 ≡ old.0) × (new.1 ≡ old.1)
-
--- the bytes spell a plan, and the certificate is answered so
-pub record IsAnswered (plan_bytes cert_bytes : List ℕ) (answer : Answer) : Type 0 where
-  pub plan : Contents
-  pub spelled : plans.Spells plan_bytes plan
-  pub limits : IsWithinLimits plan
-  pub right : IsAnswer plan cert_bytes answer
-
-abbrev pub IsRight : List ℕ → List ℕ → Result Answer AcceptError → Type 0
-IsRight plan_bytes cert_bytes (Ok answer) = IsAnswered plan_bytes cert_bytes answer
-IsRight plan_bytes cert_bytes (Err (Plan e)) = refusals.First plan_bytes e × (e ≢ plan_error.NoMemory)
-IsRight plan_bytes cert_bytes (Err NoMemory) = Unit {0}

@@ -80,6 +80,7 @@ pub struct Place {
 }
 
 /// The line that was refused, and where.
+#[derive(Drop)]
 pub struct Refusal {
     pub place: Place,
     /// The line without its line feed, 65,536 bytes of it at most.
@@ -91,19 +92,6 @@ pub struct Refusal {
     /// The first bytes of the text, 4,096 at most, where its first line is refused: they may tell what it is. Else there
     /// are none.
     pub front: Vec<u8>,
-}
-
-// Written out, so that one call lets it go.
-impl Drop for Refusal {
-    fn drop(self) {
-        let Self {
-            place: _,
-            line: _,
-            is_whole: _,
-            is_ended: _,
-            front: _,
-        } = self;
-    }
 }
 
 /// Where a text is refused for this fault. The text stands after the lines that were read before, if some were. None comes

@@ -8,19 +8,10 @@ use plan_core::Plan;
 use std::alloc::{AllocError, Global};
 
 /// A rehearsal, looked at: the bytes of its wire, and what each starter puts.
+#[derive(Drop)]
 pub struct WireTracks {
     pub bytes: Bytes,
     pub tracks: Vec<Track>,
-}
-
-// Written out, so that one call lets it go.
-impl Drop for WireTracks {
-    fn drop(self) {
-        let Self {
-            bytes: _,
-            tracks: _,
-        } = self;
-    }
 }
 
 /// What a starter puts in each slot, up to the one in which it loses: the symbol of its item, and `.` where it listens.

@@ -35,24 +35,13 @@ pub struct GivenText {
 }
 
 /// A text that was refused, for people.
+#[derive(Drop)]
 pub struct RefusedText {
     pub text: Vec<u8>,
     pub language: Language,
     pub place: Place,
     /// Which of the briefs that give the plan it is, from 0 on.
     pub file: u32,
-}
-
-// Written out, so that one call lets it go.
-impl Drop for RefusedText {
-    fn drop(self) {
-        let Self {
-            text: _,
-            language: _,
-            place: _,
-            file: _,
-        } = self;
-    }
 }
 
 /// Why there is no plan.

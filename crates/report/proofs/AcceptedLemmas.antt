@@ -41,7 +41,7 @@ use Rattle.pair_walk.proofs.Unique.{canonical_proves}
 use Rattle.verdicts.specs.Certificates.{with_proof, outcome_certificate, certificate_for}
 use Rattle.verdicts.specs.Verdicts.{AreVerdicts, IsSafeOutcome, AreSafe}
 use Rattle.verdicts.proofs.TableLemmas.{safe_plan, safe_verdicts}
-use Rattle.cert_check.specs.Accepts.{IsCertified, IsRefuted}
+use Rattle.verifying.specs.Accepts.{IsCertified, IsRefuted}
 use Rattle.cert_check.specs.Proved.{ProvesPair, Certifies}
 use Rattle.plan_text.specs.Grammar.{Spells}
 use Rattle.report.proofs.PrintableLemmas.{IsSmall, canonical_printable, length_of_header}

@@ -7,15 +7,9 @@ use plan_core::Plan;
 use verdicts::Faults;
 
 /// A plan and the faults of its pairs, and no others.
+#[derive(Drop)]
 pub struct Checked {
     pub plan: Plan,
     pub faults: Faults,
     ghost right: { ∥ AreFaults (plan_contents plan) (fault_list faults) ∥₁ },
-}
-
-// Written out, so that one call lets it go.
-impl Drop for Checked {
-    fn drop(self) {
-        let Self { plan: _, faults: _ } = self;
-    }
 }

@@ -1,7 +1,7 @@
 // What the runs are worth together. A law does nothing: its contract is the theorem.
 
 ghost use Rattle.std.specs.Prelude.{ℕ, List};
-ghost use Rattle.cert_check.specs.Accepts.{IsCertified, IsRefuted};
+ghost use Rattle.verifying.specs.Accepts.{IsCertified, IsRefuted};
 ghost use Rattle.report.specs.Certificates.{Certified};
 ghost use Rattle.run_parts.specs.declared.runs.Status.TheVariants.{Good, Bad};
 

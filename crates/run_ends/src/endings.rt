@@ -49,21 +49,11 @@ pub enum Remark {
 }
 
 /// The text of a plan or of a brief that is refused, and those of the briefs before it.
+#[derive(Drop)]
 pub struct RefusedSource {
     pub refused: RefusedText,
     pub before: Vec<Vec<u8>>,
     pub takes: Takes,
-}
-
-// Written out, so that one call lets it go.
-impl Drop for RefusedSource {
-    fn drop(self) {
-        let Self {
-            refused: _,
-            before: _,
-            takes: _,
-        } = self;
-    }
 }
 
 /// What may stand in the place of a text: a plan text or a brief, or one of them alone.

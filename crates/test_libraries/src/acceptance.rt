@@ -1,11 +1,11 @@
 // How refusals are written.
 
 use bus_bench::OpenError;
-use cert_check::AcceptError;
 use certificate::{CertError, CertFault};
 use plan_text::PlanError;
 use std::alloc::{AllocError, Global};
 use std::fmt::Display;
+use verifying::AcceptError;
 
 const FAULTS: [(CertFault, &str); 4] = [
     (CertFault::Format(3), "C1 line 3"),

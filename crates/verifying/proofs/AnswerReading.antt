@@ -1,8 +1,9 @@
 -- What the loop over a certificate keeps.
 use Rattle.std.proofs.Common.{◌≡◌, ℕ, ◌+◌, ◌*◌, ◌^◌, ◌<◌, ◌≤◌, false, List, [], ◌++◌, length, take, Some, Result, Ok, Err, IfOk, IfErr, refl, sym, subst, length-take, length-append, arith}
 use Rattle.std.specs.Io.KnownBytes.{Consumes}
-use Rattle.cert_check.proofs.AnswerLemmas.{answers_texts}
-use Rattle.cert_check.specs.Accepts.{IsAnswer, AnswersBytes}
+use Rattle.verifying.proofs.AcceptLemmas.{answers_texts}
+use Rattle.cert_check.specs.Accepts.{IsAnswer}
+use Rattle.verifying.specs.Accepts.{AnswersBytes}
 use Rattle.cert_check.specs.Fed.{IsFed}
 use Rattle.cert_check.specs.declared.answers.Answer.{Answer}
 use Rattle.cert_check.specs.declared.answers.Judged.{Judged}

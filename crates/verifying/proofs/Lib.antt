@@ -1,2 +1,3 @@
+pub mod AcceptLemmas
 pub mod AnswerReading
 pub mod VerifiedLemmas

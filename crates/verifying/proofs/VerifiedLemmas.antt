@@ -2,7 +2,7 @@
 use Rattle.std.proofs.Common.{◌≡◌, List, ℕ, get_or, ap, subst, arith}
 use Rattle.std.specs.Prelude.{codes}
 use Rattle.certificate.specs.declared.errors.CertFault.TheVariants.{Format, Count, TooDeep, Pair}
-use Rattle.cert_check.specs.Accepts.{IsCertified, AnswersBytes}
+use Rattle.verifying.specs.Accepts.{IsCertified, AnswersBytes}
 use Rattle.cert_check.proofs.Checked.{certified_is_safe}
 use Rattle.cert_check.specs.declared.answers.Answer.{Answer}
 use Rattle.cert_check.specs.declared.answers.Answer.TheVariants.{Safe, Unsafe, Wrong}

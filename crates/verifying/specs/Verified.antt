@@ -1,6 +1,6 @@
 -- What verify finds in a plan text and a certificate text, and what it says of them.
 use Rattle.std.specs.Prelude.{◌≡◌, ℕ, List}
-use Rattle.cert_check.specs.Accepts.{AnswersBytes}
+use Rattle.verifying.specs.Accepts.{AnswersBytes}
 use Rattle.cert_check.specs.declared.answers.Answer.{Answer}
 use Rattle.cert_check.specs.declared.answers.Answered.{Answered}
 use Rattle.plan_core.specs.PlanContents.{plan_contents}

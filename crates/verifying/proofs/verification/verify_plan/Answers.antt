@@ -1,5 +1,5 @@
 use Rattle.std.proofs.Common.{refl, sym, subst}
-use Rattle.cert_check.specs.Accepts.{AnswersBytes}
+use Rattle.verifying.specs.Accepts.{AnswersBytes}
 use Rattle.cert_check.specs.declared.answers.Answer.{Answer}
 use Rattle.plan_core.specs.PlanContents.{plan_contents}
 use Rattle.plan_core.specs.declared.plans.Plan.{Plan}

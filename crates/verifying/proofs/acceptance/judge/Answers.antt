@@ -1,8 +1,8 @@
 use Rattle.plan_core.specs.PlanContents.{plan_contents}
 use Rattle.std.proofs.Common.{Err, ap, ◌∙◌}
 use Rattle.std.proofs.lemmas.Result.{err_from_is_err_and}
-use Rattle.cert_check.proofs.AnswerLemmas.{refused_right}
-use Rattle.cert_check.proofs.acceptance.judge.Goals as goal
+use Rattle.verifying.proofs.AcceptLemmas.{refused_right}
+use Rattle.verifying.proofs.acceptance.judge.Goals as goal
 
 pub returns-in_err-plan : goal.returns-in_err-plan
 returns-in_err-plan c =

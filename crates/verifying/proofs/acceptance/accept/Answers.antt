@@ -2,8 +2,8 @@ use Rattle.plan_core.proofs.Headers.{alone_after_header}
 use Rattle.plan_core.proofs.Model.{somebody, followed, followed_on}
 use Rattle.plan_core.proofs.Safety.{round_never_clashes, goes_on, all_hear}
 use Rattle.plan_core.proofs.Texts.{some_text, length_bound, end_bound}
-use Rattle.cert_check.proofs.AnswerLemmas as answer
-use Rattle.cert_check.proofs.acceptance.accept.Goals as goal
+use Rattle.verifying.proofs.AcceptLemmas as answer
+use Rattle.verifying.proofs.acceptance.accept.Goals as goal
 
 pub returns-clause-finds_safe : goal.returns-clause-finds_safe
 returns-clause-finds_safe c = answer.finds_safe c.args.plan.now c.args.cert.now c.judge.result c.judge.ensures
