@@ -1,5 +1,5 @@
--- What an answer for a plan says: one at most is right, and a plan that is found safe is safe.
-use Rattle.std.proofs.Common.{◌≡◌, ℕ, List, sym, ◌∙◌, subst}
+-- What an answer for a plan says: one at most is right, a plan that is found safe is safe, and one that is found unsafe is not.
+use Rattle.std.proofs.Common.{◌≡◌, sym, ◌∙◌, subst}
 use Rattle.certificate.specs.declared.errors.CertFault.{CertFault}
 use Rattle.certificate.specs.Certificates.{Certificate, proofs, flaw}
 use Rattle.plan_core.specs.Contents.{Contents}
@@ -16,10 +16,6 @@ use Rattle.cert_check.proofs.Checked.{certified_is_safe, not_wrong, wrong_once}
 
 pub same_judged : (plan other : Contents) (value due : Certificate) (answer : Answer) → plan ≡ other → value ≡ due → Judges plan value answer → Judges other due answer
 same_judged plan other value due answer e f j = subst (λ (v : Certificate). Judges other v answer) f (subst (λ (p : Contents). Judges p value answer) e j)
-
-pub same_contradicted : (plan other : Contents) (value due : Certificate) (fault : CertFault) → plan ≡ other → value ≡ due → Contradicts plan value fault → Contradicts other due fault
-same_contradicted plan other value due fault e f j =
-    subst (λ (v : Certificate). Contradicts other v fault) f (subst (λ (p : Contents). Contradicts p value fault) e j)
 
 pub safe_not_contradicted : (plan : Contents) (value : Certificate) (fault : CertFault) → Judges plan value Safe → Contradicts plan value fault → ⊥
 safe_not_contradicted plan (proofs trees) fault j w = not_wrong plan trees fault j w

@@ -1,7 +1,5 @@
 -- What the bytes of a certificate come to, for a plan.
 use Rattle.std.specs.Prelude.{◌≡◌, ◌⊎◌, ℕ, List}
-use Rattle.message_tree.specs.declared.items.Item.{Item}
-use Rattle.message_tree.specs.declared.items.Kind.{Kind}
 use Rattle.certificate.specs.declared.errors.CertFault.{CertFault}
 use Rattle.certificate.specs.declared.errors.CertFault.TheVariants.{Pair}
 use Rattle.certificate.specs.Certificates.{Certificate, proofs, flaw}

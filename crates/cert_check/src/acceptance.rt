@@ -20,11 +20,12 @@ use certificate::{CertError, CertFault, Fault, Head, ProofLines, Standing, read_
 use plan_core::Plan;
 use std::alloc::{AllocError, Global};
 
-/// Whether the certificate proves that this plan is safe: it comes back accepted where it does, and else with the answer.
+/// This plan, accepted where the certificate proves that it is safe, and else with the answer. It takes memory as
+/// `check_certificate` does.
 ///
 /// # Errors
 ///
-/// Where an allocation fails. It takes memory for one proof, and for the lines that are remembered.
+/// Where an allocation fails.
 pub fn accept_certificate(
     alloc: Global,
     plan: Plan,
@@ -62,7 +63,7 @@ pub fn accept_certificate(
 ///
 /// # Errors
 ///
-/// Where an allocation fails before the text is refused. What is wrong with the certificate is an answer: first what is
+/// Where an allocation fails, unless the text was refused before. What is wrong with the certificate is an answer: first what is
 /// wrong with its text, by itself; then, of proofs, another number than that of the plan's pairs, and else the first pair
 /// that is not proved; of a fault, that its pair does not have it.
 pub fn check_certificate(alloc: Global, plan: &Plan, cert: &[u8]) -> Result<Answer, AllocError>

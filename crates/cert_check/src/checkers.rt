@@ -41,7 +41,7 @@ impl From<AllocError> for FeedError {
 /// A checker of a certificate that comes in pieces: its answer is that of `check_certificate` for all of them joined.
 ///
 /// It judges whole lines as they come and lets go of them, so it holds one piece and what is open before it, besides what
-/// `accept` takes memory for. From a line on that is refused or that gives a fault, it holds all that comes.
+/// `check_certificate` takes memory for. From a line on that is refused or that gives a fault, it holds all that comes.
 #[derive(Drop)]
 pub struct Checker {
     // what has come and is not judged

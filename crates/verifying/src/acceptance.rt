@@ -56,12 +56,9 @@ impl From<AllocError> for AcceptError {
 
 /// Whether the certificate proves that the plan is safe, or shows that it is not.
 ///
-/// The plan is read first, then the certificate, one line at a time: where a line proves its pair as it stands, no
-/// proof is made of it; of any other line the proof is read, its pair is checked, and the proof is dropped. A line that
-/// proves its pair is remembered for the two senders, as long as there is room for it: where the text has the same line
-/// for a further pair of them, nothing is looked at again. So it takes memory for the plan, for one proof, and for the
-/// lines that are remembered (64 MiB of lines at most, and a place of some 32 bytes for each two messages or
-/// interrupts, 2.6 MB at most), however long the certificate is.
+/// The plan is read first, then the certificate, line by line, as `check_certificate` reads it. So it takes memory for
+/// the plan, for one proof, and for the lines that are remembered (64 MiB, and places of 2.6 MB, at most), however long
+/// the certificate is.
 ///
 /// Where it answers `Safe`, no run of the bus has a fault, whatever participants start together and whatever the
 /// targets return: no repeated START or STOP meets another's data bit or each other (UM10204, 3.1.8), no controller

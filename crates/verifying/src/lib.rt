@@ -1,5 +1,5 @@
-//! What a certificate says of a plan: `accept` for the bytes of both, and over any readers and writers, as a value, and as
-//! a line with a status.
+//! What a certificate says of a plan: `accept` says it for the bytes of both, `verify_plan` and `run_verify` for what
+//! readers give, as a value and as a line with a status.
 //!
 //! Below it stand the checker of certificates, the reader of plan texts, and what reads and writes streams. It names
 //! nothing of the search.
