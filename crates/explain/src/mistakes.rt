@@ -97,7 +97,7 @@ fn misproved_pair(alloc: Global, plan: &Plan, cert: &[u8], pair: u32) -> Result<
 // How many proofs the certificate has, and announces, where it is one of proofs.
 fn miscounted(alloc: Global, plan: &Plan, cert: &[u8]) -> Result<Mistake, AllocError> {
     let (says, proofs) = match proofs_of(alloc, cert)? {
-        Some(lines) => (Some(lines.announced()), proofs_in(alloc, lines)?),
+        Some(lines) => (Some(lines.announced()), lines_in(lines)),
         None => (None, 0),
     };
     Ok(Mistake::Count {
@@ -107,24 +107,39 @@ fn miscounted(alloc: Global, plan: &Plan, cert: &[u8]) -> Result<Mistake, AllocE
     })
 }
 
-fn proofs_in(alloc: Global, mut lines: ProofLines<'_>) -> Result<u32, AllocError> {
-    for proofs in 0..u32::MAX {
-        if next_proof(alloc, &mut lines)?.is_none() {
-            return Ok(proofs);
+// How many lines are left, each with its line feed.
+fn lines_in(mut lines: ProofLines<'_>) -> u32 {
+    for count in 0..u32::MAX {
+        if !skips_line(&mut lines) {
+            return count;
         }
     }
-    Ok(u32::MAX)
+    u32::MAX
 }
 
-// The proof of the pair with this number, where the certificate has one.
+// The proof of the pair with this number, where the certificate has one. The lines before it are those of proofs.
 fn proof_of(alloc: Global, cert: &[u8], pair: u32) -> Result<Option<Cert>, AllocError> {
     let Some(mut lines) = proofs_of(alloc, cert)? else {
         return Ok(None);
     };
     for _ in 0..pair {
-        let _ = next_proof(alloc, &mut lines)?;
+        if !skips_line(&mut lines) {
+            return Ok(None);
+        }
     }
     next_proof(alloc, &mut lines)
+}
+
+// Takes the next line unread, if one is left that a line feed ends.
+fn skips_line(lines: &mut ProofLines<'_>) -> bool {
+    let rest = lines.rest();
+    match rest.iter().position(|byte| *byte == b'\n') {
+        Some(at) if at < rest.len() => {
+            let _ = lines.take_line(at + 1);
+            true
+        }
+        _ => false,
+    }
 }
 
 // The proofs of a certificate, where it is one of proofs.
