@@ -132,14 +132,11 @@ fn proof_of(alloc: Global, cert: &[u8], pair: u32) -> Result<Option<Cert>, Alloc
 
 // Takes the next line unread, if one is left that a line feed ends.
 fn skips_line(lines: &mut ProofLines<'_>) -> bool {
-    let rest = lines.rest();
-    match rest.iter().position(|byte| *byte == b'\n') {
-        Some(at) if at < rest.len() => {
-            let _ = lines.take_line(at + 1);
-            true
-        }
-        _ => false,
-    }
+    let Some(at) = lines.rest().iter().position(|byte| *byte == b'\n') else {
+        return false;
+    };
+    let _ = lines.take_line(at + 1);
+    true
 }
 
 // The proofs of a certificate, where it is one of proofs.
