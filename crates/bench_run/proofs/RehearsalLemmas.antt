@@ -21,8 +21,8 @@ use Rattle.bus_bench.specs.Opening.{IsOpened, IsOpenRefusal}
 use Rattle.bus_bench.specs.Seats as seats
 use Rattle.bus_bench.specs.Seats.{BenchName, game_of}
 use Rattle.plays.specs.Starters.{starters_refusal}
-use Rattle.plays.specs.declared.starters.OpenError.{OpenError}
-use Rattle.plays.specs.declared.starters.OpenError.TheVariants.{NoStarter, Unknown, SameController, Never, NoMemory}
+use Rattle.run_errors.specs.declared.benches.OpenError.{OpenError}
+use Rattle.run_errors.specs.declared.benches.OpenError.TheVariants.{NoStarter, Unknown, SameController, Never, NoMemory}
 use Rattle.run_parts.specs.PlanTexts.{RefusesPlan, SpellsPlan}
 use Rattle.run_parts.specs.Devices.{Reader}
 use Rattle.run_parts.specs.Runs.{ReadsBoth, HaltsAtBoth, after_both}

@@ -4,8 +4,8 @@ use Rattle.std.specs.List.{range_with_len}
 use Rattle.plan_core.specs.declared.plans.Plan.{Plan}
 use Rattle.atomic_table.specs.Seated.{TableId}
 use Rattle.atomic_table.specs.Table.{Me}
-use Rattle.plays.specs.declared.starters.OpenError.{OpenError}
-use Rattle.plays.specs.declared.starters.OpenError.TheVariants.{NoMemory}
+use Rattle.run_errors.specs.declared.benches.OpenError.{OpenError}
+use Rattle.run_errors.specs.declared.benches.OpenError.TheVariants.{NoMemory}
 use Rattle.bus_bench.specs.Rule.{SLOTS, opening}
 use Rattle.bus_bench.specs.Seats.{BenchName, Player, fresh}
 use Rattle.bus_bench.specs.Tickets.{ticket_bench}

@@ -47,10 +47,7 @@ fn samples(task: &Task<'_>) -> Result<Vec<Sample>, VcdError> {
     let mut reader = Reader::new(task.alloc, task.one, task.other)?;
     let fed = feed(task.alloc, &mut reader, task.second);
     fed?;
-    match reader.end() {
-        Ok(samples) => Ok(samples),
-        Err(refused) => Err(refused.error),
-    }
+    reader.end()
 }
 
 // Feeds a piece, and once more where an allocation failed, when there is memory: the reader is then as it was.

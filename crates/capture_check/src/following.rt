@@ -17,7 +17,7 @@ pub struct Follower {
 }
 
 impl Follower {
-    ghost use Rattle.std.specs.Prelude.{◌≡◌, ◌∷◌, ◌++◌, List, IfOk, map};
+    ghost use Rattle.std.specs.Prelude.{◌≡◌, ◌∷◌, ◌++◌, List, IfOk, OnOk, map};
     ghost use Rattle.vcd_read.specs.declared.samples.Sample.{Sample};
     ghost use Rattle.capture_check.specs.Following.{at_the_start, transactions_behind};
     ghost use Rattle.capture_check.specs.Transactions.{before};
@@ -65,16 +65,19 @@ impl Follower {
         }
     }
 
-    /// The transactions that end within the last samples, and the one that goes on at the end of the capture, if any.
+    /// The transactions that end within the last samples, and the one that goes on at the end of the capture, if any. Then
+    /// nothing is known of the bus, as at first; what was counted is kept.
     pub fn follow_to_end(
         &mut self,
         alloc: Global,
         samples: &[Sample],
     ) -> Result<Vec<Transaction>, AllocError>
-        ensures { IfOk result (λ found.
+        ensures found { IfOk result (λ found.
             map recorded found.items ≡ transactions_behind (place_of self.old) samples.now) }
+        ensures left { OnOk result (place_of self.new ≡ at_the_start) }
     {
         let found = self.follow(alloc, samples)?;
+        self.watch.forget();
         let all = with_last(found, self.listener.end())?;
         Ok(all)
     }

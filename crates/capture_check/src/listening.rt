@@ -124,9 +124,10 @@ impl Listener {
         }
     }
 
-    /// The end of the capture: the transaction that goes on, if any.
+    /// The end of the capture: the transaction that goes on, if any. Then nothing is known of the bus, as at first.
     pub fn end(&mut self) -> Option<Transaction>
-        ensures { recorded_option result ≡ ended (bus_of self.old) Unfinished }
+        ensures ended { recorded_option result ≡ ended (bus_of self.old) Unfinished }
+        ensures bus { bus_of self.new ≡ unknown }
     {
         self.finish(Heard::Unknown, Until::Unfinished)
     }

@@ -107,6 +107,14 @@ impl Watch {
         }
     }
 
+    // No level is known any more.
+    pub(crate) fn forget(&mut self)
+        ensures { seen_of self.new ≡ nothing_seen }
+    {
+        self.lines = None;
+        self.moved = false;
+    }
+
     /// How often SCL has risen.
     pub fn rises(&self) -> Rises {
         self.rises

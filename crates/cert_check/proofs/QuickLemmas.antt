@@ -1,6 +1,7 @@
 -- Proofs at the front of a text: a node, and what is below it.
-use Rattle.std.proofs.Common.{◌≡◌, ℕ, ◌+◌, ◌-◌, ◌<◌, ◌≤◌, List, [], ◌∷◌, ◌++◌, length, take, drop, get_or, refl, ap, sym, ◌∙◌, arith, append_assoc, length-append}
+use Rattle.std.proofs.Common.{◌≡◌, ℕ, ◌+◌, ◌-◌, ◌<◌, ◌≤◌, List, [], ◌∷◌, ◌++◌, length, take, drop, get_or, suc, refl, ap, sym, ◌∙◌, arith, append_assoc, length-append}
 use Rattle.std.proofs.lemmas.Fmt.{decimal_digit}
+use Rattle.std.proofs.lemmas.List.{take_all}
 use Rattle.std.proofs.Math.Seq.{take-append_seam}
 use Rattle.message_tree.specs.declared.bits.Bit.{Bit}
 use Rattle.message_tree.specs.declared.bits.Pattern.{Pattern}
@@ -9,7 +10,6 @@ use Rattle.message_tree.specs.declared.counts.Count.{Count}
 use Rattle.message_tree.specs.Bits.{SplitAt}
 use Rattle.message_tree.specs.Trees as tree
 use Rattle.message_tree.specs.Trees.{FrameTree, PayloadTree, TailTree}
-use Rattle.lexer.proofs.LexemeLemmas.{front_is}
 use Rattle.certificate.specs.Proofs.{ProofTree, part, byte, read, again}
 use Rattle.certificate.specs.Proves.{ProvesFrames, ProvesPayloads, ProvesTails, ProvesHeaders}
 use Rattle.certificate.specs.Texts.{proof_text, proof_line}
@@ -17,6 +17,13 @@ use Rattle.plan_core.specs.Contents.{Contents}
 use Rattle.cert_check.specs.Proved.{ProvesPair}
 use Rattle.cert_check.specs.Quick.{Begins, BeginsSpaced, BeginsTwo, IsProvedLine}
 use Rattle.cert_check.specs.Reads.{ProvesReads}
+
+-- the first byte, and the others
+first_is : (bytes : List ℕ) → 1 ≤ length bytes → bytes ≡ get_or bytes 0 0 ∷ take (length bytes - 1) (drop 1 bytes)
+first_is [] some = absurd (omega arith)
+first_is (b ∷ bytes) some =
+    let whole : take (suc (length bytes) - 1) bytes ≡ bytes = take_all (suc (length bytes) - 1) bytes (omega arith) in
+    ap (λ xs. b ∷ xs) (sym whole)
 
 -- ---- nodes with nothing below them
 
@@ -33,7 +40,7 @@ split_begins text inner xs ys e some least most split =
       printable = record { places = omega arith; path = omega arith };
       text_is =
           e
-          ∙ ap (λ (t : List ℕ). 80 ∷ t) (front_is inner digit some refl)
+          ∙ ap (λ (t : List ℕ). 80 ∷ t) (first_is inner some)
           ∙ ap (λ (ds : List ℕ). 80 ∷ (ds ++ rest)) (sym (decimal_digit (digit - 48) small ∙ ap (λ (d : ℕ). d ∷ []) back));
       proves = split;
     }

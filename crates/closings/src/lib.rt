@@ -2,11 +2,10 @@
 #![tactic(auto)]
 
 use files::{Reread, Sheet};
-use refusal_objects::Detail;
-use report::{RunError, Status};
+use report::Status;
 use run_ends::{
-    About, Closing, Ended, Extras, Format as Written, Halt, Inputs, NamedSources, Remark, advise,
-    no_drive, no_timescale, refused, refused_at,
+    About, Closing, Ended, Extras, Halt, Inputs, NamedSources, Remark, advise, no_drive,
+    no_timescale, refuse,
 };
 use std::rt::Files;
 use std::time::Clock;
@@ -53,46 +52,22 @@ pub fn finish<'a, R: Files + Print + Eprint + Clock + AllocGlobal>(
         }
     };
     let ended = out.settle(ended);
-    let status = exit_code_of(rt, ended, &remark, named, &read, extras);
-    if extras.hints {
-        let closing = Closing {
-            ended,
-            remark,
-            named,
-            output,
-            error: reason.or(out.into_error()),
-            about,
-            voice: extras.voice(),
-        };
-        advise(rt, read, closing);
-    }
-    status
-}
-
-// The exit code of a run that has ended, with the line of a refusal, which may name a file: one of those that give a
-// plan, or the one that was read last. The line that told how far it was goes away.
-fn exit_code_of<R: Clock + Eprint + AllocGlobal, F>(
-    rt: &R,
-    ended: Result<Status, RunError>,
-    remark: &Remark,
-    named: NamedSources<'_>,
-    read: &Inputs<'_, F>,
-    extras: Extras,
-) -> u8 {
+    let closing = Closing {
+        remark,
+        named,
+        output,
+        error: reason.or(out.into_error()),
+        about,
+        voice: extras.voice(),
+    };
     extras.watcher.clear(rt);
     match ended {
-        Ok(Status::Good) => 0,
-        Ok(Status::Bad) => 1,
-        Ok(Status::Refused) => 2,
-        Err(error) if extras.format == Written::Messages => {
-            refused_at(rt, error, remark, named, read)
+        Ok(status) => {
+            if extras.hints {
+                advise(rt, status, read, closing);
+            }
+            status.code()
         }
-        Err(error @ RunError::Read) => {
-            refused(rt, error, Detail::File(read.last.path), extras.voice())
-        }
-        Err(error) => {
-            let detail = remark.detail(rt.alloc(), error, named);
-            refused(rt, error, detail, extras.voice())
-        }
+        Err(error) => refuse(rt, error, read, closing, extras),
     }
 }

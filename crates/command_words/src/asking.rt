@@ -214,9 +214,10 @@ fn told<'a>(alloc: Global, words: &[String], error: &Error) -> Result<Asked<'a>,
     let text = format!(in alloc; "{error}")?;
     Ok(match error.kind() {
         ErrorKind::DisplayVersion => Asked::Version(text),
-        ErrorKind::UnknownArgument if is_of_further_file(alloc, words, text.as_str())? => {
-            Asked::Refuse(with_tip(alloc, text.as_str())?)
-        }
+        ErrorKind::UnknownArgument => Asked::Refuse(match tip_of(alloc, words, text.as_str())? {
+            Some(tip) => with_tip(alloc, text.as_str(), tip)?,
+            None => text,
+        }),
         _ if error.use_stderr() => Asked::Refuse(text),
         _ => Asked::Show(text),
     })
@@ -225,35 +226,46 @@ fn told<'a>(alloc: Global, words: &[String], error: &Error) -> Result<Asked<'a>,
 // What stands below the line of clap's that names a file too much.
 const FURTHER_FILES: &str = "\n\n  tip: further files of a brief follow by '--with FILE'";
 
-// Whether the word that is refused could be a further file of a brief, for a command that takes these by an option.
-fn is_of_further_file(alloc: Global, words: &[String], told: &str) -> Result<bool, AllocError> {
+const WRITTEN_FILE: &str = "\n\n  tip: the certificate is written to a file by '-o FILE'";
+
+// What the word that is refused could be: a further file of a brief, for a command that takes these by an option, or the file
+// for a certificate.
+fn tip_of(alloc: Global, words: &[String], told: &str) -> Result<Option<&'static str>, AllocError> {
     if !takes_further(words) {
-        return Ok(false);
+        return Ok(None);
     }
     for word in words.iter().skip(2) {
         let word = word.as_str();
         let head = format!(in alloc; "error: unexpected argument '{word}' found")?;
         if !word.starts_with('-') && told.starts_with(head.as_str()) {
-            return Ok(true);
+            return Ok(Some(if has(words, "certify") && !word.ends_with(".brief") {
+                WRITTEN_FILE
+            } else {
+                FURTHER_FILES
+            }));
         }
     }
-    Ok(false)
+    Ok(None)
 }
 
 // Whether one of the words is a command with this option.
 fn takes_further(words: &[String]) -> bool {
     for entry in &COMMANDS {
-        if entry.takes_further() && words.iter().any(|word| word.as_str() == entry.name) {
+        if entry.takes_further() && has(words, entry.name) {
             return true;
         }
     }
     false
 }
 
+fn has(words: &[String], name: &str) -> bool {
+    words.iter().any(|word| word.as_str() == name)
+}
+
 // What clap says, with a tip after its first line.
-fn with_tip(alloc: Global, told: &str) -> Result<String, AllocError> {
+fn with_tip(alloc: Global, told: &str, tip: &str) -> Result<String, AllocError> {
     let (first, rest) = told.split_once('\n').unwrap_or((told, ""));
-    format!(in alloc; "{first}{FURTHER_FILES}\n{rest}")
+    format!(in alloc; "{first}{tip}\n{rest}")
 }
 
 // ---- what clap found

@@ -94,6 +94,16 @@ fn argument<'a>(alloc: Global, argument: Argument) -> Result<Arg<'a>, AllocError
             value_name,
             help,
         } => option(alloc, id, value_name, help).value_parser(value_parser!(u32)),
+        Argument::CountWith {
+            id,
+            other,
+            value_name,
+            help,
+        } => {
+            return option(alloc, id, value_name, help)
+                .value_parser(value_parser!(u32))
+                .requires_arg(other);
+        }
         Argument::Number {
             id,
             value_name,
@@ -114,6 +124,16 @@ fn argument<'a>(alloc: Global, argument: Argument) -> Result<Arg<'a>, AllocError
             values,
             help,
         } => choice(alloc, id, value_name, default, values, help),
+        Argument::ChoiceWith {
+            id,
+            other,
+            value_name,
+            default,
+            values,
+            help,
+        } => {
+            return choice(alloc, id, value_name, default, values, help).requires_arg(other);
+        }
     })
 }
 

@@ -101,6 +101,9 @@ impl<'a> Options<'a> {
         if is_no_time(self.to) {
             return Some("the value for '--to <TIME>' is no time as 15 or 1.5us");
         }
+        if self.window().is_empty() {
+            return Some("'--from' is after '--to', so there is nothing between them");
+        }
         if self.summary && self.explain {
             return Some("'--summary' leaves no transactions for '--explain'");
         }

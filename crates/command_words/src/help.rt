@@ -119,8 +119,8 @@ with the number of pairs in which it alone can win, in which either can, and in
 which only the other can. Who always loses may wait long on a busy bus.
 
 With '--explain' a summary stands above these lines: for each two controllers
-how many pairs each wins, either may win, and both end alike; who never wins
-against whom; and who waits in each pair that somebody wins.
+how many pairs each wins, either may win, and both always end together; who
+never wins against whom; and who waits in each pair that somebody wins.
 
 Exit status: 0 the plan is safe, 1 it is not, 2 refused.";
 
@@ -131,9 +131,9 @@ from elsewhere. It shows
   the groups       unsafe pairs of one cause each, between whom, and one of
                    them drawn: the data of both, SDA and SCL
   the pairs        a matrix of the participants by families: which pairs are
-                   unsafe, which part in the header or later, which end alike,
-                   and where either may win. A cell leads to its drawing; above
-                   2,000 pairs there is one for each two families
+                   unsafe, which part in the header or later, which always end
+                   together, and where either may win. A cell leads to its
+                   drawing; above 2,000 pairs there is one for each two families
   who wins         how often each participant can win, or always loses
   what is sent     each message in bytes, as 'S 48 Wr A 01 A P'
   the capture      its transactions on a line of time, in a lane for each

@@ -84,6 +84,13 @@ pub enum Argument {
         value_name: &'static str,
         help: &'static str,
     },
+    /// The same, where another option has to be given too.
+    CountWith {
+        id: &'static str,
+        other: &'static str,
+        value_name: &'static str,
+        help: &'static str,
+    },
     /// An option that takes a number of 32 bits.
     Number {
         id: &'static str,
@@ -105,6 +112,15 @@ pub enum Argument {
     /// An option that takes one of these texts. Its help names them, and the default.
     Choice {
         id: &'static str,
+        value_name: &'static str,
+        default: &'static str,
+        values: &'static [&'static str],
+        help: &'static str,
+    },
+    /// The same, where another option has to be given too.
+    ChoiceWith {
+        id: &'static str,
+        other: &'static str,
         value_name: &'static str,
         default: &'static str,
         values: &'static [&'static str],
@@ -396,8 +412,9 @@ const WAVE: Argument = Argument::Option {
     help: "Write FILE, a value change dump of the waves",
 };
 
-const PAIR: Argument = Argument::Count {
+const PAIR: Argument = Argument::CountWith {
     id: "pair",
+    other: "wave",
     value_name: "I",
     help: "The unsafe pair for --wave, not the first one",
 };
@@ -460,8 +477,9 @@ const DRIVES: Argument = Argument::Pairs {
     help: "What a controller pulls: bmc=top.bmc.sda_o (repeat)",
 };
 
-const PULLS: Argument = Argument::Choice {
+const PULLS: Argument = Argument::ChoiceWith {
     id: "pulls",
+    other: "drives",
     value_name: "LEVEL",
     default: "0",
     values: &["0", "1"],

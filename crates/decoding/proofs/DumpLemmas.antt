@@ -2,8 +2,8 @@
 use Rattle.std.proofs.Common.{◌≡◌, ◌⊎◌, inl, inr, ℕ, List, sym, subst, refl, Result, Ok, Err}
 use Rattle.vcd_read.specs.declared.errors.Refusal.{Refusal}
 use Rattle.vcd_read.specs.declared.errors.Refusal.TheVariants.{NoSignal, BadToken, TimeBack, Unended}
-use Rattle.vcd_read.specs.declared.errors.VcdError.{VcdError}
-use Rattle.vcd_read.specs.declared.errors.VcdError.TheVariants.{NoMemory}
+use Rattle.run_errors.specs.declared.dumps.VcdError.{VcdError}
+use Rattle.run_errors.specs.declared.dumps.VcdError.TheVariants.{NoMemory}
 use Rattle.vcd_read.specs.declared.samples.Sample.{Sample}
 use Rattle.vcd_read.specs.Dumps.{samples_of, said_so_far}
 use Rattle.vcd_read.specs.Probes.{Finder}

@@ -1,8 +1,8 @@
 -- What has ended in a dump that goes on, and what a sink has taken of it.
 use Rattle.std.proofs.Common.{◌≡◌, ◌⊎◌, inl, inr, ℕ, List, [], ◌++◌, map, Result, Ok, Err, IfErr, OnOk, ap, refl, arith, subst, sym, ◌∙◌}
 use Rattle.std.proofs.lemmas.List.{append_assoc}
-use Rattle.vcd_read.specs.declared.errors.VcdError.{VcdError}
-use Rattle.vcd_read.specs.declared.errors.VcdError.TheVariants.{NoMemory}
+use Rattle.run_errors.specs.declared.dumps.VcdError.{VcdError}
+use Rattle.run_errors.specs.declared.dumps.VcdError.TheVariants.{NoMemory}
 use Rattle.vcd_read.specs.declared.samples.Sample.{Sample}
 use Rattle.vcd_read.specs.Dumps.{samples_of, given_so_far}
 use Rattle.vcd_read.specs.Probes.{Finder}

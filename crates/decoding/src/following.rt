@@ -101,11 +101,12 @@ impl Decoder {
             reader,
             mut follower,
         } = self;
-        let samples = match reader.end() {
+        let samples = match reader.close() {
             Ok(samples) => samples,
             Err(refused) => {
-                *wrong = refused.wrong;
-                return Err(RunError::from(refused.error));
+                let error = refused.error;
+                *wrong = refused.wrong();
+                return Err(RunError::from(error));
             }
         };
         let found = follower.follow_to_end(alloc, samples.as_slice())?;

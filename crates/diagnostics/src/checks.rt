@@ -30,7 +30,7 @@ pub fn diagnose_check(
 ) -> Result<Vec<Diagnostic>, AllocError>
     requires { AreFaults (plan_contents checked.now.plan) (fault_list checked.now.faults) }
 {
-    let groups = grouped_of(alloc, &checked.plan, words, &checked.faults, 0)?;
+    let groups = grouped_of(alloc, &checked.plan, words, &checked.faults, None)?;
     diagnose_groups(alloc, words, checked, &groups, odd, strict, texts)
 }
 

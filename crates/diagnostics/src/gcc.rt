@@ -1,7 +1,7 @@
 // Lines as compilers write them, which editors and other tools take.
 
 use crate::values::{Diagnostic, Severity, Span};
-use growing_text::Text;
+use growing_text::{Text, push_shown};
 use plan_words::BriefFiles;
 use std::alloc::{AllocError, Global};
 
@@ -56,7 +56,7 @@ impl<'a> Messages<'a> {
     }
 
     fn push_place(&self, text: &mut Text, span: Span) {
-        push_file(text, self.files.of(span.file).unwrap_or("<none>"));
+        push_shown(text, self.files.of(span.file).unwrap_or("<none>"));
         let (line, column) = self.position(span);
         text.push(":");
         text.push_number(line);
@@ -81,13 +81,6 @@ impl<'a> Messages<'a> {
         }
         let column = span.start.saturating_sub(begins).saturating_add(1);
         (line, column as u64)
-    }
-}
-
-/// Adds the name of a file, with `?` for what would not stay on its line.
-pub fn push_file(text: &mut Text, file: &str) {
-    for c in file.chars() {
-        text.push_char(if c.is_control() { '?' } else { c });
     }
 }
 

@@ -14,6 +14,6 @@ mod unchecked;
 mod values;
 
 pub use checks::diagnose_check;
-pub use gcc::{Messages, push_file};
+pub use gcc::Messages;
 pub use refusals::diagnose_refusal;
-pub use values::{Diagnostic, Related, Severity, Span};
+pub use values::{Diagnostic, Related, Severity, Span, reason_of};

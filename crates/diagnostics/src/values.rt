@@ -63,6 +63,35 @@ pub(crate) fn one_line(alloc: Global, hints: &Hints) -> Result<String, AllocErro
     text.finish()
 }
 
+/// The first thing that hints say, on one line, with what belongs to it: of a refusal that is its reason. Where they show a place
+/// that is left out.
+///
+/// # Errors
+///
+/// Where an allocation fails.
+pub fn reason_of(alloc: Global, hints: &Hints) -> Result<String, AllocError> {
+    let mut text = Text::new(alloc);
+    let mut goes_on = true;
+    for hint in hints.all() {
+        match hint {
+            Hint::Sentence(_) if !goes_on => break,
+            Hint::Sentence(_) | Hint::Item(_) | Hint::Detail(_) => {
+                let words = hint.text(alloc)?;
+                if !text.is_empty() {
+                    text.push(if goes_on { " " } else { ", " });
+                }
+                text.push(words.as_str());
+                goes_on = words.as_str().ends_with(':');
+            }
+            Hint::Marks { .. } => {
+                text = Text::new(alloc);
+                goes_on = true;
+            }
+        }
+    }
+    text.finish()
+}
+
 // What stands before a hint on its line.
 #[derive(Clone, Copy)]
 enum Before {

@@ -1,6 +1,6 @@
 // The lines of controllers, fed as a dump is read, and asked as its transactions end.
 
-use crate::following::{Drivers, Drove};
+use crate::following::{Alike, Drivers, Drove};
 use dump_tokens::{Drive, Drives};
 use run_parts::RunError;
 use std::alloc::Global;
@@ -64,10 +64,10 @@ impl<'a> Driving<'a> {
         }
     }
 
-    /// The first controller whose line is SDA itself, where there was a slot.
-    pub fn first_same(&self) -> Option<usize> {
+    /// The first controller whose line did in each slot what SDA does, where there was a slot.
+    pub fn first_alike(&self) -> Option<Alike> {
         match self.drivers.try_borrow() {
-            Ok(drivers) => drivers.first_same(),
+            Ok(drivers) => drivers.first_alike(),
             Err(_) => None,
         }
     }

@@ -160,7 +160,8 @@ struct Follower {
     past: usize,
     before: Level,
     now: Level,
-    // whether in some slot it did not do what the bus shows, and whether in one it pulled SDA that was HIGH
+    // whether in some slot, that of a STOP too, it did not do what the bus shows, and whether in one it pulled SDA that was
+    // HIGH
     differs: bool,
     is_denied: bool,
 }
@@ -190,6 +191,14 @@ impl Follower {
     }
 }
 
+/// A controller, by its number, whose line did in each slot what the bus shows, also before STOPs.
+#[derive(Clone, Copy)]
+pub struct Alike {
+    pub number: usize,
+    /// Whether it is SDA itself: targets pulled SDA too. Where none did, a controller alone on the bus does the same.
+    pub is_sda: bool,
+}
+
 /// The lines of controllers, followed beside the bus.
 pub struct Drivers {
     alloc: Global,
@@ -199,6 +208,9 @@ pub struct Drivers {
     listener: Listener,
     followers: Vec<Follower>,
     slots: u64,
+    // where the transaction stands in its frame, and whether SDA was ever LOW in a slot that no controller drives
+    frame: Frame,
+    is_answered: bool,
     // whether SCL has still to fall after a START or repeated START: until then others may give it too
     is_starting: bool,
     // the transaction that goes on, and those that have ended and were not taken
@@ -217,6 +229,8 @@ impl Drop for Drivers {
             listener: _,
             followers: _,
             slots: _,
+            frame: _,
+            is_answered: _,
             is_starting: _,
             open: _,
             ended: _,
@@ -256,6 +270,8 @@ impl Drivers {
             listener: Listener::new(),
             followers,
             slots: 0,
+            frame: Frame::new(),
+            is_answered: false,
             is_starting: false,
             open: None,
             ended: Vec::new(alloc),
@@ -304,6 +320,7 @@ impl Drivers {
             self.go_on(event)?;
         } else if self.listener.is_busy() {
             self.is_starting = true;
+            self.frame = Frame::new();
             self.open = Some(Drove {
                 started: self.pulling_now(),
                 pulls: Vec::new(self.alloc),
@@ -334,9 +351,10 @@ impl Drivers {
             What::Bit(level) => self.pulling_in_slot(level),
             What::Start => {
                 self.is_starting = true;
+                self.frame = Frame::new();
                 self.pulling_now()
             }
-            What::Stop => self.pulling_before(),
+            What::Stop => self.pulling_at_stop(),
             What::Known(_) | What::Unknown => return Ok(()),
         };
         if let Some(open) = &mut self.open {
@@ -365,10 +383,21 @@ impl Drivers {
         mask
     }
 
+    // The same before a STOP, where SDA is LOW.
+    fn pulling_at_stop(&mut self) -> u32 {
+        let mask = self.pulling_before();
+        for (number, follower) in self.followers.iter_mut().enumerate() {
+            follower.differs = follower.differs || !has(mask, number);
+        }
+        mask
+    }
+
     // The same in a slot in which the bus has this level.
     fn pulling_in_slot(&mut self, level: bool) -> u32 {
         let mask = self.pulling_before();
         self.slots = self.slots.saturating_add(1);
+        let is_own = self.frame.next(Mark::Level(level));
+        self.is_answered = self.is_answered || !is_own && !level;
         for (number, follower) in self.followers.iter_mut().enumerate() {
             let pulls = has(mask, number);
             follower.differs = follower.differs || pulls == level;
@@ -392,14 +421,17 @@ impl Drivers {
         None
     }
 
-    /// The first controller whose line is SDA itself: in each slot that there was it did what the bus shows.
-    pub fn first_same(&self) -> Option<usize> {
+    /// The first controller whose line did in each slot that there was what the bus shows.
+    pub fn first_alike(&self) -> Option<Alike> {
         if self.slots == 0 {
             return None;
         }
         for (number, follower) in self.followers.iter().enumerate() {
             if !follower.differs {
-                return Some(number);
+                return Some(Alike {
+                    number,
+                    is_sda: self.is_answered,
+                });
             }
         }
         None

@@ -11,5 +11,5 @@ mod following;
 mod judging;
 
 pub use driving::Driving;
-pub use following::{Drivers, Drove};
+pub use following::{Alike, Drivers, Drove};
 pub use judging::{Does, Judged, Judging, Verdict};

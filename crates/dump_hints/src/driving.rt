@@ -26,6 +26,17 @@ pub fn on_same_line(alloc: Global, drive: Drive<'_>) -> Result<Hints, AllocError
     lines.finish()
 }
 
+/// What to say where the line cannot be told apart from SDA.
+pub fn on_like_line(alloc: Global, drive: Drive<'_>) -> Result<Hints, AllocError> {
+    let mut lines = Lines::new(alloc);
+    lines.part("'");
+    push_name(&mut lines, drive.line.as_bytes());
+    lines.part("' does in each slot what SDA does, and no target pulled SDA: what ");
+    push_name(&mut lines, drive.controller.as_bytes());
+    lines.say(" pulls cannot be told apart from the bus itself here");
+    lines.finish()
+}
+
 /// What to say where the line pulls SDA while SDA is HIGH.
 pub fn on_denied_line(alloc: Global, drive: Drive<'_>) -> Result<Hints, AllocError> {
     let mut lines = Lines::new(alloc);

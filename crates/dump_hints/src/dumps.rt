@@ -3,7 +3,7 @@
 use crate::converting::{format_of, push_format};
 use crate::naming::{Names, push_names};
 use crate::opening::find_opened;
-use crate::wording::{push_dump, push_token, push_unended};
+use crate::wording::{push_broken_time, push_dump, push_token, push_unended};
 use dump_tokens::reading::part;
 use hints::{Hints, Kind, LOOKED_AT, Lines, is_binary, kind_of, push_kind, push_marked};
 use std::alloc::{AllocError, Global};
@@ -33,7 +33,14 @@ pub fn on_dump<F: Read + Seek + Drop>(
         push_names(alloc, &mut lines, file, names, signal);
     } else {
         match wrong {
-            Some(Wrong::Token(place)) => push_place(&mut lines, refusal, place),
+            Some(Wrong::Token(place)) if breaks_off_in(alloc, &mut file, refusal, place) => {
+                push_marked_place(&mut lines, refusal, place);
+                push_broken_time(&mut lines, place);
+            }
+            Some(Wrong::Token(place)) => {
+                push_marked_place(&mut lines, refusal, place);
+                push_token(&mut lines, refusal, place);
+            }
             Some(Wrong::Unended(opened)) => push_opened(alloc, &mut lines, file, refusal, *opened),
             None => push_dump(&mut lines, refusal),
         }
@@ -88,11 +95,30 @@ fn head_of_file<F: Read + Seek>(alloc: Global, file: &mut Option<F>) -> Option<V
     part(alloc, file, 0, LOOKED_AT).ok()
 }
 
-// The token, marked in its line, and what is wrong with it.
-fn push_place(lines: &mut Lines, refusal: VcdError, place: &Place) {
+// The token, marked in its line.
+fn push_marked_place(lines: &mut Lines, refusal: VcdError, place: &Place) {
     push_line(lines, refusal);
     push_marked(lines, place.before(), place.token(), place.after());
-    push_token(lines, refusal, place);
+}
+
+// Whether the dump ends with a time that is too low, not even a blank after it, so that digits of it may be missing.
+fn breaks_off_in<F: Read + Seek>(
+    alloc: Global,
+    file: &mut Option<F>,
+    refusal: VcdError,
+    place: &Place,
+) -> bool {
+    let VcdError::TimeBack(_) = refusal else {
+        return false;
+    };
+    let Some(file) = file else {
+        return false;
+    };
+    let end = place.offset.saturating_add(place.token().len() as u64);
+    match part(alloc, file, end, 1) {
+        Ok(rest) => rest.is_empty(),
+        Err(_) => false,
+    }
 }
 
 fn push_line(lines: &mut Lines, refusal: VcdError) {

@@ -24,7 +24,9 @@ mod silence;
 mod wording;
 
 pub use choosing::on_choice;
-pub use driving::{on_denied_line, on_no_controller, on_no_line, on_no_name, on_same_line};
+pub use driving::{
+    on_denied_line, on_like_line, on_no_controller, on_no_line, on_no_name, on_same_line,
+};
 pub use dumps::on_dump;
 pub use naming::Names;
 pub use recordings::{on_bytes, on_recording, on_signals};

@@ -13,6 +13,18 @@ pub(crate) fn push_token(lines: &mut Lines, refusal: VcdError, place: &Place) {
     }
 }
 
+/// Says that the dump ends within this time, so that it is below the last one.
+pub(crate) fn push_broken_time(lines: &mut Lines, place: &Place) {
+    if let Expected::Change { time, .. } = place.expected {
+        lines.say(format_args!(
+            "the last time was {time}, and the dump ends with this one: it breaks off in its last time, as where a simulator was killed"
+        ));
+        lines.say(
+            "what came before is shown by 'twire decode --live', and by 'twire capture --live'",
+        );
+    }
+}
+
 fn cause(expected: Expected, token: &[u8]) -> &'static str {
     match expected {
         Expected::Command => no_command(token),

@@ -3,7 +3,9 @@
 use brief_tokens::is_brief_word;
 use decoding::{Ending, TransactionSink};
 use drives::{Drivers, Driving, Judging};
-use dump_hints::{on_denied_line, on_no_controller, on_no_line, on_no_name, on_same_line};
+use dump_hints::{
+    on_denied_line, on_like_line, on_no_controller, on_no_line, on_no_name, on_same_line,
+};
 use dump_tokens::{Bus, Drive, Drives};
 use hints::Hints;
 use plan_core::{Name, NameError, Participant, Plan};
@@ -88,17 +90,24 @@ pub(crate) fn decode_driven<J: Input, S: TransactionSink>(
     }
 }
 
-/// Refuses a line that is SDA itself, or that pulls it where it is HIGH, once the dump has been read.
-pub(crate) fn refuse_others(alloc: Global, driving: Option<&Driving<'_>>) -> Result<(), Halt> {
+/// Refuses a line that is SDA itself, or that pulls it where it is HIGH, once the dump has been read. What to say of one that
+/// cannot be told apart from SDA.
+pub(crate) fn refuse_others(alloc: Global, driving: Option<&Driving<'_>>) -> Result<Hints, Halt> {
     let Some(driving) = driving else {
-        return Ok(());
+        return Ok(Hints::new(alloc));
     };
-    if let Some(drive) = drive_of(driving, driving.first_same()) {
-        return Err(no_drive(alloc, drive, on_same_line(alloc, drive)));
+    let mut hints = Hints::new(alloc);
+    if let Some(alike) = driving.first_alike()
+        && let Some(drive) = drive_of(driving, Some(alike.number))
+    {
+        if alike.is_sda {
+            return Err(no_drive(alloc, drive, on_same_line(alloc, drive)));
+        }
+        hints = on_like_line(alloc, drive)?;
     }
     match drive_of(driving, driving.first_denied()) {
         Some(drive) => Err(no_drive(alloc, drive, on_denied_line(alloc, drive))),
-        None => Ok(()),
+        None => Ok(hints),
     }
 }
 

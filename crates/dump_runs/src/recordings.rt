@@ -11,6 +11,7 @@ use drives::Driving;
 use dump_objects::{CaptureObjects, DecodeObjects, write_signals};
 use dump_tokens::{Bus, BusLines, Drives, Limits, Quiet, Window};
 use given_plans::GivenPlan;
+use hints::Hints;
 use lessons::{BriefBefore, Learned, Likeness, Sights, brief_of};
 use plan_core::Plan;
 use plan_words::PlanWords;
@@ -92,15 +93,11 @@ pub fn explain_capture<R: AllocGlobal + Threads + Sync, I: Input, J: Input, O: O
     let GivenPlan { plan, origins } = plans.find(rt.alloc())?;
     let words = plans.words(&plan, &origins);
     refuse_unknown(rt.alloc(), words, capture.drives)?;
-    let Told {
-        status,
-        seen,
-        rises,
-    } = capture_by(rt, words, vcd, out, capture, style)?;
-    let recorded = Recorded::Bus(capture.bus.view.window, seen);
+    let (told, hints) = capture_by(rt, words, vcd, out, capture, style)?;
+    let recorded = Recorded::Bus(capture.bus.view.window, told.seen);
     Ok(Ended {
-        status,
-        remark: Remark::Recording(recorded, rises),
+        status: told.status,
+        remark: Remark::Recording(recorded, told.rises, hints),
     })
 }
 
@@ -111,24 +108,26 @@ fn capture_by<R: AllocGlobal + Threads + Sync, J: Input, O: Output>(
     out: &mut O,
     capture: Capture<'_>,
     style: Style,
-) -> Result<Told, Halt> {
+) -> Result<(Told, Hints), Halt> {
     let plan = words.plan();
     let is_exact = capture.is_exact() && matches!(style, Style::Lines(Paint::Plain));
     if is_exact && !capture.reads_ahead() {
-        return if capture.live {
-            live_lines(rt, plan, vcd, out, capture.bus.lines)
+        let told = if capture.live {
+            live_lines(rt, plan, vcd, out, capture.bus.lines)?
         } else {
-            exact_capture(rt, plan, vcd, out, capture.bus.lines)
+            exact_capture(rt, plan, vcd, out, capture.bus.lines)?
         };
+        return Ok((told, Hints::new(rt.alloc())));
     }
     let mut dump = open_driven(rt.alloc(), vcd, capture.bus, capture.drives)?;
-    match capture_open(rt, words, &mut dump, out, capture, style)? {
-        Ok(told) => Ok(told),
+    let (told, hints) = capture_open(rt, words, &mut dump, out, capture, style)?;
+    match told {
+        Ok(told) => Ok((told, hints)),
         Err(error) => Err(halted(dump, error)),
     }
 }
 
-// The capture of a dump whose definitions were read ahead.
+// The capture of a dump whose definitions were read ahead, and what to say of the lines of controllers.
 fn capture_open<R: AllocGlobal + Threads + Sync, J: Input, O: Output>(
     rt: &R,
     words: PlanWords<'_>,
@@ -136,7 +135,7 @@ fn capture_open<R: AllocGlobal + Threads + Sync, J: Input, O: Output>(
     out: &mut O,
     capture: Capture<'_>,
     style: Style,
-) -> Result<Result<Told, RunError>, Halt> {
+) -> Result<(Result<Told, RunError>, Hints), Halt> {
     let driving = driving_of(rt.alloc(), &*dump, capture.drives)?;
     let is_exact = capture.is_exact() && matches!(style, Style::Lines(Paint::Plain));
     let told = if is_exact && !capture.live {
@@ -144,8 +143,8 @@ fn capture_open<R: AllocGlobal + Threads + Sync, J: Input, O: Output>(
     } else {
         capture_dump(rt, words, dump, out, capture, style, driving.as_ref())
     };
-    refuse_others(rt.alloc(), driving.as_ref())?;
-    Ok(told)
+    let hints = refuse_others(rt.alloc(), driving.as_ref())?;
+    Ok((told, hints))
 }
 
 // The exact lines, by a proved run over the reader itself: what has ended is written before the dump is read on.
@@ -367,9 +366,10 @@ pub fn decode<R: Files + Print + Eprint + Clock + AllocGlobal, J: Input, O: Outp
         Err(error) => return Err(halted(dump, error)),
     };
     draw_tapped(rt, tap, least, bus.view.window, selection.status(), canvas)?;
+    let recorded = Recorded::Bytes(bus.view.window, selection.seen);
     Ok(Ended {
         status: selection.status(),
-        remark: Remark::Recording(Recorded::Bytes(bus.view.window, selection.seen), rises),
+        remark: Remark::recording(alloc, recorded, rises),
     })
 }
 
@@ -510,11 +510,11 @@ fn learn_open<J: Input, O: Output>(
         Ok(ending) => ending,
         Err(error) => return Ok(Err(error)),
     };
-    refuse_others(alloc, driving)?;
+    let hints = refuse_others(alloc, driving)?;
     let status = write_learned(brief_of(alloc, seen, lesson.likeness)?, out)?;
     Ok(Ok(Ended {
         status,
-        remark: Remark::Recording(Recorded::Other, ending.rises),
+        remark: Remark::Recording(Recorded::Other, ending.rises, hints),
     }))
 }
 
@@ -543,7 +543,7 @@ pub fn list_signals<J: Input, O: Output>(
     write_listed(alloc, &listed, out, style)?;
     Ok(Ended {
         status: Status::Good,
-        remark: Remark::Recording(Recorded::Signals, Rises::NONE),
+        remark: Remark::recording(alloc, Recorded::Signals, Rises::NONE),
     })
 }
 

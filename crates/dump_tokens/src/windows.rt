@@ -27,6 +27,15 @@ impl Window {
         self.from.is_none() && self.to.is_none()
     }
 
+    /// Whether its first time is after its last one. Of a time with a unit and one without that is not known before the dump is.
+    pub fn is_empty(self) -> bool {
+        match (self.from, self.to) {
+            (Some(Time::Steps(from)), Some(Time::Steps(to))) => to < from,
+            (Some(Time::Span(from)), Some(Time::Span(to))) => to < from,
+            _ => false,
+        }
+    }
+
     /// Whether one of its times has a unit.
     pub fn has_unit(self) -> bool {
         has_unit(self.from) || has_unit(self.to)

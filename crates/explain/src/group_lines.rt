@@ -1,6 +1,7 @@
 // Lines of a group of unsafe pairs, and of one pair by itself.
 
-use crate::faults::{tell_group_mends, tell_pair};
+use crate::faults::{tell_offer, tell_pair};
+use crate::offers::offer_for_group;
 use bus_rows::{Meeting, begin, meeting_of, say_all};
 use causes::Group;
 use certificate::Fault;
@@ -70,21 +71,31 @@ pub(crate) fn of_group(
 ) -> Result<String, AllocError> {
     let (pair, both) = example;
     let mut lines = Lines::new(alloc);
-    begin(&mut lines);
-    lines.word("group");
-    lines.number(g as u64, ",");
-    lines.words("as pair");
-    lines.number(pair as u64, ":");
-    lines.end();
-    tell_pair(alloc, &mut lines, words, both, meeting)?;
     if let Some(group) = groups.group(g) {
+        say_all(&mut lines, title_of(alloc, g, group, pair));
+        tell_pair(alloc, &mut lines, words, both, meeting)?;
         tell_alike(alloc, &mut lines, groups, g, group);
-        if let Some(mends) = groups.mends(g) {
-            let is_only = groups.len() == 1;
-            tell_group_mends(alloc, &mut lines, words.plan(), group.pairs, is_only, mends);
-        }
+    }
+    if let Some(offer) = offer_for_group(alloc, words, groups, g)? {
+        tell_offer(&mut lines, &offer);
     }
     lines.finish()
+}
+
+// `group 0, 16 pairs, such as pair 289:`, and of one pair alone `group 0, pair 289:`.
+fn title_of(alloc: Global, g: usize, group: Group, pair: u32) -> Text {
+    let mut words = Text::new(alloc);
+    words.push("group ");
+    words.push_number(g as u64);
+    words.push(", ");
+    if group.pairs != 1 {
+        push_pairs(&mut words, group.pairs);
+        words.push(", such as ");
+    }
+    words.push("pair ");
+    words.push_number(u64::from(pair));
+    words.push(":");
+    words
 }
 
 // Who meets in the group, how many pairs it has, and why they are unsafe.

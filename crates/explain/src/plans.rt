@@ -18,7 +18,7 @@ fn tell_decided(alloc: Global, lines: &mut Lines, decided: Decided) {
     tell_count(alloc, lines, "in the header: ", decided.header, ",");
     tell_count(alloc, lines, "later: ", decided.later, ",");
     tell_count(alloc, lines, "at a read's end: ", decided.read, ";");
-    tell_count(alloc, lines, "alike to the end: ", decided.alike, "");
+    tell_count(alloc, lines, "may end together: ", decided.alike, "");
     lines.end();
 }
 

@@ -1,9 +1,9 @@
 // Messages of a brief that could be written as one family: their names are alike but for a number, and each writes one byte more
 // than the one before it.
 
+use crate::offers::{Offer, Price, item_of};
 use brief_tokens::is_brief_word;
-use bus_rows::{begin, say_all};
-use growing_text::{Lines, Text};
+use growing_text::Text;
 use message_tree::{Address, Bit, Frame, Pattern, Payload, Tail};
 use plan_core::{Name, NameError, Plan};
 use plan_words::PlanWords;
@@ -47,15 +47,15 @@ impl Run {
     }
 }
 
-/// Which messages of the briefs that mean a plan with these faults could be families, and which items then keep the unsafe pairs
-/// of two of the same family apart.
+/// Adds which messages of the briefs that mean a plan with these faults could be families, and which items then keep the unsafe
+/// pairs of two of the same family apart, where these leave something of the plan to check.
 ///
 /// # Errors
 ///
 /// Where an allocation fails.
-pub(crate) fn tell_families(
+pub(crate) fn push_families(
     alloc: Global,
-    lines: &mut Lines,
+    offers: &mut Vec<Offer>,
     words: PlanWords<'_>,
     faults: &Faults,
 ) -> Result<(), AllocError> {
@@ -70,8 +70,11 @@ pub(crate) fn tell_families(
         }
         let run = run_from(words, k);
         next = run.last().saturating_add(1);
-        if FEW < run.count && tell_run(alloc, lines, words, faults, run)? {
-            told = told.saturating_add(1);
+        if FEW < run.count {
+            if let Some(offer) = offer_of(alloc, words, faults, run)? {
+                offers.push(offer)?;
+                told = told.saturating_add(1);
+            }
         }
     }
     Ok(())
@@ -227,31 +230,49 @@ fn is_end(payload: &Payload) -> bool {
 
 // ---- what is said of them
 
-// Says it of these messages, where two of them are an unsafe pair and the names are free. Whether it does.
-fn tell_run(
+// What is said of these messages, where two of them are an unsafe pair and the names are free.
+fn offer_of(
     alloc: Global,
-    lines: &mut Lines,
     words: PlanWords<'_>,
     faults: &Faults,
     run: Run,
-) -> Result<bool, AllocError> {
+) -> Result<Option<Offer>, AllocError> {
     let Some(family) = family_of(alloc, words.plan(), run)? else {
-        return Ok(false);
+        return Ok(None);
     };
     let between = between_of(alloc, words, faults, run)?;
     for (c, d) in between.as_slice() {
         if !is_free(words, *c, family) || !is_free(words, *d, family) {
-            return Ok(false);
+            return Ok(None);
         }
     }
-    if between.is_empty() {
-        return Ok(false);
+    let price = Price::new(words, left_out_by(words, run, between.as_slice()));
+    if between.is_empty() || price.pairs <= price.unchecked {
+        return Ok(None);
     }
-    tell_names(alloc, lines, words.plan(), run, between.len());
-    for (c, d) in between.as_slice() {
-        tell_item(alloc, lines, words, (*c, *d), family);
+    Ok(Some(Offer {
+        said: said_of(alloc, words.plan(), run, between.len(), price)?,
+        items: items_of(alloc, words, between.as_slice(), family)?,
+        after: price.after(alloc)?,
+    }))
+}
+
+// How many pairs of the plan both send one of these messages, between two of these.
+fn left_out_by(words: PlanWords<'_>, run: Run, between: &[(u32, u32)]) -> u64 {
+    let mut pairs = 0u64;
+    for pair in 0..words.plan().pair_count() {
+        if let Some(both) = controllers_in(words, run, both_of(words.plan(), pair)) {
+            if is_known(words, between, both) {
+                pairs = pairs.saturating_add(1);
+            }
+        }
     }
-    Ok(true)
+    pairs
+}
+
+// Whether these two, or other parts of the same, are among them.
+fn is_known(words: PlanWords<'_>, between: &[(u32, u32)], both: (u32, u32)) -> bool {
+    between.iter().any(|known| words.is_one(known.0, both.0) && words.is_one(known.1, both.1))
 }
 
 // The name of the family, where no message has it, nor one that the family would make.
@@ -298,11 +319,9 @@ fn between_of(
     let mut between: Vec<(u32, u32)> = Vec::new(alloc);
     for k in 0..faults.len() {
         let (pair, _) = faults.get(k);
-        if let Some((c, d)) = controllers_in(words, run, both_of(words.plan(), pair)) {
-            let is_known = between.iter().any(|known| words.is_one(known.0, c)
-                && words.is_one(known.1, d));
-            if !is_known {
-                between.push((c, d))?;
+        if let Some(both) = controllers_in(words, run, both_of(words.plan(), pair)) {
+            if !is_known(words, between.as_slice(), both) {
+                between.push(both)?;
             }
         }
     }
@@ -337,7 +356,13 @@ fn is_free(words: PlanWords<'_>, c: u32, family: &str) -> bool {
     controller.len().saturating_add(family.len()) < LABEL
 }
 
-fn tell_names(alloc: Global, lines: &mut Lines, plan: &Plan, run: Run, items: usize) {
+fn said_of(
+    alloc: Global,
+    plan: &Plan,
+    run: Run,
+    items: usize,
+    price: Price,
+) -> Result<String, AllocError> {
     let mut words = Text::new(alloc);
     words.push(name_of(plan, run.first));
     words.push(" to ");
@@ -349,8 +374,8 @@ fn tell_names(alloc: Global, lines: &mut Lines, plan: &Plan, run: Run, items: us
     words.push("..");
     words.push_number(u64::from(run.greatest()));
     words.push("). Then their pairs are kept apart by");
-    words.push(if items == 1 { ":" } else { " all of:" });
-    say_all(lines, words);
+    price.push_before(&mut words, items);
+    words.finish()
 }
 
 // Whether the byte of which each of these messages has one more is open in all bits.
@@ -370,26 +395,25 @@ fn is_open(byte: Pattern) -> bool {
     true
 }
 
-fn tell_item(
+fn items_of(
     alloc: Global,
-    lines: &mut Lines,
     words: PlanWords<'_>,
-    between: (u32, u32),
+    between: &[(u32, u32)],
     family: &str,
-) {
-    let mut text = Text::new(alloc);
-    text.push("never ");
-    push_label(&mut text, words.name(between.0), family);
-    text.push(" ");
-    push_label(&mut text, words.name(between.1), family);
-    text.push(" ;");
-    begin(lines);
-    lines.word_made(text.finish());
-    lines.end();
+) -> Result<Vec<String>, AllocError> {
+    let mut items = Vec::with_capacity(alloc, between.len())?;
+    for (c, d) in between {
+        let first = label_of(alloc, words.name(*c), family)?;
+        let second = label_of(alloc, words.name(*d), family)?;
+        items.push(item_of(alloc, first.as_str(), second.as_str())?)?;
+    }
+    Ok(items)
 }
 
-fn push_label(text: &mut Text, controller: &str, family: &str) {
+fn label_of(alloc: Global, controller: &str, family: &str) -> Result<String, AllocError> {
+    let mut text = Text::new(alloc);
     text.push(controller);
     text.push("/");
     text.push(family);
+    text.finish()
 }

@@ -116,10 +116,10 @@ fn tell_runs(alloc: Global, lines: &mut Lines, words: PlanWords<'_>, runs: &[Run
     }
 }
 
-// Messages of a plan that stand in one place of a brief: the first and the last one of them.
+// Messages of a plan of one family: the first and the last one of them.
 type Run = (u32, u32);
 
-// These messages, those together that follow one another and stand in one place of a brief, as a family does.
+// These messages, those of one family together that follow one another.
 fn runs_of(alloc: Global, words: PlanWords<'_>, messages: &[u32]) -> Result<Vec<Run>, AllocError> {
     let mut runs: Vec<Run> = Vec::new(alloc);
     let mut open: Option<Run> = None;
@@ -144,10 +144,8 @@ fn push_run(runs: &mut Vec<Run>, run: Option<Run>) -> Result<(), AllocError> {
 }
 
 fn are_of_one(words: PlanWords<'_>, last: u32, next: u32) -> bool {
-    match (words.message_at(last), words.message_at(next)) {
-        (Some(one), Some(other)) => last.saturating_add(1) == next && one == other,
-        _ => false,
-    }
+    let family = words.family_of(last);
+    family.is_some() && family == words.family_of(next) && last.saturating_add(1) == next
 }
 
 // Messages by the names of the first and the last one, and where they stand, if briefs have them, with this right after it.

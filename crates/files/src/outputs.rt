@@ -7,8 +7,9 @@ use crate::progress::{Count, Watcher};
 use growing_text::Text;
 use run_parts::{RunError, Status};
 use std::alloc::{AllocError, Global};
-use std::fs::{self, OpenFile, OpenOptions, Permissions};
+use std::fs::{self, Metadata, OpenFile, OpenOptions, Permissions};
 use std::io::{self, ErrorKind, Write};
+use std::os::unix::fs::{MetadataExt, PermissionsExt, lchown};
 use std::path::PathBuf;
 use std::rt::Files;
 use std::time::Clock;
@@ -19,6 +20,9 @@ const NAMES: u32 = 1_000;
 
 // How many links are followed to the file that is written, as many as Linux follows.
 const LINKS: u32 = 40;
+
+// The bits of a mode by which a program runs as the owner or the group of its file.
+const RUNS_AS: u32 = 0o6000;
 
 const STANDARD_OUTPUT: &str = "/dev/stdout";
 
@@ -269,12 +273,12 @@ fn begin_in_place<R: Files + AllocGlobal>(
     read: FilesRead<'_>,
 ) -> io::Result<Target<R::File>> {
     let metadata = OpenOptions::new().write(true).open(rt, path)?.metadata()?;
-    let (is_file, mode) = (metadata.is_file(), metadata.permissions());
+    let (is_file, kept) = (metadata.is_file(), Kept::of(&metadata));
     if !is_file {
         return Err(io::Error::new(ErrorKind::InvalidInput, "it is no file"));
     }
     refuse_other(read, identity_of(Ok(metadata)))?;
-    begin_beside(rt, path, Some(mode))
+    begin_beside(rt, path, Some(kept))
 }
 
 fn begin_over<R: Files + AllocGlobal>(
@@ -284,24 +288,60 @@ fn begin_over<R: Files + AllocGlobal>(
     read: FilesRead<'_>,
 ) -> io::Result<Target<R::File>> {
     let metadata = old.metadata()?;
-    let (is_file, mode) = (metadata.is_file(), metadata.permissions());
+    let (is_file, kept) = (metadata.is_file(), Kept::of(&metadata));
     refuse_read(read, identity_of(Ok(metadata)))?;
     if is_file {
-        begin_beside(rt, path, Some(mode))
+        begin_beside(rt, path, Some(kept))
     } else {
         Ok(Target::Direct(old))
+    }
+}
+
+// What a new file has of the one in whose place it comes.
+#[derive(Clone, Copy)]
+struct Kept {
+    owner: u32,
+    group: u32,
+    mode: u32,
+}
+
+impl Kept {
+    fn of(metadata: &Metadata) -> Kept {
+        Kept {
+            owner: metadata.uid(),
+            group: metadata.gid(),
+            mode: metadata.permissions().mode(),
+        }
+    }
+
+    fn has_owners(self, metadata: &Metadata) -> bool {
+        metadata.uid() == self.owner && metadata.gid() == self.group
+    }
+
+    // Gives these to a new file, which has this name. Where another owner or group may not be given, it runs as nobody else.
+    fn give<R: Files>(self, rt: &R, file: &R::File, name: &str) -> io::Result<()> {
+        if !self.has_owners(&file.metadata()?) {
+            let _ = lchown(rt, name, None, Some(self.group));
+            let _ = lchown(rt, name, Some(self.owner), None);
+        }
+        let mode = if self.has_owners(&file.metadata()?) {
+            self.mode
+        } else {
+            self.mode & !RUNS_AS
+        };
+        file.set_permissions(Permissions::from_mode(mode))
     }
 }
 
 fn begin_beside<R: Files + AllocGlobal>(
     rt: &R,
     path: &str,
-    mode: Option<Permissions>,
+    kept: Option<Kept>,
 ) -> io::Result<Target<R::File>> {
     let path = followed(rt, path)?;
     let (file, name) = create_beside(rt, path.as_str())?;
-    if let Some(mode) = mode {
-        if let Err(error) = file.set_permissions(mode) {
+    if let Some(kept) = kept {
+        if let Err(error) = kept.give(rt, &file, name.as_str()) {
             let _ = fs::remove_file(rt, name.as_str());
             return Err(error);
         }

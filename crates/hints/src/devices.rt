@@ -65,11 +65,31 @@ pub fn on_writing(
     }
 }
 
+/// Why a run has no waves.
+#[derive(Clone, Copy)]
+pub enum NoWaves {
+    /// The plan has no unsafe pair.
+    Safe,
+    /// The pair with this number is safe.
+    SafePair(u32),
+    /// The plan has no pair with this number.
+    NoPair(u32),
+    /// Nothing was rehearsed.
+    Unplayed,
+}
+
 /// After a run that has no waves for the file of this path.
-pub fn on_no_waves(alloc: Global, path: &str) -> Result<Hints, AllocError> {
+pub fn on_no_waves(alloc: Global, path: &str, why: NoWaves) -> Result<Hints, AllocError> {
     let path = quoted(alloc, path)?;
-    let words = format_args!("there is nothing to draw, so {path} was not written");
-    said(alloc, words, None)
+    let mut lines = Lines::new(alloc);
+    match why {
+        NoWaves::Safe => lines.part("the plan is safe"),
+        NoWaves::SafePair(pair) => lines.part(format_args!("pair {pair} is safe")),
+        NoWaves::NoPair(pair) => lines.part(format_args!("the plan has no pair {pair}")),
+        NoWaves::Unplayed => lines.part("nothing was rehearsed"),
+    }
+    lines.say(format_args!(": there is nothing to draw, so {path} was not written"));
+    lines.finish()
 }
 
 /// After the certificate of an unsafe plan, in the file of this path or on standard output.

@@ -2,8 +2,8 @@
 //! stand there instead.
 //!
 //! Nothing here decides anything. A refusal is the caller's, and the reader knows its place. After that of a plan or of a brief
-//! `texts` shows the place, `expected` says what could stand there, `words` why a word cannot, `names` where a name stands
-//! already or which are nearest, and `wording` what the other refusals mean. `certs` shows the place in a certificate, and
+//! `texts` shows the place, `expected` says what could stand there, `words` why a word cannot, `numbers` the same of numbers,
+//! `names` where a name stands already or which are nearest, and `wording` what the other refusals mean. `certs` shows the place in a certificate, and
 //! `starters` looks for labels in the plan. `safety` says what a safe plan leaves out, `summaries` how many unsafe pairs are
 //! seen in groups, `odd` what is likely a mistake in briefs, `plans` why a plan has no brief, and `devices` which file failed.
 //! What is said of dumps is a crate of its own, `dump_hints`, which puts its hints together by the parts below.
@@ -23,6 +23,7 @@ mod likeness;
 mod lines;
 mod marking;
 mod names;
+mod numbers;
 mod odd;
 mod paths;
 mod plans;
@@ -36,8 +37,8 @@ mod words;
 
 pub use certs::on_certificate;
 pub use devices::{
-    Named, on_closed_input, on_fault, on_memory, on_no_answers, on_no_timescale, on_no_waves,
-    on_opening, on_reading, on_workers, on_writing,
+    Named, NoWaves, on_closed_input, on_fault, on_memory, on_no_answers, on_no_timescale,
+    on_no_waves, on_opening, on_reading, on_workers, on_writing,
 };
 pub use kinds::{Kind, LOOKED_AT, is_binary, kind_of, push_kind};
 pub use likeness::Nearest;
@@ -45,7 +46,7 @@ pub use lines::Lines;
 pub use marking::{first_line, push_marked, push_name, push_quoted};
 pub use names::{Stand, first_stand, names_in};
 pub use odd::on_oddity;
-pub use paths::{file_word, shown, visible};
+pub use paths::file_word;
 pub use plans::on_no_brief;
 pub use safety::{Found, on_checked, on_safe};
 pub use starters::{on_starters, unknown_starter};

@@ -1,9 +1,11 @@
 // Names that stand already where they may not stand twice, and names that nothing before them has.
 
+use crate::expected::words_of;
 use crate::likeness::Nearest;
 use crate::lines::Lines;
 use crate::paths::quoted;
 use crate::texts::{Earlier, RefusedIn};
+use crate::words::push_meant;
 use plan_text::given::{NameAt, Names};
 use plan_text::places::Kind;
 use plan_text::{Expected, Language, PlanError};
@@ -392,8 +394,22 @@ fn push_absent(alloc: Global, lines: &mut Lines, refused: &RefusedIn<'_>, known:
         Some(Expected::Target | Expected::KnownTarget) => {
             push_nearest(alloc, lines, refused, known, Kind::Device, word)
         }
-        Some(Expected::Further(_)) => push_nearest(alloc, lines, refused, known, Kind::Byte, word),
+        Some(expected @ Expected::Further(_)) => {
+            push_keyword(alloc, lines, expected, word);
+            push_nearest(alloc, lines, refused, known, Kind::Byte, word);
+        }
         _ => push_absent_side(alloc, lines, refused, known, word),
+    }
+}
+
+// Says which word of the language is meant, where it may be that no byte is.
+fn push_keyword(alloc: Global, lines: &mut Lines, expected: Expected, word: &[u8]) {
+    match words_of(alloc, expected) {
+        Ok(words) => {
+            let word = str::from_utf8(word).unwrap_or("");
+            let _ = push_meant(alloc, lines, words.as_slice(), word);
+        }
+        Err(_) => lines.fail(),
     }
 }
 

@@ -27,7 +27,8 @@ pub(crate) fn push_oddities(
         }
         if count < MOST {
             if let Some(place) = words.at(oddity.spot()) {
-                lines.part(place_of(alloc, place)?);
+                lines.part(line_of(alloc, place)?);
+                lines.part(": ");
             }
             push_oddity(alloc, lines, words, *oddity)?;
         }
@@ -59,10 +60,9 @@ fn is_unsent(oddity: Oddity<'_>) -> bool {
     matches!(oddity, Oddity::Unsent { .. })
 }
 
-fn place_of(alloc: Global, place: FileLine<'_>) -> Result<String, AllocError> {
+fn line_of(alloc: Global, place: FileLine<'_>) -> Result<String, AllocError> {
     let mut text = Text::new(alloc);
     place.push_to(&mut text);
-    text.push(": ");
     text.finish()
 }
 
@@ -81,8 +81,8 @@ fn push_oddity(
             let (first_name, second_name) = (first.name.as_str(), second.name.as_str());
             lines.part(format_args!("device '{second_name}' has the address of '{first_name}'"));
             if let Some(place) = words.at(first.spot) {
-                let FileLine { file, line } = place;
-                lines.part(format_args!(", which stands at {file}:{line}"));
+                lines.part(", which stands at ");
+                lines.part(line_of(alloc, place)?);
             }
             lines.end();
         }

@@ -7,8 +7,8 @@ use crate::marking::{first_line, last_line, push_marked};
 use crate::names::{push_twice, push_unknown};
 use crate::paths::quoted;
 use crate::values::Hints;
-use crate::wording::{bad_count, foreign, push_limit, push_over, push_version};
-use crate::words::{RANGES, push_reason, reason_of_characters};
+use crate::wording::{bad_count, foreign, is_plan, push_limit, push_over, push_version};
+use crate::words::{RANGES, is_like_brief, push_reason, reason_of_characters};
 use brief_tokens::after_head;
 use plan_text::places::Further;
 use plan_text::{Expected, Language, Place, PlanError, Refused};
@@ -146,10 +146,14 @@ fn kind_of_language(language: Language) -> Kind {
     }
 }
 
-// The refusal of a text that begins with the word `brief`, and goes on otherwise than a brief, as that of a brief.
+// The refusal of a text that begins with the word `brief`, and goes on otherwise than a brief, as that of a brief. So it is of one
+// that has words of briefs, and no head.
 fn as_brief<'a>(refused: RefusedIn<'a>, head: &[u8]) -> Option<RefusedIn<'a>> {
     if refused.token() != b"brief".as_slice() {
-        return None;
+        return lacks_head(&refused).then_some(RefusedIn {
+            language: Language::Brief,
+            ..refused
+        });
     }
     match after_head(head) {
         Err(
@@ -165,6 +169,14 @@ fn as_brief<'a>(refused: RefusedIn<'a>, head: &[u8]) -> Option<RefusedIn<'a>> {
         }),
         _ => None,
     }
+}
+
+fn lacks_head(refused: &RefusedIn<'_>) -> bool {
+    matches!(refused.error, PlanError::Version(_))
+        && refused.language == Language::Plan
+        && refused.takes_either
+        && !is_plan(refused)
+        && is_like_brief(refused.text)
 }
 
 fn push_refused(alloc: Global, lines: &mut Lines, refused: &RefusedIn<'_>, fault: Fault) {
@@ -377,7 +389,7 @@ fn push_file(alloc: Global, lines: &mut Lines, file: &str) {
 // What is wrong with what the grammar does not allow, and what could stand there.
 fn push_fault(alloc: Global, lines: &mut Lines, refused: &RefusedIn<'_>, fault: Fault) {
     match (fault, refused.place.expected) {
-        (Fault::NoSemicolon(_), _) => lines.say("';' is missing here"),
+        (Fault::NoSemicolon(span), _) => push_semicolon(lines, refused, span),
         (Fault::Range(_), _) => {
             lines.say(RANGES);
             push_all(alloc, lines, Expected::Count { ranges: false });
@@ -387,6 +399,35 @@ fn push_fault(alloc: Global, lines: &mut Lines, refused: &RefusedIn<'_>, fault: 
         (Fault::End(_), Some(expected)) => push_all(alloc, lines, expected),
         (_, None) => {}
     }
+}
+
+// That `;` is missing, and where the refusal is of another line, why that is so.
+fn push_semicolon(lines: &mut Lines, refused: &RefusedIn<'_>, span: Span) {
+    lines.part("';' is missing here");
+    let line = refused.place.line;
+    if line != span.line {
+        let before = last_word(refused.part(0, span.start));
+        lines.part(format_args!(", after '{before}': "));
+        lines.part(if refused.token().is_empty() {
+            "the text ends"
+        } else {
+            "the next item begins"
+        });
+        lines.part(format_args!(" on line {line}"));
+    }
+    lines.end();
+}
+
+// What stands at the end of these bytes, up to white space.
+fn last_word(bytes: &[u8]) -> &str {
+    let mut from = bytes.len();
+    for byte in bytes.iter().rev() {
+        if byte.is_ascii_whitespace() {
+            break;
+        }
+        from = from.saturating_sub(1);
+    }
+    str::from_utf8(bytes.get(from..).unwrap_or(&[])).unwrap_or("")
 }
 
 fn push_token(alloc: Global, lines: &mut Lines, refused: &RefusedIn<'_>, expected: Expected) {

@@ -2,7 +2,6 @@
 
 use crate::lines::Lines;
 use crate::texts::RefusedIn;
-use crate::words::is_like_brief;
 use plan_core::limits::{
     MOST_BYTES, MOST_CONTROLLERS, MOST_INTERRUPTS, MOST_MESSAGES, MOST_NODES, MOST_SENDINGS,
 };
@@ -22,15 +21,11 @@ const PLAN_VERSION: &str =
 
 const BRIEF_VERSION: &str = "a brief begins with 'brief 1'";
 
-/// Says P2. Where the text may be either, what it is more like is told first.
+/// Says P2. One that is like a brief was taken as that.
 pub(crate) fn push_version(lines: &mut Lines, refused: &RefusedIn<'_>) {
     match refused.language {
         Language::Brief => lines.say(BRIEF_VERSION),
         Language::Plan if !refused.takes_either || is_plan(refused) => lines.say(PLAN_VERSION),
-        Language::Plan if is_like_brief(refused.text) => {
-            lines.say(BRIEF_VERSION);
-            lines.say(PLAN_VERSION);
-        }
         Language::Plan => {
             lines.say(PLAN_VERSION);
             lines.say(BRIEF_VERSION);
@@ -38,8 +33,8 @@ pub(crate) fn push_version(lines: &mut Lines, refused: &RefusedIn<'_>) {
     }
 }
 
-// Whether the text has the first word of a plan, before another version of it.
-fn is_plan(refused: &RefusedIn<'_>) -> bool {
+/// Whether the text has the first word of a plan, before another version of it.
+pub(crate) fn is_plan(refused: &RefusedIn<'_>) -> bool {
     refused.before().trim_ascii_end().ends_with(b"plan")
 }
 

@@ -2,11 +2,13 @@
 
 use crate::kinds::LOOKED_AT;
 use crate::lines::Lines;
+use crate::numbers::Number;
 use crate::texts::{RefusedIn, called};
 use plan_core::Name;
 use plan_text::words::count_ends;
 use plan_text::{Expected, Language};
-use std::alloc::Global;
+use std::alloc::{AllocError, Global};
+use strsim::osa_distance;
 
 /// What is said of a range in a plan of the first version.
 pub(crate) const RANGES: &str = "ranges, as '2..4', are of 'plan 2': let the text begin with that";
@@ -95,18 +97,73 @@ pub(crate) fn push_reason(
 ) {
     if let Some(reason) = reason_of(expected, word) {
         lines.say(reason);
+    } else if let Some(number) = number_of(language, expected, word) {
+        number.tell(lines);
     } else if let Some(reason) = reason_of_bits(language, expected, word) {
         lines.say(reason);
     } else if let Some(address) = without_direction(language, expected, word) {
         push_address(lines, address);
     } else if let Some(known) = in_small_letters(words, word) {
         lines.say(format_args!("words have small letters: {known}"));
+    } else if push_meant(alloc, lines, words, word) {
+        // (then it was no name)
     } else if expected == Expected::KnownTarget && is_free_name(alloc, word) {
         lines.say("an interrupt has an address without open bits, and this device has some");
     } else if takes_name(expected) && is_name(word) {
         let what = called(language);
         lines.say(format_args!("'{word}' is a word of every {what}, and cannot be a name"));
     }
+}
+
+/// Says which of these words is meant, where one is so like it that it can be. Whether there is one.
+pub(crate) fn push_meant(
+    alloc: Global,
+    lines: &mut Lines,
+    words: &[&'static str],
+    word: &str,
+) -> bool {
+    let meant = match meant(alloc, words, word) {
+        Ok(meant) => meant,
+        Err(_) => {
+            lines.fail();
+            None
+        }
+    };
+    if let Some(known) = meant {
+        lines.say(format_args!("did you mean {known}?"));
+    }
+    meant.is_some()
+}
+
+// The nearest of these words that stand there as they are, where few edits part the two.
+fn meant(
+    alloc: Global,
+    words: &[&'static str],
+    word: &str,
+) -> Result<Option<&'static str>, AllocError> {
+    let mut nearest = None;
+    let mut least = 3usize;
+    if !is_name(word) {
+        return Ok(None);
+    }
+    for known in words {
+        let letters = known.trim_matches('\'');
+        let far = osa_distance(alloc, word, letters)?;
+        // of a short word two edits leave little
+        if is_name(letters) && far < least && far.saturating_mul(2) < letters.len() {
+            nearest = Some(*known);
+            least = far;
+        }
+    }
+    Ok(nearest)
+}
+
+// What this word is, where it is to be an address or a data byte of a brief.
+fn number_of(language: Language, expected: Expected, word: &str) -> Option<Number<'_>> {
+    if language != Language::Brief || !takes_bits(expected) || is_known(expected) {
+        return None;
+    }
+    Number::of(word, takes_address(expected))
 }
 
 fn reason_of(expected: Expected, word: &str) -> Option<&'static str> {

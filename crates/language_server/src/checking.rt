@@ -4,7 +4,7 @@ ghost use Rattle.std.specs.Prelude.{IfOk};
 ghost use Rattle.plan_core.specs.PlanContents.{plan_contents};
 ghost use Rattle.verdicts.specs.Faults.{AreFaults, fault_list};
 
-use crate::plans::Part;
+use crate::plans::{Given, Part};
 use diagnostics::{Diagnostic, diagnose_check};
 use given_plans::GivenPlan;
 use hints::Named;
@@ -75,16 +75,32 @@ fn first_of(parts: &[Part]) -> (&[u8], &str) {
     }
 }
 
-/// What is wrong with the texts of these parts.
+/// What is wrong with the texts that give a plan. Where some cannot be read that is what is refused before the first of them: all
+/// else could come of what these have.
 ///
 /// # Errors
 ///
 /// Where an allocation fails.
-pub(crate) fn wrong_in<R: Threads + Sync>(
+pub(crate) fn wrong_with<R: Threads + Sync>(
     rt: &R,
     alloc: Global,
-    parts: &[Part],
+    given: &Given,
 ) -> Result<Found, AllocError> {
+    let known = given.known();
+    if !known.is_empty() {
+        let found = wrong_in(rt, alloc, known)?;
+        if given.unread.is_empty() || !found.is_plan {
+            return Ok(found);
+        }
+    }
+    Ok(Found {
+        all: Vec::new(alloc),
+        is_plan: false,
+    })
+}
+
+// What is wrong with the texts of these parts.
+fn wrong_in<R: Threads + Sync>(rt: &R, alloc: Global, parts: &[Part]) -> Result<Found, AllocError> {
     let names = names_after_first(alloc, parts)?;
     let mut texts = texts_of(alloc, parts, names.as_slice())?;
     match texts.find(alloc) {

@@ -1,6 +1,6 @@
 // Where names are given.
 
-use crate::naming::{Word, given_in, words_in};
+use crate::naming::{Word, family_in, given_in, words_in};
 use crate::plans::Given;
 use diagnostics::Span;
 use std::alloc::{AllocError, Global};
@@ -23,7 +23,7 @@ impl Definition<'_> {
     }
 }
 
-/// Where these texts give the name to what this is the name of.
+/// Where these texts give the name to what this is the name of. Where none does, a message may be one of a family.
 ///
 /// # Errors
 ///
@@ -34,12 +34,19 @@ pub(crate) fn definition_of<'a>(
     name: Word<'_>,
 ) -> Result<Option<Definition<'a>>, AllocError> {
     let mut file = 0u32;
+    let mut family = None;
     for part in given.parts.iter() {
         let words = words_in(alloc, part.text.as_slice())?;
         if let Some(word) = given_in(words.as_slice(), name) {
             return Ok(Some(Definition { file, word }));
         }
+        if family.is_none() {
+            family = match family_in(words.as_slice(), name) {
+                Some(word) => Some(Definition { file, word }),
+                None => None,
+            };
+        }
         file = file.saturating_add(1);
     }
-    Ok(None)
+    Ok(family)
 }

@@ -1,13 +1,13 @@
 // What is done for each message of a client.
 
 use crate::answers::{Answers, json};
-use crate::checking::wrong_in;
+use crate::checking::wrong_with;
 use crate::definitions::definition_of;
 use crate::documents::{Document, Documents};
 use crate::formatting::{edit_of, laid_out};
 use crate::hovers::hover_of;
 use crate::naming::{Word, word_at, words_in};
-use crate::plans::{Further, Given, given_by, heads_of};
+use crate::plans::{Further, Given, given_by, heads_of, is_further, stands_for};
 use crate::positions::{Lines, Position};
 use crate::publishing::{location_of, marks_of, publish, publish_nothing};
 use crate::rpc::{
@@ -27,7 +27,19 @@ pub(crate) struct Server<'a, R> {
     rt: &'a R,
     further: Vec<Further>,
     documents: Documents,
+    before: Before,
     phase: Phase,
+}
+
+// What stands before the further files, where what is wrong with them is told.
+#[derive(Drop)]
+enum Before {
+    // nothing that they were told of with
+    Unknown,
+    // nothing: they give a plan
+    Nothing,
+    // the document with this URI
+    Document(String),
 }
 
 #[derive(Clone, Copy, PartialEq, Eq)]
@@ -65,6 +77,7 @@ impl<'a, R: Files + AllocGlobal + Threads + Sync> Server<'a, R> {
             rt,
             further,
             documents: Documents::new(rt.alloc()),
+            before: Before::Unknown,
             phase: Phase::New,
         }
     }
@@ -166,7 +179,20 @@ impl<'a, R: Files + AllocGlobal + Threads + Sync> Server<'a, R> {
             return Ok(());
         };
         self.documents.open(uri, text)?;
+        self.untell_other_uris(uri, answers);
         self.tell_all(uri, answers)
+    }
+
+    // What is wrong with a further file is told by the URI with which it was opened, and by its own no more.
+    fn untell_other_uris(&self, uri: &str, answers: &mut Answers) {
+        let Some(document) = self.documents.find(uri) else {
+            return;
+        };
+        for one in self.further.iter() {
+            if stands_for(self.rt, document, one, &self.documents) {
+                publish_nothing(self.rt.alloc(), answers, one.uri.as_str());
+            }
+        }
     }
 
     fn changed(&mut self, params: Option<&Value>, answers: &mut Answers) -> Result<(), AllocError> {
@@ -194,48 +220,95 @@ impl<'a, R: Files + AllocGlobal + Threads + Sync> Server<'a, R> {
     }
 
     // Tells what is wrong after this document has another text: with all plans that it is a part of.
-    fn tell_all(&self, uri: &str, answers: &mut Answers) -> Result<(), AllocError> {
+    fn tell_all(&mut self, uri: &str, answers: &mut Answers) -> Result<(), AllocError> {
         let Some(number) = self.documents.number_of(uri) else {
             return Ok(());
         };
         let heads = heads_of(self.rt, &self.documents, self.further.as_slice())?;
-        if !heads.contains(&number) {
-            return self.tell_each(answers);
+        if heads.contains(&number) {
+            let is_first = self.before_files(heads.as_slice()) == Some(number);
+            return self.tell(Some(number), is_first, answers);
         }
-        let is_last = heads.last().copied() == Some(number);
-        self.tell(Some(number), is_last, answers)
+        if !self.is_file(number) {
+            self.tell(Some(number), false, answers)?;
+            if !self.was_before_files(uri) {
+                return Ok(());
+            }
+        }
+        self.tell_each(answers)
     }
 
-    // Tells what is wrong with all plans.
-    fn tell_each(&self, answers: &mut Answers) -> Result<(), AllocError> {
-        let heads = heads_of(self.rt, &self.documents, self.further.as_slice())?;
-        let last = heads.last().copied();
-        for head in heads.iter() {
-            self.tell(Some(*head), last == Some(*head), answers)?;
+    fn is_file(&self, number: usize) -> bool {
+        match self.documents.all().get(number) {
+            Some(document) => is_further(self.rt, document, self.further.as_slice()),
+            None => false,
         }
-        if last.is_none() {
+    }
+
+    fn was_before_files(&self, uri: &str) -> bool {
+        match &self.before {
+            Before::Document(before) => before.as_str() == uri,
+            Before::Unknown | Before::Nothing => false,
+        }
+    }
+
+    // Tells what is wrong with all plans that briefs give.
+    fn tell_each(&mut self, answers: &mut Answers) -> Result<(), AllocError> {
+        let heads = heads_of(self.rt, &self.documents, self.further.as_slice())?;
+        let first = self.before_files(heads.as_slice());
+        for head in heads.iter() {
+            self.tell(Some(*head), first == Some(*head), answers)?;
+        }
+        if first.is_none() {
             self.tell(None, true, answers)?;
         }
         Ok(())
     }
 
+    // The document with which the further files are told of, of those that may be the first: the one of before, as long as it may,
+    // else the one that was opened last. None where they give a plan without one, or there is none.
+    fn before_files(&self, heads: &[usize]) -> Option<usize> {
+        let last = heads.last().copied();
+        match &self.before {
+            Before::Nothing => None,
+            Before::Unknown => last,
+            Before::Document(uri) => match self.documents.number_of(uri.as_str()) {
+                Some(number) if heads.contains(&number) => Some(number),
+                _ => last,
+            },
+        }
+    }
+
     // Tells what is wrong with the plan that begins with this document, or with that of the further files alone. Of these it is
     // told where that is wanted.
     fn tell(
-        &self,
+        &mut self,
         head: Option<usize>,
         tells_further: bool,
         answers: &mut Answers,
     ) -> Result<(), AllocError> {
-        let given = given_by(
-            self.rt,
-            &self.documents,
-            head,
-            self.further.as_slice(),
-            tells_further,
-        )?;
-        let found = wrong_in(self.rt, self.rt.alloc(), given.parts.as_slice())?;
-        publish(self.rt.alloc(), answers, &given, &found)
+        let alloc = self.rt.alloc();
+        let further = self.further.as_slice();
+        let given = given_by(self.rt, &self.documents, head, further, tells_further)?;
+        let found = wrong_with(self.rt, alloc, &given)?;
+        if tells_further {
+            self.before = self.before_of(head, found.is_plan)?;
+        }
+        publish(alloc, answers, &given, &found)
+    }
+
+    fn before_of(&self, head: Option<usize>, is_plan: bool) -> Result<Before, AllocError> {
+        match head {
+            None if is_plan => Ok(Before::Nothing),
+            None => Ok(Before::Unknown),
+            Some(number) => match self.documents.all().get(number) {
+                Some(document) => {
+                    let uri = String::from_str(self.rt.alloc(), document.uri.as_str())?;
+                    Ok(Before::Document(uri))
+                }
+                None => Ok(Before::Unknown),
+            },
+        }
     }
 
     // ---- questions
@@ -294,14 +367,14 @@ impl<'a, R: Files + AllocGlobal + Threads + Sync> Server<'a, R> {
         }
     }
 
-    // The texts of the plan that a document belongs to: it is the first of them, or one of the further files. Then it belongs to
-    // the plan of the document that was opened last and is none of these.
+    // The texts of the plan that a document belongs to: it is the first of them, or one of the further files. Then that is the plan
+    // with which it is told of.
     fn plan_of(&self, uri: &str) -> Result<Given, AllocError> {
         let further = self.further.as_slice();
         let heads = heads_of(self.rt, &self.documents, further)?;
         let head = match self.documents.number_of(uri) {
-            Some(number) if heads.contains(&number) => Some(number),
-            _ => heads.last().copied(),
+            Some(number) if !self.is_file(number) => Some(number),
+            _ => self.before_files(heads.as_slice()),
         };
         given_by(self.rt, &self.documents, head, further, true)
     }

@@ -15,6 +15,8 @@ pub(crate) struct Word<'a> {
     pub(crate) is_own: bool,
     /// What stands after it.
     pub(crate) value: &'a [u8],
+    /// Of a family that the item gives it to: the numbers of its messages, from the first to the last.
+    family: Option<(u8, u8)>,
 }
 
 /// The names of a text, in their order.
@@ -28,6 +30,10 @@ pub(crate) struct Words<'a> {
     before: usize,
     // whether an address comes next
     is_after_direction: bool,
+    // whether a number or a range comes next
+    is_after_star: bool,
+    // where the name of the message is, which was begun last
+    message: usize,
 }
 
 #[derive(Clone, Copy, PartialEq, Eq)]
@@ -56,15 +62,17 @@ pub(crate) fn words_in(alloc: Global, text: &[u8]) -> Result<Vec<Word<'_>>, Allo
         item: None,
         before: 0,
         is_after_direction: false,
+        is_after_star: false,
+        message: 0,
     };
     for _ in 0..text.len() {
         match lexer.next().symbol {
+            Symbol::Word(word) if words.is_after_star => words.take_times(word),
             Symbol::Word(word) => {
                 let spot = lexer.spot();
                 words.take(word, text.len().saturating_sub(spot.start))?;
             }
-            Symbol::Sign(b';') => words.item = None,
-            Symbol::Sign(_) => {}
+            Symbol::Sign(sign) => words.take_sign(sign),
             Symbol::Stray | Symbol::Foreign | Symbol::End => break,
         }
     }
@@ -73,8 +81,17 @@ pub(crate) fn words_in(alloc: Global, text: &[u8]) -> Result<Vec<Word<'_>>, Allo
 
 // Whether the first word of the text is that of a brief.
 fn is_brief(text: &[u8]) -> bool {
+    begins_with(text, b"brief")
+}
+
+/// Whether the first word of the text is that of a plan.
+pub(crate) fn is_plan(text: &[u8]) -> bool {
+    begins_with(text, b"plan")
+}
+
+fn begins_with(text: &[u8], wanted: &[u8]) -> bool {
     match Lexer::new(text, Letters::Brief).next().symbol {
-        Symbol::Word(word) => word == b"brief".as_slice(),
+        Symbol::Word(word) => word == wanted,
         _ => false,
     }
 }
@@ -114,6 +131,27 @@ impl<'a> Words<'a> {
         }
     }
 
+    fn take_sign(&mut self, sign: u8) {
+        self.is_after_star = sign == b'*';
+        if sign == b';' {
+            self.item = None;
+        }
+    }
+
+    // How often a byte is sent. A range makes its message a family.
+    fn take_times(&mut self, word: &'a [u8]) {
+        self.is_after_star = false;
+        if self.item != Some(Item::Named(Kind::Message)) {
+            return;
+        }
+        let Some(range) = range_of(word) else {
+            return;
+        };
+        if let Some(message) = self.found.get_mut(self.message) {
+            message.family = Some(range);
+        }
+    }
+
     // A word in an item that gives a name to this.
     fn add_in(
         &mut self,
@@ -125,6 +163,7 @@ impl<'a> Words<'a> {
         let before = self.before;
         self.before = before.saturating_add(1);
         if before == 0 {
+            self.message = self.found.len();
             return self.add(word, start, kind, true);
         }
         if before == 1 {
@@ -188,6 +227,7 @@ impl<'a> Words<'a> {
             kind,
             is_own,
             value: &[],
+            family: None,
         }) {
             Ok(()) => Ok(()),
             Err(_) => Err(AllocError),
@@ -217,34 +257,55 @@ pub(crate) fn word_at<'a>(words: &[Word<'a>], offset: usize) -> Option<Word<'a>>
     found
 }
 
-/// Where a text gives the name to what this is the name of. A message may be one of a family.
-pub(crate) fn given_in<'a>(words: &[Word<'a>], name: Word<'_>) -> Option<Word<'a>> {
-    match own_in(words, name.kind, name.name) {
-        Some(own) => Some(own),
-        None if name.kind == Kind::Message => own_in(words, name.kind, family_of(name.name)?),
-        None => None,
-    }
+// The numbers of a range.
+fn range_of(word: &[u8]) -> Option<(u8, u8)> {
+    let (least, greatest) = str::from_utf8(word).ok()?.split_once("..")?;
+    Some((least.parse::<u8>().ok()?, greatest.parse::<u8>().ok()?))
 }
 
-fn own_in<'a>(words: &[Word<'a>], kind: Kind, name: &[u8]) -> Option<Word<'a>> {
+/// Where a text gives the name to what this is the name of.
+pub(crate) fn given_in<'a>(words: &[Word<'a>], name: Word<'_>) -> Option<Word<'a>> {
     for word in words {
-        if word.is_own && word.kind == kind && word.name == name {
+        if word.is_own && word.kind == name.kind && word.name == name.name {
             return Some(*word);
         }
     }
     None
 }
 
-// The name of the family that may make a message of this name: what stands before `_` and digits.
-fn family_of(name: &[u8]) -> Option<&[u8]> {
-    let at = name.iter().rposition(is_underscore)?;
-    let digits = name.get(at.saturating_add(1)..)?;
-    if digits.is_empty() || !digits.iter().all(u8::is_ascii_digit) {
+/// Where a text gives the name to the family that makes the message of this name.
+pub(crate) fn family_in<'a>(words: &[Word<'a>], name: Word<'_>) -> Option<Word<'a>> {
+    if name.kind != Kind::Message {
         return None;
     }
-    name.get(..at)
+    for word in words {
+        if word.makes(name.name) {
+            return Some(*word);
+        }
+    }
+    None
 }
 
-fn is_underscore(byte: &u8) -> bool {
-    *byte == b'_'
+impl Word<'_> {
+    // Whether this is the name of a family that makes a message of this name.
+    fn makes(&self, name: &[u8]) -> bool {
+        let is_message = self.is_own && self.kind == Kind::Message;
+        match (self.family, number_after(self.name, name)) {
+            (Some((least, greatest)), Some(number)) => {
+                is_message && least <= number && number <= greatest
+            }
+            _ => false,
+        }
+    }
+}
+
+// The number that stands after the name of a family and `_`, without leading zeros.
+fn number_after(family: &[u8], name: &[u8]) -> Option<u8> {
+    let digits = name.strip_prefix(family)?.strip_prefix(b"_")?;
+    if !digits.iter().all(u8::is_ascii_digit)
+        || digits.len() != 1 && digits.first() == Some(&b'0')
+    {
+        return None;
+    }
+    str::from_utf8(digits).ok()?.parse::<u8>().ok()
 }

@@ -1,13 +1,14 @@
 // Which texts give the plan that a document belongs to.
 
 use crate::documents::{Document, Documents};
+use crate::naming::is_plan;
 use crate::uris::uri_of;
 use files::{FileId, identity_of};
 use report::{RunError, Watched, read_within};
 use run_parts::devices::reading::READS;
 use std::alloc::{AllocError, Global};
 use std::rt::{Env, Files};
-use std::{env, fs};
+use std::{env, fs, io};
 
 /// A further file of a brief, as the command line names it, and its path from the root on, also as a URI.
 #[derive(Drop)]
@@ -32,8 +33,17 @@ pub(crate) struct Part {
 #[derive(Drop)]
 pub(crate) struct Given {
     pub(crate) parts: Vec<Part>,
-    /// The name of a file that cannot be read.
-    pub(crate) unread: Option<String>,
+    /// The files that cannot be read, which are left out.
+    pub(crate) unread: Vec<Unread>,
+    // how many parts stand before the first of these
+    before: usize,
+}
+
+/// A file that cannot be read: its name, and why.
+#[derive(Drop)]
+pub(crate) struct Unread {
+    pub(crate) name: String,
+    pub(crate) reason: String,
 }
 
 /// The further files of these names.
@@ -80,7 +90,7 @@ fn path_from_root<R: Env + AllocGlobal>(rt: &R, name: &str) -> Result<String, Al
     }
 }
 
-/// The numbers of the open documents that are none of the further files.
+/// The numbers of the open documents that may be the first of several texts: none of the further files, and no plan.
 ///
 /// # Errors
 ///
@@ -92,7 +102,7 @@ pub(crate) fn heads_of<R: Files + AllocGlobal>(
 ) -> Result<Vec<usize>, AllocError> {
     let mut heads = Vec::new(rt.alloc());
     for (number, document) in documents.all().iter().enumerate() {
-        if !is_further(rt, document, further) {
+        if !is_further(rt, document, further) && !is_plan(document.text.as_bytes()) {
             heads.push(number)?;
         }
     }
@@ -107,6 +117,17 @@ pub(crate) fn is_further<R: Files>(rt: &R, document: &Document, further: &[Furth
         }
     }
     false
+}
+
+/// Whether a document is this file, and has another URI, as behind a link. Then it stands for the file.
+pub(crate) fn stands_for<R: Files>(
+    rt: &R,
+    document: &Document,
+    further: &Further,
+    documents: &Documents,
+) -> bool {
+    let uri = further.uri.as_str();
+    document.uri.as_str() != uri && documents.find(uri).is_none() && is_file(rt, document, further)
 }
 
 // Whether a document is this file: by its path, or as the system knows both.
@@ -128,8 +149,8 @@ fn is_one(one: Option<FileId>, other: Option<FileId>) -> bool {
     }
 }
 
-/// The texts that give a plan: the document of this number, where there is one, and then the further files. These are told of
-/// where that is wanted.
+/// The texts that give a plan: the document of this number, where there is one, and then the further files, which no plan has
+/// after it. These are told of where that is wanted.
 ///
 /// # Errors
 ///
@@ -144,15 +165,22 @@ pub(crate) fn given_by<R: Files + AllocGlobal>(
     let alloc = rt.alloc();
     let mut given = Given {
         parts: Vec::new(alloc),
-        unread: None,
+        unread: Vec::new(alloc),
+        before: 0,
     };
     if let Some(document) = head_among(documents, head) {
         given.add(part_of(alloc, document, file_name_of(document), true)?)?;
+        if !is_further(rt, document, further) && is_plan(document.text.as_bytes()) {
+            return Ok(given);
+        }
     }
     for one in further {
         match further_part(rt, documents, one, tells_further)? {
-            Some(part) => given.add(part)?,
-            None => given.unread = Some(String::from_str(alloc, one.name.as_str())?),
+            FurtherPart::Read(part) => given.add(part)?,
+            FurtherPart::Unread(reason) => {
+                let name = String::from_str(alloc, one.name.as_str())?;
+                given.leave_out(Unread { name, reason })?;
+            }
         }
     }
     Ok(given)
@@ -167,6 +195,26 @@ impl Given {
         match self.parts.push(part) {
             Ok(()) => Ok(()),
             Err(_) => Err(AllocError),
+        }
+    }
+
+    fn leave_out(&mut self, file: Unread) -> Result<(), AllocError> {
+        if self.unread.is_empty() {
+            self.before = self.parts.len();
+        }
+        match self.unread.push(file) {
+            Ok(()) => Ok(()),
+            Err(_) => Err(AllocError),
+        }
+    }
+
+    /// The parts of which can be said what is wrong: those before a file that cannot be read.
+    pub(crate) fn known(&self) -> &[Part] {
+        let parts = self.parts.as_slice();
+        if self.unread.is_empty() {
+            parts
+        } else {
+            parts.get(..self.before).unwrap_or(parts)
         }
     }
 }
@@ -200,39 +248,62 @@ fn file_name_of(document: &Document) -> &str {
     }
 }
 
-// A further file: as it is open, or as it stands on disk. None where it cannot be read.
+// A further file: its text, or why it cannot be read.
+#[derive(Drop)]
+enum FurtherPart {
+    Read(Part),
+    Unread(String),
+}
+
+// A further file: as it is open, or as it stands on disk.
 fn further_part<R: Files + AllocGlobal>(
     rt: &R,
     documents: &Documents,
     further: &Further,
     is_told: bool,
-) -> Result<Option<Part>, AllocError> {
+) -> Result<FurtherPart, AllocError> {
     let alloc = rt.alloc();
     let name = further.name.as_str();
     for document in documents.all() {
         if is_file(rt, document, further) {
-            return Ok(Some(part_of(alloc, document, name, is_told)?));
+            return Ok(FurtherPart::Read(part_of(alloc, document, name, is_told)?));
         }
     }
-    let Some(text) = read(rt, further.path.as_str())? else {
-        return Ok(None);
-    };
-    Ok(Some(Part {
-        uri: String::from_str(alloc, further.uri.as_str())?,
-        name: String::from_str(alloc, name)?,
-        text,
-        is_told,
-    }))
+    match read(rt, further.path.as_str()) {
+        Ok(text) => Ok(FurtherPart::Read(Part {
+            uri: String::from_str(alloc, further.uri.as_str())?,
+            name: String::from_str(alloc, name)?,
+            text,
+            is_told,
+        })),
+        Err(NoText::Memory) => Err(AllocError),
+        Err(NoText::Refused(error)) => Ok(FurtherPart::Unread(format!(in alloc; "{error}")?)),
+        Err(NoText::Other(words)) => Ok(FurtherPart::Unread(String::from_str(alloc, words)?)),
+    }
 }
 
-// What the file of this path has, where it can be read.
-fn read<R: Files + AllocGlobal>(rt: &R, path: &str) -> Result<Option<Vec<u8>>, AllocError> {
-    let Ok(file) = fs::open(rt, path) else {
-        return Ok(None);
+// Why a file has no text.
+#[derive(Drop)]
+enum NoText {
+    Memory,
+    Refused(io::Error),
+    Other(&'static str),
+}
+
+// What the file of this path has. A pipe would be waited for, and a device may have no end.
+fn read<R: Files + AllocGlobal>(rt: &R, path: &str) -> Result<Vec<u8>, NoText> {
+    match fs::metadata(rt, path) {
+        Ok(found) if found.is_file() => {}
+        Ok(_) => return Err(NoText::Other("it is no regular file")),
+        Err(error) => return Err(NoText::Refused(error)),
+    }
+    let file = match fs::open(rt, path) {
+        Ok(file) => file,
+        Err(error) => return Err(NoText::Refused(error)),
     };
     match read_within(rt.alloc(), &mut Watched::new(file), READS) {
-        Ok(text) => Ok(Some(text)),
-        Err(RunError::NoMemory) => Err(AllocError),
-        Err(_) => Ok(None),
+        Ok(text) => Ok(text),
+        Err(RunError::NoMemory) => Err(NoText::Memory),
+        Err(_) => Err(NoText::Other("it cannot be read to its end")),
     }
 }

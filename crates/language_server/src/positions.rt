@@ -1,5 +1,6 @@
 // Places of a text, as the protocol counts them: lines from 0 on, and in a line units of UTF-16.
 
+use diagnostics::Span;
 use serde::Serialize;
 use std::alloc::{AllocError, Global};
 
@@ -85,11 +86,21 @@ impl<'a> Lines<'a> {
 
     /// The first line, without its end.
     pub(crate) fn first(&self) -> Range {
+        let Span { start, end, .. } = self.first_span();
+        self.range(start, end)
+    }
+
+    /// The same as bytes of the first text.
+    pub(crate) fn first_span(&self) -> Span {
         let after = Position {
             line: 0,
             character: u64::MAX,
         };
-        self.range(0, self.offset(after))
+        Span {
+            file: 0,
+            start: 0,
+            end: self.offset(after),
+        }
     }
 
     /// How many bytes stand before this place. One after the end of its line is that end.

@@ -2,10 +2,10 @@
 
 use crate::answers::{Answers, json};
 use crate::checking::Found;
-use crate::plans::Given;
+use crate::plans::{Given, Unread};
 use crate::positions::{Lines, Position, Range};
 use diagnostics::{Diagnostic, Severity, Span};
-use growing_text::Text;
+use growing_text::{Text, shown};
 use serde::Serialize;
 use std::alloc::{AllocError, Global};
 
@@ -37,25 +37,30 @@ struct Beside<'a> {
 
 #[derive(Drop, Serialize)]
 #[serde(rename_all = "camelCase")]
-struct Told<'a> {
+struct Told<'a, 'b> {
     range: Range,
     severity: u8,
     code: &'static str,
     source: &'static str,
     message: &'a str,
-    related_information: Vec<Beside<'a>>,
+    related_information: Vec<Beside<'b>>,
 }
 
 // What stands at the first place of a diagnostic that is told at its other one.
 const FIRST: &str = "the first of the two";
 
-// A diagnostic that is told at one of its two places.
+// What stands at the place of a refusal that is told where its plan begins.
+const REFUSED: &str = "it is refused here";
+
+// A diagnostic that is told at one of its two places, or where its plan begins.
 #[derive(Clone, Copy)]
 struct Shown<'a> {
     diagnostic: &'a Diagnostic,
     span: Span,
-    // whether that is the other one
-    is_other: bool,
+    // what stands at its own place, where that is another one
+    own: Option<&'static str>,
+    // the name of the file in which that is, where no other list has it
+    file: Option<&'a str>,
 }
 
 /// One of the texts that give a plan, with its lines.
@@ -125,8 +130,8 @@ fn params_of(
     let mut list = List::new(alloc);
     let uri = match marks.get(file as usize) {
         Some(marked) => {
-            if let (0, Some(name)) = (file, &given.unread) {
-                list.add_unread(name.as_str(), marked.lines.first());
+            if file == 0 {
+                list.add_beginning(given, found, marked, marks);
             }
             marked.uri
         }
@@ -165,10 +170,39 @@ impl List {
         }
     }
 
+    // What is told on the first line of a plan: which files cannot be read, and a refusal in one that is told of with another plan.
+    fn add_beginning(
+        &mut self,
+        given: &Given,
+        found: &Found,
+        first: &Marked<'_>,
+        marks: &[Marked<'_>],
+    ) {
+        for file in given.unread.iter() {
+            self.add_unread(file, first.lines.first());
+        }
+        if found.is_plan {
+            return;
+        }
+        for diagnostic in found.all.iter() {
+            if let Some(part) = given.parts.get(diagnostic.span.file as usize) {
+                if !part.is_told {
+                    let shown = Shown {
+                        diagnostic,
+                        span: first.lines.first_span(),
+                        own: Some(REFUSED),
+                        file: Some(part.name.as_str()),
+                    };
+                    self.add_shown(shown, marks);
+                }
+            }
+        }
+    }
+
     // That a file cannot be read.
-    fn add_unread(&mut self, name: &str, range: Range) {
+    fn add_unread(&mut self, file: &Unread, range: Range) {
         let alloc = self.alloc;
-        match unread_words(alloc, name) {
+        match unread_words(alloc, file) {
             Ok(message) => {
                 let told = Told {
                     range,
@@ -195,7 +229,8 @@ impl List {
         let shown = Shown {
             diagnostic,
             span: diagnostic.span,
-            is_other: false,
+            own: None,
+            file: None,
         };
         if diagnostic.span.file == file {
             self.add_shown(shown, marks);
@@ -208,7 +243,7 @@ impl List {
                 self.add_shown(
                     Shown {
                         span: other.span,
-                        is_other: true,
+                        own: Some(FIRST),
                         ..shown
                     },
                     marks,
@@ -245,11 +280,24 @@ impl List {
     }
 }
 
-fn unread_words(alloc: Global, name: &str) -> Result<String, AllocError> {
+fn unread_words(alloc: Global, file: &Unread) -> Result<String, AllocError> {
     let mut words = Text::new(alloc);
     words.push("the file ");
-    words.push(name);
-    words.push(" of --with cannot be read");
+    words.push_made(shown(alloc, file.name.as_str()));
+    words.push(" of --with cannot be read: ");
+    words.push(file.reason.as_str());
+    words.finish()
+}
+
+// What is said of it, after the name of the file where that is told elsewhere.
+fn words_of(alloc: Global, told: Shown<'_>) -> Result<String, AllocError> {
+    let mut words = Text::new(alloc);
+    if let Some(file) = told.file {
+        words.push("with ");
+        words.push_made(shown(alloc, file));
+        words.push(": ");
+    }
+    words.push(told.diagnostic.message.as_str());
     words.finish()
 }
 
@@ -270,14 +318,19 @@ fn told_more(alloc: Global, more: usize) -> Result<String, AllocError> {
     json(alloc, &told)
 }
 
-fn told_of(alloc: Global, shown: Shown<'_>, marks: &[Marked<'_>]) -> Result<String, AllocError> {
+fn told_of<'a>(
+    alloc: Global,
+    shown: Shown<'a>,
+    marks: &'a [Marked<'a>],
+) -> Result<String, AllocError> {
     let diagnostic = shown.diagnostic;
+    let message = words_of(alloc, shown)?;
     let told = Told {
         range: location_of(marks, shown.span).range,
         severity: severity_of(diagnostic.severity),
         code: diagnostic.code,
         source: SOURCE,
-        message: diagnostic.message.as_str(),
+        message: message.as_str(),
         related_information: related_of(alloc, shown, marks)?,
     };
     json(alloc, &told)
@@ -290,17 +343,17 @@ fn severity_of(severity: Severity) -> u8 {
     }
 }
 
-// What is told beside it. At the other place of two that is the first one.
+// What is told beside it. At another place than its own that is this one.
 fn related_of<'a>(
     alloc: Global,
     shown: Shown<'a>,
     marks: &'a [Marked<'a>],
 ) -> Result<Vec<Beside<'a>>, AllocError> {
     let mut related = Vec::new(alloc);
-    if shown.is_other {
+    if let Some(message) = shown.own {
         related.push(Beside {
             location: location_of(marks, shown.diagnostic.span),
-            message: FIRST,
+            message,
         })?;
         return Ok(related);
     }

@@ -89,7 +89,7 @@ fn push_ends(text: &mut Text, score: Score) {
     let next = push_part(text, "; ", "wins", score.wins);
     let next = push_part(text, next, "loses", score.loses);
     let next = push_part(text, next, "either may win", score.may_win);
-    let next = push_part(text, next, "both end alike", score.alike);
+    let next = push_part(text, next, "both always end together", score.alike);
     push_part(text, next, "unsafe", score.unsafe_pairs);
 }
 

@@ -56,42 +56,47 @@ impl Base {
     fn push(self, text: &mut Text) {
         match (self.first, self.second, self.register) {
             (Some(Sent::Write(to)), Some(Sent::Read(from, _)), Some(register)) if to == from => {
-                push_address(text, "read_", to);
-                push_address(text, "_r", register);
+                text.push("read_");
+                push_target(text, to, Some(register));
+            }
+            (first, second, register) if is_write(first) => {
+                push_header(text, "", first, register);
+                push_header(text, "_", second, None);
             }
             (first, second, register) => {
-                push_header(text, "", first);
-                if is_write(first) {
-                    push_register(text, register);
-                }
-                push_header(text, "_", second);
-                if !is_write(first) {
-                    push_register(text, register);
-                }
+                push_header(text, "", first, None);
+                push_header(text, "_", second, register);
             }
         }
     }
 }
 
-fn push_header(text: &mut Text, before: &str, header: Option<Sent>) {
+fn push_header(text: &mut Text, before: &str, header: Option<Sent>, register: Option<u8>) {
     let (word, address) = match header {
         Some(Sent::Write(address)) => ("write_", address),
         Some(Sent::Read(address, _)) => ("read_", address),
         _ => return,
     };
     text.push(before);
-    push_address(text, word, address);
-}
-
-fn push_register(text: &mut Text, register: Option<u8>) {
-    if let Some(register) = register {
-        push_address(text, "_r", register);
-    }
-}
-
-fn push_address(text: &mut Text, word: &str, address: u8) {
     text.push(word);
-    text.push_hex(address);
+    push_target(text, address, register);
+}
+
+// An address and a register. After a header of ten-bit addresses the first byte is no register: it has the rest of the address
+// (UM10204, 3.1.11).
+fn push_target(text: &mut Text, address: u8, register: Option<u8>) {
+    match register {
+        Some(low) if matches!(address, 0x78..=0x7B) => {
+            text.push_number(u64::from(address & 3));
+            text.push_hex(low);
+        }
+        Some(register) => {
+            text.push_hex(address);
+            text.push("_r");
+            text.push_hex(register);
+        }
+        None => text.push_hex(address),
+    }
 }
 
 fn is_write(header: Option<Sent>) -> bool {

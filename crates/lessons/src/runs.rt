@@ -62,10 +62,74 @@ fn put_together(
             outside.add(sight);
         }
     }
+    part_polls(alloc, &mut trees, seen)?;
     let lost = lost_of(alloc, &mut trees, seen)?;
     outside.tell(seen, room.full)?;
     lost.tell(seen, NoPath::Lost)?;
     Ok(trees)
+}
+
+// A header alone that was not acknowledged says nothing of what would have followed. So it is told of a message that ends
+// there, and else of none, though one that goes on has it too.
+fn part_polls(
+    alloc: Global,
+    trees: &mut Vec<Tree>,
+    seen: &mut Sights<'_>,
+) -> Result<(), AllocError> {
+    let polls = take_polls(alloc, trees, seen)?;
+    for number in polls {
+        if let Some(sight) = seen.sights.get(number)
+            && !put_poll(trees, sight, number)?
+        {
+            seen.alone.push(number)?;
+        }
+    }
+    seen.alone.sort()?;
+    Ok(())
+}
+
+// Takes them out of the messages that go on.
+fn take_polls(
+    alloc: Global,
+    trees: &mut Vec<Tree>,
+    seen: &Sights<'_>,
+) -> Result<Vec<usize>, AllocError> {
+    let mut polls = Vec::new(alloc);
+    for tree in trees.iter_mut() {
+        if tree.is_header_alone() {
+            continue;
+        }
+        let mut others = Vec::new(alloc);
+        for number in tree.paths.iter() {
+            if is_poll(seen, *number) {
+                polls.push(*number)?;
+            } else {
+                others.push(*number)?;
+            }
+        }
+        tree.paths = others;
+    }
+    Ok(polls)
+}
+
+fn is_poll(seen: &Sights<'_>, number: usize) -> bool {
+    match seen.sights.get(number) {
+        Some(sight) => matches!(sight.path.as_slice(), [step] if step.refused),
+        None => false,
+    }
+}
+
+// Whether a message of the same controllers ends with this header.
+fn put_poll(trees: &mut Vec<Tree>, sight: &Sight, number: usize) -> Result<bool, AllocError> {
+    let path = sight.path.as_slice();
+    for tree in trees.iter_mut() {
+        if tree.by == sight.by && tree.is_header_alone() && tree.takes(path) {
+            tree.put(path, number, sight.times)?;
+            tree.paths.sort()?;
+            return Ok(true);
+        }
+    }
+    Ok(false)
 }
 
 // Paths that are in no message: how often they were seen, and when first.

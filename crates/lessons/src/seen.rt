@@ -52,6 +52,8 @@ pub struct Sights<'a> {
     // by the bytes of a path: its number, unless the brief explains it
     places: BTreeMap<Vec<u8>, Place>,
     pub(crate) sights: Vec<Sight>,
+    /// The numbers of those of which no message is told: headers alone that were not acknowledged.
+    pub(crate) alone: Vec<usize>,
     pub(crate) odd: Vec<Odd>,
     /// How many transactions a STOP ended.
     pub(crate) stopped: u64,
@@ -75,6 +77,7 @@ impl<'a> Sights<'a> {
             driving: None,
             places: BTreeMap::new(alloc),
             sights: Vec::new(alloc),
+            alone: Vec::new(alloc),
             odd: Vec::new(alloc),
             stopped: 0,
         }

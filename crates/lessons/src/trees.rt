@@ -108,6 +108,14 @@ impl Tree {
         matches!(at, After::Unseen | After::Stop)
     }
 
+    /// Whether it ends with its first header, as far as was seen.
+    pub(crate) fn is_header_alone(&self) -> bool {
+        match self.nodes.as_slice().first() {
+            Some(node) => !matches!(node.acked, After::On(_)),
+            None => false,
+        }
+    }
+
     /// Puts in a path that the message takes, which has this number and was seen so often.
     pub(crate) fn put(
         &mut self,

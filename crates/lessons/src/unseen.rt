@@ -3,86 +3,119 @@
 use crate::families::Item;
 use crate::paths::Sent;
 use crate::trees::{After, Likeness, Node, Tree};
-use crate::words::push_never;
+use crate::words::answered;
 use growing_text::Lines;
 use std::alloc::{AllocError, Global};
 
 // How many are told.
-const TOLD: u32 = 8;
+const TOLD: usize = 8;
 
-/// The answers that never came in a message or family, the first few.
+/// The answers that never came in a message or family, the first few, on a line of their own where there is one.
 pub(crate) fn push_unseen(alloc: Global, line: &mut Lines, item: &Item, trees: &Vec<Tree>) {
-    let mut told = Told { count: 0 };
-    match trees.get(item.written) {
+    let mut told = Told {
+        words: Vec::new(alloc),
+        count: 0,
+    };
+    let found = match trees.get(item.written) {
         Some(tree) if tree.likeness == Likeness::Exact || tree.likeness == Likeness::Merged => {
-            told.push_each(alloc, line, tree);
+            told.add_each(alloc, tree)
         }
-        Some(_) => match marked(alloc, item, trees) {
-            Ok(mut marks) => told.push_alike(alloc, line, item, trees, &mut marks),
-            Err(_) => line.cut(),
-        },
-        None => {}
+        Some(_) => told.add_alike(alloc, item, trees),
+        None => Ok(()),
+    };
+    match found {
+        Ok(()) => told.push_to(line),
+        Err(_) => line.cut(),
     }
 }
 
-// How many answers were told so far.
+// The answers that are told, and how many there are.
 #[derive(Drop)]
 struct Told {
-    count: u32,
+    words: Vec<String>,
+    count: usize,
 }
 
 impl Told {
     // Place by place.
-    fn push_each(&mut self, alloc: Global, line: &mut Lines, tree: &Tree) {
+    fn add_each(&mut self, alloc: Global, tree: &Tree) -> Result<(), AllocError> {
         for node in tree.nodes.iter() {
             if node.acked == After::Unseen {
-                self.push(alloc, line, node, " A,");
+                self.add(alloc, node, " A")?;
             }
             if node.refused == After::Unseen {
-                self.push(alloc, line, node, " NA,");
+                self.add(alloc, node, " NA")?;
             }
         }
+        Ok(())
     }
 
     // Once for all places that are told with the same words.
-    fn push_alike(
+    fn add_alike(
         &mut self,
         alloc: Global,
-        line: &mut Lines,
         item: &Item,
         trees: &Vec<Tree>,
-        marks: &mut Vec<Mark>,
-    ) {
+    ) -> Result<(), AllocError> {
+        let mut marks = marked(alloc, item, trees)?;
         for number in item.members.iter() {
             if let Some(tree) = trees.get(*number) {
-                self.push_marked(alloc, line, tree, marks);
+                self.add_marked(alloc, tree, &mut marks)?;
             }
         }
+        Ok(())
     }
 
-    fn push_marked(&mut self, alloc: Global, line: &mut Lines, tree: &Tree, marks: &mut Vec<Mark>) {
+    fn add_marked(
+        &mut self,
+        alloc: Global,
+        tree: &Tree,
+        marks: &mut Vec<Mark>,
+    ) -> Result<(), AllocError> {
         for node in tree.nodes.iter() {
             let Some(mark) = marks.get_mut(number_of(node.sent)) else {
                 continue;
             };
-            if !mark.acked {
-                self.push(alloc, line, node, " A,");
-            }
-            if !mark.refused {
-                self.push(alloc, line, node, " NA,");
-            }
+            let Mark { acked, refused } = *mark;
             *mark = SEEN;
+            if !acked {
+                self.add(alloc, node, " A")?;
+            }
+            if !refused {
+                self.add(alloc, node, " NA")?;
+            }
         }
+        Ok(())
     }
 
-    // One more answer, or that there are more.
-    fn push(&mut self, alloc: Global, line: &mut Lines, node: &Node, answer: &str) {
+    // One more answer.
+    fn add(&mut self, alloc: Global, node: &Node, answer: &str) -> Result<(), AllocError> {
         self.count = self.count.saturating_add(1);
         if self.count <= TOLD {
-            push_never(alloc, line, node, answer);
-        } else if self.count == TOLD + 1 {
+            self.words.push(answered(alloc, node, answer)?)?;
+        }
+        Ok(())
+    }
+
+    // With commas between them, and the sign that there are more.
+    fn push_to(self, line: &mut Lines) {
+        let Told { words, count } = self;
+        if count == 0 {
+            return;
+        }
+        line.begin("# never seen:", "#    ");
+        let mut number = 0usize;
+        for mut word in words {
+            number = number.saturating_add(1);
+            if number < count && word.push(',').is_err() {
+                line.cut();
+            }
+            line.word(word.as_str());
+        }
+        if count > TOLD {
             line.word("..");
         }
+        line.end();
     }
 }
 

@@ -91,12 +91,8 @@ pub(crate) fn why(no: NoPath) -> &'static str {
     }
 }
 
-/// A place of a message after which this answer never came.
-pub(crate) fn push_never(alloc: Global, line: &mut Lines, node: &Node, answer: &str) {
-    line.word_made(answered(alloc, node, answer));
-}
-
-fn answered(alloc: Global, node: &Node, answer: &str) -> Result<String, AllocError> {
+/// What is sent at a place of a message, and an answer to it.
+pub(crate) fn answered(alloc: Global, node: &Node, answer: &str) -> Result<String, AllocError> {
     let mut text = Text::new(alloc);
     match node.sent {
         Sent::Register(byte) | Sent::Data(byte) => push_data(&mut text, byte, node.known),

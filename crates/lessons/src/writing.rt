@@ -76,6 +76,11 @@ fn push_counts(alloc: Global, line: &mut Lines, seen: &Sights<'_>, messages: u64
     line.word("messages");
     line.end();
     push_explained(alloc, line, seen);
+    for number in seen.alone.iter() {
+        if let Some(sight) = seen.sights.get(*number) {
+            push_sight(alloc, line, "# header alone:", sight, seen.told_scale());
+        }
+    }
     for odd in seen.odd.iter() {
         push_odd(alloc, line, *odd, seen.told_scale());
     }
@@ -109,7 +114,7 @@ fn push_sights(alloc: Global, line: &mut Lines, item: &Item, trees: &Vec<Tree>, 
         };
         last = Some(number);
         if let Some(sight) = seen.sights.get(number) {
-            push_sight(alloc, line, sight, seen.told_scale());
+            push_sight(alloc, line, "#", sight, seen.told_scale());
         }
     }
     let others = paths_in(item, trees).saturating_sub(TOLD);
@@ -118,9 +123,7 @@ fn push_sights(alloc: Global, line: &mut Lines, item: &Item, trees: &Vec<Tree>, 
         line.number(others as u64, " others");
         line.end();
     }
-    line.begin("# never seen:", "#    ");
     push_unseen(alloc, line, item, trees);
-    line.end();
     if let Some(tree) = trees.get(item.written) {
         push_alike(alloc, line, tree);
     }
@@ -165,8 +168,8 @@ fn nearer(at_hand: Option<usize>, tree: &Tree, after: Option<usize>) -> Option<u
     at_hand
 }
 
-fn push_sight(alloc: Global, line: &mut Lines, sight: &Sight, scale: Option<Scale>) {
-    line.begin("#", "#    ");
+fn push_sight(alloc: Global, line: &mut Lines, begin: &str, sight: &Sight, scale: Option<Scale>) {
+    line.begin(begin, "#    ");
     line.number(sight.times, "");
     line.word("times,");
     push_first(alloc, line, sight.first, scale);

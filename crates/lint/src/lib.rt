@@ -5,6 +5,7 @@ use brief_tokens::names_in;
 use message_tree::{Address, Bit};
 use origins::{Device, NamedByte, Origins, Spot};
 use plan_core::Plan;
+use plan_words::family_of;
 use std::alloc::{AllocError, Global};
 
 /// What is likely a mistake.
@@ -22,7 +23,7 @@ pub enum Oddity<'a> {
     UnusedDevice(&'a Device),
     /// No message names the data byte.
     UnusedByte(&'a NamedByte),
-    /// No controller lists these messages: so many, from this one of the plan on. They stand in one place, as a family does.
+    /// No controller lists these messages: so many, from this one of the plan on. Several are of one family.
     Unsent { first: u32, count: u32, spot: Spot },
     /// The controller of this number in the plan lists no message.
     Idle { controller: u32, spot: Spot },
@@ -75,7 +76,7 @@ pub fn oddities<'a>(
     push_texts(alloc, &mut found, texts)?;
     push_devices(&mut found, origins.devices.as_slice())?;
     push_bytes(&mut found, origins.bytes.as_slice())?;
-    push_messages(&mut found, plan, origins.messages.as_slice())?;
+    push_messages(&mut found, plan, origins)?;
     push_controllers(&mut found, plan, origins)?;
     Ok(found)
 }
@@ -179,32 +180,43 @@ fn push_bytes<'a>(found: &mut Vec<Oddity<'a>>, bytes: &'a [NamedByte]) -> Result
     Ok(())
 }
 
-// Messages that no controller lists, those of one place together.
+// Messages that no controller lists, those of one family together that stand one after another.
 fn push_messages(
     found: &mut Vec<Oddity<'_>>,
     plan: &Plan,
-    spots: &[Spot],
+    origins: &Origins,
 ) -> Result<(), AllocError> {
     let mut open: Option<(u32, u32, Spot)> = None;
+    let mut before = None;
     let mut message = 0u32;
-    for spot in spots {
+    for spot in origins.messages.as_slice() {
+        let family = family_in(plan, origins, message);
         if is_sent(plan, message) {
             push_unsent(found, open)?;
             open = None;
         } else {
             open = match open {
-                Some((first, count, place)) if place == *spot => {
+                Some((first, count, place)) if family.is_some() && family == before => {
                     Some((first, count.saturating_add(1), place))
                 }
-                before => {
-                    push_unsent(found, before)?;
+                others => {
+                    push_unsent(found, others)?;
                     Some((message, 1, *spot))
                 }
             };
         }
+        before = family;
         message = message.saturating_add(1);
     }
     push_unsent(found, open)
+}
+
+// The number of the family that makes this message.
+fn family_in(plan: &Plan, origins: &Origins, message: u32) -> Option<usize> {
+    if plan.messages() <= message {
+        return None;
+    }
+    family_of(origins, plan.message_name(message))
 }
 
 fn push_unsent(

@@ -106,7 +106,13 @@ fn tell_two(
     let next = push_part(&mut words, "; ", one, " wins ", score.wins);
     let next = push_part(&mut words, next, other, " wins ", score.loses);
     let next = push_part(&mut words, next, "either", " may win ", score.may_win);
-    let next = push_part(&mut words, next, "both", " end alike ", score.alike);
+    let next = push_part(
+        &mut words,
+        next,
+        "both",
+        " always end together ",
+        score.alike,
+    );
     push_part(&mut words, next, "unsafe", " ", score.unsafe_pairs);
     say_all(lines, words);
 }

@@ -1,6 +1,7 @@
 // What a page shows, as JSON.
 
 use crate::groups::Groups;
+use crate::offers::{Offered, all_offered};
 use crate::pages::Page;
 use crate::pairs::{Pairs, Unsafe};
 use crate::parties::{Controllers, Interrupts, Messages, Nevers, Participants};
@@ -23,6 +24,7 @@ struct Data<'a> {
     pairs: Pairs<'a>,
     faults: Unsafe<'a>,
     groups: Groups<'a>,
+    offers: &'a [Offered],
     #[serde(skip_serializing_if = "Option::is_none")]
     capture: Option<Recorded<'a>>,
 }
@@ -38,12 +40,13 @@ struct Verdict {
 /// What was found of a plan, as JSON on one line.
 pub(crate) fn data_of(alloc: Global, page: &Page<'_>) -> Result<String, AllocError> {
     let ways = Ways::new(alloc, page.order)?;
+    let offers = all_offered(alloc, page.checked, page.words, page.mends, page.groups)?;
     let data = Data {
         capture: match page.recording {
             Some(recording) => Some(recording.recorded()),
             None => None,
         },
-        ..all_of(alloc, page, &ways)
+        ..all_of(alloc, page, &ways, offers.as_slice())
     };
     match serde_json::to_string(alloc, &data) {
         Ok(text) => Ok(text),
@@ -52,7 +55,12 @@ pub(crate) fn data_of(alloc: Global, page: &Page<'_>) -> Result<String, AllocErr
     }
 }
 
-fn all_of<'a>(alloc: Global, page: &'a Page<'a>, ways: &'a Ways) -> Data<'a> {
+fn all_of<'a>(
+    alloc: Global,
+    page: &'a Page<'a>,
+    ways: &'a Ways,
+    offers: &'a [Offered],
+) -> Data<'a> {
     let Checked { plan, faults } = page.checked;
     let (words, order, groups) = (page.words, page.order, page.groups);
     Data {
@@ -85,8 +93,10 @@ fn all_of<'a>(alloc: Global, page: &'a Page<'a>, ways: &'a Ways) -> Data<'a> {
         groups: Groups {
             alloc,
             checked: page.checked,
+            words,
             groups,
         },
+        offers,
         capture: None,
     }
 }

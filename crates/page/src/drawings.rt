@@ -320,27 +320,12 @@ function legendOf(run) {
 
 const withInterrupt = pair => [pair.first, pair.second].some(one => one.interrupt !== undefined);
 
-// How many characters a label has at most where a brief names it.
-const LONGEST = 32;
-
-// What makes a pair safe. An interrupt cannot be kept away by a never, and two equal headers are its fault.
-function mendingText(pair) {
-  const parted = 'To mend it: let a bit before that slot be known in both and different, so that one of them loses first';
-  if (withInterrupt(pair)) return parted + '.';
-  const both = [pair.first, pair.second], other = parted + '; or let both do the same from that slot on; or say never ';
-  if (both.every(one => one.place && one.label.length <= LONGEST)) {
-    return other + both.map(one => one.label).join(' ') + ' ;, which leaves this pair unchecked.';
-  }
-  return other + both.map(one => data.controllers[one.controller]).join(' ')
-    + ' ;, which leaves the pairs of the two unchecked.';
-}
-
 function meetingText(pair, run) {
   const slot = run.slots[run.end];
   if (pair.fault) {
     const rule = withInterrupt(pair) ? 'the profile of interrupts' : 'UM10204 3.1.8';
     return 'Slot ' + run.end + ', ' + rule + ': ' + pair.fault.kinds.map(kind => deeds.get(kind)).join(' meets ')
-      + '. Both send alike until here, so neither has lost, and what follows is undefined. ' + mendingText(pair);
+      + '. Both send alike until here, so neither has lost, and what follows is undefined.';
   }
   if (!slot.parts) return 'Where every byte is acknowledged, both send the same to the end, and neither loses.';
   const winner = (run.lost === 0 ? pair.second : pair.first).label;
@@ -362,7 +347,8 @@ function shownPair(pair, id, heading) {
     element(heading, {}, 'pair ' + pair.number + ': ' + namesText(pair) + ' ',
       element('b', { class: pair.way, 'aria-hidden': 'true' }, '\u00a0' + WAYS[pair.way][0] + '\u00a0')),
     element('p', {}, endText(pair) + '. ', pair.fault && heading === 'h3'
-      ? element('a', { href: '#group-' + pair.fault.group }, 'Group ' + pair.fault.group) : null),
+      ? element('a', { href: '#group-' + pair.fault.group },
+        'Group ' + pair.fault.group + (data.groups[pair.fault.group].offer ? ', and what mends it' : '')) : null),
     element('pre', { class: 'rows' }, bytesText(pair, wire)),
     drawn, legendOf(run),
     element('p', {}, meetingText(pair, run)),

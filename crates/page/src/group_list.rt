@@ -25,13 +25,20 @@ function groupText(number) {
 const opened = (summary, content, open) =>
   element('details', open ? { class: 'printed', open: '' } : { class: 'printed' }, element('summary', {}, summary), content);
 
+// What is offered to mend pairs: in words, and the items below them.
+const offerOf = ({ said, items, after }) => element('div', { class: 'offer' },
+  element('p', {}, said),
+  items.length > 0 ? element('pre', {}, items.join('\n')) : null,
+  after ? element('p', {}, after) : null);
+
 function groupOf(number, mark) {
-  const { between, example } = data.groups[number];
+  const { between, example, offer } = data.groups[number];
   const show = element('a', { href: '#matrix' }, 'Mark its cells in the matrix');
   show.addEventListener('click', event => { event.preventDefault(); mark(number); });
   return element('li', { id: 'group-' + number, tabindex: '-1' },
     element('h3', {}, 'Group ' + number + ', ' + groupText(number)),
     element('p', { class: 'mark' }, show),
+    offer ? offerOf(offer) : null,
     between.length > NAMED ? opened('All who meet', element('p', {}, meetsText(between))) : null,
     number < MOST_DRAWN ? opened('As pair ' + example, shownPair(pairs[example], 'example-' + number, 'h4'), number === 0)
       : element('p', {}, element('a', { href: '#pair-' + example }, 'As pair ' + example)));
@@ -44,6 +51,7 @@ function groupsOf(mark) {
   return [element('h2', {}, 'Why it is unsafe'),
     element('p', {}, countText(unsafe_pairs) + ' in ' + (count === 1 ? '1 group' : count + ' groups') + ' of one cause each. ',
       element('a', { href: '#matrix' }, 'All pairs'), ' stand below.'),
+    ...data.offers.map(offerOf),
     element('ol', { class: 'groups', role: 'list', 'aria-label': 'Groups of unsafe pairs' },
       ...data.groups.map((_, number) => groupOf(number, mark)))];
 }

@@ -1,8 +1,10 @@
 // The groups of the unsafe pairs, as the page has them.
 
+use crate::offers::Offered;
 use bus_rows::{Meeting, deed, meeting_of};
 use causes::Group;
-use explain::why_unsafe;
+use explain::{offer_for_group, why_unsafe};
+use plan_words::PlanWords;
 use remedies::Grouped;
 use report::Checked;
 use serde::{Described, Serialize, Serializer};
@@ -13,11 +15,12 @@ use std::alloc::{AllocError, Global};
 pub(crate) struct Groups<'a> {
     pub(crate) alloc: Global,
     pub(crate) checked: &'a Checked,
+    pub(crate) words: PlanWords<'a>,
     pub(crate) groups: &'a Grouped,
 }
 
 // A group: how many pairs it has, the number of the one that stands for it, what the two of that one do where they meet, why
-// that is unsafe, and between whom the group is.
+// that is unsafe, between whom the group is, and what is offered to mend it.
 #[derive(Drop, Serialize)]
 struct Alike<'a> {
     pairs: usize,
@@ -25,6 +28,8 @@ struct Alike<'a> {
     meets: (&'static str, &'static str),
     why: &'static str,
     between: Vec<(&'a str, &'a str)>,
+    #[serde(skip_serializing_if = "Option::is_none")]
+    offer: Option<Offered>,
 }
 
 impl Described for Groups<'_> {}
@@ -67,7 +72,15 @@ impl<'a> Groups<'a> {
             meets: deeds_of(&meeting),
             why: why_unsafe(group.cause.first.kind, group.cause.second.kind),
             between: self.between(g)?,
+            offer: self.offer(g)?,
         }))
+    }
+
+    fn offer(&self, g: usize) -> Result<Option<Offered>, AllocError> {
+        match offer_for_group(self.alloc, self.words, self.groups, g)? {
+            Some(offer) => Ok(Some(Offered::from(offer))),
+            None => Ok(None),
+        }
     }
 
     fn between(&self, g: usize) -> Result<Vec<(&'a str, &'a str)>, AllocError> {

@@ -17,6 +17,7 @@ mod lanes;
 mod levels;
 mod matrix;
 mod nodes;
+mod offers;
 mod pages;
 mod pairs;
 mod parties;

@@ -8,7 +8,7 @@ const WAYS = {
   header: ['H', 'only one can win, in the header'],
   later: ['L', 'only one can win, perhaps later'],
   either: ['E', 'either may win'],
-  alike: ['=', 'they end alike'],
+  alike: ['=', 'both always end together'],
   apart: ['-', 'never together: one controller, or kept apart by never'],
 };
 const WORST = ['unsafe', 'either', 'later', 'header', 'alike', 'apart'];
@@ -46,7 +46,7 @@ const meetText = fault => fault.kinds.map(kind => deeds.get(kind)).join(' meets 
 function endText(pair) {
   if (pair.fault) return 'unsafe, ' + meetText(pair.fault);
   const parts = [];
-  if (pair.both) parts.push('both may end together in ' + slotsText(pair.both));
+  if (pair.both) parts.push((pair.way === 'alike' ? 'both always' : 'both may') + ' end together in ' + slotsText(pair.both));
   [pair.first, pair.second].forEach((one, k) => {
     const wins = pair.way === 'either' ? ' may win in ' : ' wins in ';
     if (pair.wins[k]) parts.push(one.label + wins + slotsText(pair.wins[k]));

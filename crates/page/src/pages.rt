@@ -10,10 +10,11 @@ use crate::recording::Recording;
 use crate::senders::SENDERS;
 use crate::style::STYLE;
 use crate::times::TIMES;
+use growing_text::shown;
 use memchr::{memchr, memchr3};
 use order::Order;
 use plan_words::PlanWords;
-use remedies::Grouped;
+use remedies::{Grouped, Mends};
 use report::Checked;
 use std::alloc::{AllocError, Global};
 
@@ -28,8 +29,10 @@ pub struct Page<'a> {
     pub words: PlanWords<'a>,
     /// Who wins in each pair of that plan.
     pub order: &'a Order,
-    /// The groups of its unsafe pairs.
+    /// The groups of its unsafe pairs, with what mends them.
     pub groups: &'a Grouped,
+    /// What mends all of them, where there are some.
+    pub mends: Option<&'a Mends>,
     /// A recorded bus.
     pub recording: Option<&'a Recording>,
     /// The same as texts.
@@ -49,14 +52,15 @@ pub struct Texts<'a> {
     pub capture: Option<&'a str>,
 }
 
-/// The page in HTML. No text of it is taken for markup.
+/// The page in HTML. No text of it is taken for markup, and what is hidden in its title is escaped.
 ///
 /// # Errors
 ///
 /// Where an allocation fails.
 pub fn page_of(alloc: Global, page: &Page<'_>) -> Result<String, AllocError> {
     let mut html = String::new(alloc);
-    push_head(&mut html, page.title)?;
+    let title = shown(alloc, page.title)?;
+    push_head(&mut html, title.as_str())?;
     push_texts(&mut html, &page.texts)?;
     let data = data_of(alloc, page)?;
     push_data(alloc, &mut html, data.as_str())?;

@@ -13,7 +13,7 @@ use order::{order_of, order_report};
 use page::{Page, Recording, Texts, page_of};
 use plan_core::Plan;
 use plan_words::PlanWords;
-use remedies::grouped_of;
+use remedies::{Mends, grouped_of, mends_of};
 use report::{
     Checked, Input, NoGate, Output, RunError, Status, Watched, check_found, check_report, status_of,
 };
@@ -21,7 +21,7 @@ use run_ends::{Ended, Halt, Recorded, Remark, Sources, halted, open_dump};
 use run_parts::write_lines;
 use signals::{Dump, Recorder};
 use spellings::print_plan;
-use std::alloc::Global;
+use std::alloc::{AllocError, Global};
 use std::str;
 use std::thread::Threads;
 use transaction_lines::{CaptureLines, Layout, Selection};
@@ -62,7 +62,7 @@ pub fn write_page_with<R: AllocGlobal + Threads + Sync, I: Input, J: Input, O: O
     write_page(rt.alloc(), title, &checked, words, Some(capture), out)?;
     Ok(Ended {
         status: worse(status_of(checked.faults.is_safe()), seen),
-        remark: Remark::Recording(Recorded::Other, rises),
+        remark: Remark::recording(rt.alloc(), Recorded::Other, rises),
     })
 }
 
@@ -139,6 +139,9 @@ fn put_lines(
     Ok(())
 }
 
+// How many groups have what mends them, each by itself, and a drawing.
+const GROUPS: usize = 100;
+
 // How the explained report is written.
 const LAYOUT: Layout = Layout {
     explain: true,
@@ -181,7 +184,8 @@ fn write_page<O: Output>(
 ) -> Result<(), RunError>
     requires { AreFaults (plan_contents checked.now.plan) (fault_list checked.now.faults) }
 {
-    let groups = grouped_of(alloc, &checked.plan, words, &checked.faults, 0)?;
+    let groups = grouped_of(alloc, &checked.plan, words, &checked.faults, Some(GROUPS))?;
+    let mends = mends_found(alloc, checked, words)?;
     let order = order_of(alloc, &checked.plan, &checked.faults)?;
     let plan = print_plan(alloc, &checked.plan)?;
     let check = check_report(alloc, checked)?;
@@ -196,6 +200,7 @@ fn write_page<O: Output>(
         words,
         order: &order,
         groups: &groups,
+        mends: mends.as_ref(),
         recording,
         texts: Texts {
             plan: text_of(plan.as_slice()),
@@ -207,6 +212,21 @@ fn write_page<O: Output>(
     let text = page_of(alloc, &page)?;
     write_lines(out, text.as_bytes(), Status::Good)?;
     Ok(())
+}
+
+// What mends the plan, where it is unsafe.
+fn mends_found(
+    alloc: Global,
+    checked: &Checked,
+    words: PlanWords<'_>,
+) -> Result<Option<Mends>, AllocError>
+    requires { AreFaults (plan_contents checked.now.plan) (fault_list checked.now.faults) }
+{
+    if checked.faults.is_safe() {
+        return Ok(None);
+    }
+    let mends = mends_of(alloc, &checked.plan, words, &checked.faults)?;
+    Ok(Some(mends))
 }
 
 fn worse(one: Status, other: Status) -> Status {

@@ -1,7 +1,7 @@
 // Waves that are drawn into a file.
 
 use bench_run::Outcome;
-use hints::on_no_waves;
+use hints::{NoWaves, on_no_waves};
 use report::{Checked, Status};
 use run_ends::{Canvas, Halt, say, write_wave};
 use std::rt::Files;
@@ -18,7 +18,16 @@ pub fn draw_fault<R: Files + Print + Eprint + Clock + AllocGlobal>(
 ) -> Result<(), Halt> {
     match wave_of_check(rt.alloc(), checked, pair)? {
         Some(wave) => write_wave(rt, wave.as_str(), status, canvas),
-        None => Ok(say_nothing_to_draw(rt, canvas)),
+        None => Ok(say_nothing_to_draw(rt, canvas, why_safe(checked, pair))),
+    }
+}
+
+// Why no unsafe pair of this plan was found, or not that with this number.
+fn why_safe(checked: &Checked, pair: Option<u32>) -> NoWaves {
+    match pair {
+        None => NoWaves::Safe,
+        Some(pair) if pair < checked.plan.pair_count() => NoWaves::SafePair(pair),
+        Some(pair) => NoWaves::NoPair(pair),
     }
 }
 
@@ -33,14 +42,14 @@ pub fn draw_outcome<R: Files + Print + Eprint + Clock + AllocGlobal>(
             let wave = wave_of_bench(rt.alloc(), rehearsal)?;
             write_wave(rt, wave.as_str(), Status::Good, canvas)
         }
-        Outcome::NotAccepted(_) => Ok(say_nothing_to_draw(rt, canvas)),
+        Outcome::NotAccepted(_) => Ok(say_nothing_to_draw(rt, canvas, NoWaves::Unplayed)),
     }
 }
 
 // The file is left as it is.
-fn say_nothing_to_draw<R: Eprint + AllocGlobal>(rt: &R, canvas: Canvas<'_, '_>) {
+fn say_nothing_to_draw<R: Eprint + AllocGlobal>(rt: &R, canvas: Canvas<'_, '_>, why: NoWaves) {
     if canvas.extras.hints {
-        let hints = on_no_waves(rt.alloc(), canvas.file);
+        let hints = on_no_waves(rt.alloc(), canvas.file, why);
         say(rt, hints, canvas.extras.voice().uncolored());
     }
 }

@@ -133,7 +133,7 @@ fn said_of(
         Some(label) => Some(String::from_str(alloc, label)?),
         None => None,
     };
-    let hints = if extras.hints {
+    let hints = if extras.says_why() {
         on_starters(alloc, words, play.starters)?
     } else {
         Hints::new(alloc)

@@ -1,8 +1,7 @@
 // Runs that write a text in another form.
 
-use diagnostics::push_file;
 use given_plans::{NoPlan, RefusedText};
-use growing_text::Text;
+use growing_text::{Text, push_shown};
 use hints::on_no_brief;
 use layout::{Unread, formatted};
 use plan_core::Plan;
@@ -170,7 +169,7 @@ fn finish_layout<O: Output>(
 // What is said of a file that would change from this line on.
 fn change_line(alloc: Global, file: &str, from: u64) -> Result<String, AllocError> {
     let mut line = Text::new(alloc);
-    push_file(&mut line, file);
+    push_shown(&mut line, file);
     line.push(":");
     line.push_number(from);
     line.push(": 'twire format --in-place' would change it from here on\n");

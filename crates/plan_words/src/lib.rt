@@ -7,7 +7,7 @@
 
 mod sides;
 
-use growing_text::Text;
+use growing_text::{Text, push_shown};
 use origins::{ControllerOrigin, FamilyOrigin, Origins, Spot};
 use plan_core::{Name, Participant, Plan};
 pub use sides::{Sides, sides_of};
@@ -47,11 +47,9 @@ pub struct FileLine<'a> {
 }
 
 impl FileLine<'_> {
-    /// Adds `FILE:LINE`, as editors take it, with `?` for what would not stay on its line.
+    /// Adds `FILE:LINE`, as editors take it. What is hidden in the name is escaped.
     pub fn push_to(self, text: &mut Text) {
-        for c in self.file.chars() {
-            text.push_char(if c.is_control() { '?' } else { c });
-        }
+        push_shown(text, self.file);
         text.push(":");
         text.push_number(self.line);
     }
@@ -63,20 +61,29 @@ pub struct PlanWords<'a> {
     plan: &'a Plan,
     origins: Option<&'a Origins>,
     files: BriefFiles<'a>,
+    is_first_version: bool,
 }
 
 impl<'a> PlanWords<'a> {
-    /// A plan, and where its parts stand in the briefs of these files, if briefs mean it.
+    /// A plan, and where its parts stand in the briefs of these files, if briefs mean it; and whether it is given as a plan text of
+    /// the first version.
     pub fn new(
         plan: &'a Plan,
         origins: Option<&'a Origins>,
         files: BriefFiles<'a>,
+        is_first_version: bool,
     ) -> PlanWords<'a> {
         PlanWords {
             plan,
             origins,
             files,
+            is_first_version,
         }
+    }
+
+    /// Whether the plan is given as a plan text of the first version, in which no `never` stands.
+    pub fn is_first_version(self) -> bool {
+        self.is_first_version
     }
 
     /// The plan itself.
@@ -143,9 +150,7 @@ impl<'a> PlanWords<'a> {
         if self.plan.messages() <= message {
             return None;
         }
-        let name = self.plan.message_name(message);
-        let families = self.origins?.families.as_slice();
-        families.iter().position(|family| makes(family, name))
+        family_of(self.origins?, self.plan.message_name(message))
     }
 
     /// The label of a family in a `never`, as this controller of the plan has it: `bmc/page`. Nothing of it for a number that is
@@ -188,10 +193,38 @@ impl<'a> PlanWords<'a> {
 
     /// Whether this controller of the plan is what a label stands for.
     pub fn is_part(self, controller: u32) -> bool {
-        match self.origin(controller) {
-            Some(origin) => origin.label.is_some(),
+        self.label_of(controller).is_some()
+    }
+
+    /// Whether what stands for the first of these controllers in a `never` means the second one too: a controller means all its
+    /// parts, and the label of a family its part and those of its messages.
+    pub fn means(self, named: u32, c: u32) -> bool {
+        named == c || self.is_one(named, c) && self.means_part(named, c)
+    }
+
+    // The same of two parts of one controller.
+    fn means_part(self, named: u32, c: u32) -> bool {
+        match (self.label_of(named), self.label_of(c)) {
+            (None, _) => true,
+            (Some(_), None) => false,
+            (Some(label), Some(other)) => self.is_made(label, other),
+        }
+    }
+
+    // Whether the family of this name makes this message.
+    fn is_made(self, family: &Name, message: &Name) -> bool {
+        match self.origins {
+            Some(origins) => origins
+                .families
+                .iter()
+                .any(|it| it.name == *family && makes(it, message)),
             None => false,
         }
+    }
+
+    // The label of which a controller of the plan is the part.
+    fn label_of(self, controller: u32) -> Option<&'a Name> {
+        self.origin(controller)?.label.as_ref()
     }
 
     /// Whether these two controllers of the plan are parts of one controller.
@@ -267,6 +300,14 @@ impl<'a> PlanWords<'a> {
             line: spot.line,
         })
     }
+}
+
+/// The number of the family that makes the message of this name in the plan.
+pub fn family_of(origins: &Origins, message: &Name) -> Option<usize> {
+    origins
+        .families
+        .iter()
+        .position(|family| makes(family, message))
 }
 
 fn makes(family: &FamilyOrigin, message: &Name) -> bool {

@@ -22,8 +22,8 @@ use Rattle.plan_core.specs.Participants.{participants_of, participant_count, sen
 use Rattle.plan_core.proofs.ContentsLemmas.{participant_count-is, length-sendings_from}
 use Rattle.plan_core.proofs.PairLaws.{apart-either, AllPairs-map}
 use Rattle.plays.specs.Games.{IsGame, those}
-use Rattle.plays.specs.declared.starters.OpenError.{OpenError}
-use Rattle.plays.specs.declared.starters.OpenError.TheVariants.{Unknown, SameController, Never}
+use Rattle.run_errors.specs.declared.benches.OpenError.{OpenError}
+use Rattle.run_errors.specs.declared.benches.OpenError.TheVariants.{Unknown, SameController, Never}
 use Rattle.plays.specs.Starters.{shares_controller, refusal_behind, first_refusal, starters_refusal}
 
 -- ---- one starter after others

@@ -4,8 +4,8 @@ use Rattle.std.specs.List.{list_any}
 use Rattle.std.specs.Option.{option_or}
 use Rattle.plan_core.specs.Contents.{Contents}
 use Rattle.plan_core.specs.Participants.{participant_count, same_controller, forbidden}
-use Rattle.plays.specs.declared.starters.OpenError.{OpenError}
-use Rattle.plays.specs.declared.starters.OpenError.TheVariants.{NoStarter, Unknown, SameController, Never}
+use Rattle.run_errors.specs.declared.benches.OpenError.{OpenError}
+use Rattle.run_errors.specs.declared.benches.OpenError.TheVariants.{NoStarter, Unknown, SameController, Never}
 
 -- the same participant, or both are sendings of one controller
 abbrev pub shares_controller : Contents → ℕ → ℕ → Bool

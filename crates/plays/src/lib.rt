@@ -10,5 +10,6 @@ pub mod starters;
 pub mod tally;
 
 pub use puts::Put;
-pub use starters::{OpenError, check_starters};
+pub use run_errors::OpenError;
+pub use starters::check_starters;
 pub use tally::Tally;

@@ -6,12 +6,20 @@ use Rattle.capture_check.specs.Transactions.{Recorded}
 use Rattle.capture_check.specs.Views.{place_of}
 use Rattle.pulses.specs.declared.filtering.Filter.{Filter}
 use Rattle.pulses.specs.declared.following.QuietFollower.{QuietFollower}
-use Rattle.pulses.specs.Filtering.{behind}
+use Rattle.pulses.specs.Filtering.{behind, least_of}
 use Rattle.pulses.specs.Pulses.{quiet}
 
 -- the transactions of a capture without the runs that last less than this time
 abbrev pub quiet_transactions : ℕ → List Sample → List Recorded
 quiet_transactions least samples = transactions_in (quiet least samples)
+
+-- how long a level has to last
+abbrev pub least_among : Option Filter → ℕ
+least_among None = 0
+least_among (Some filter) = least_of filter
+
+abbrev pub least_in : QuietFollower → ℕ
+least_in f = least_among f.filter
 
 -- the samples that are handed on where these come, and then the end
 abbrev pub handed_on : Option Filter → List Sample → List Sample

@@ -31,13 +31,14 @@ impl Filter {
     ghost use Rattle.std.specs.Prelude.{◌≡◌, ◌≢◌, List, [], ◌∷◌, ◌++◌, OnOk, true};
     ghost use Rattle.vcd_read.specs.declared.samples.Sample.{Sample};
     ghost use Rattle.pulses.specs.Pulses.{quiet, quiet_behind_first};
-    ghost use Rattle.pulses.specs.Filtering.{behind, to_come};
+    ghost use Rattle.pulses.specs.Filtering.{behind, least_of, to_come, IsAtFirst};
     ghost use Rattle.pulses.specs.Wires.{GoesOn};
     ghost use Rattle.pulses.specs.declared.wires.First.TheVariants.{Scl, Sda, Both};
 
     /// A filter of the levels that last less than this time, in the unit of the capture. No level lasts less than 0.
     pub fn new(least: u64) -> Filter
-        ensures { (samples : List Sample) → behind result samples ≡ quiet least samples }
+        ensures behind { IsAtFirst least result }
+        ensures least { least_of result ≡ least }
     {
         Filter {
             least,
@@ -58,8 +59,9 @@ impl Filter {
     /// Takes the next samples, and puts those that are now known after the ones in `quiet`. Where an allocation fails,
     /// what was filtered so far is lost.
     pub fn feed(&mut self, samples: &[Sample], quiet: &mut Vec<Sample>) -> Result<(), AllocError>
-        ensures { OnOk result ((more : List Sample) →
+        ensures handed { OnOk result ((more : List Sample) →
             quiet.new.items ++ behind self.new more ≡ quiet.old.items ++ behind self.old (samples.now ++ more)) }
+        ensures least { OnOk result (least_of self.new ≡ least_of self.old) }
     {
         for sample in samples {
             self.next(sample, quiet)?;
@@ -67,25 +69,32 @@ impl Filter {
         Ok(())
     }
 
-    /// The end of the capture: the samples that are left are put after the ones in `quiet`.
+    /// The end of the capture: the samples that are left are put after the ones in `quiet`. Then there has been no sample,
+    /// as at first; what was counted is kept.
     pub fn end(&mut self, quiet: &mut Vec<Sample>) -> Result<(), AllocError>
-        ensures { OnOk result (quiet.new.items ≡ quiet.old.items ++ behind self.old []) }
+        ensures handed { OnOk result (quiet.new.items ≡ quiet.old.items ++ behind self.old []) }
+        ensures left { OnOk result (IsAtFirst (least_of self.old) self.new) }
+        ensures least { OnOk result (least_of self.new ≡ least_of self.old) }
     {
         if self.begun {
             self.scl.missing = 0;
             self.sda.missing = 0;
             self.hand_out(quiet)?;
+            self.begun = false;
         }
         Ok(())
     }
 
-    /// Takes the last samples, and puts all that are left after the ones in `quiet`.
+    /// Takes the last samples, and puts all that are left after the ones in `quiet`. Then there has been no sample, as at
+    /// first; what was counted is kept.
     pub fn feed_to_end(
         &mut self,
         samples: &[Sample],
         quiet: &mut Vec<Sample>,
     ) -> Result<(), AllocError>
-        ensures { OnOk result (quiet.new.items ≡ quiet.old.items ++ behind self.old samples.now) }
+        ensures handed { OnOk result (quiet.new.items ≡ quiet.old.items ++ behind self.old samples.now) }
+        ensures left { OnOk result (IsAtFirst (least_of self.old) self.new) }
+        ensures least { OnOk result (least_of self.new ≡ least_of self.old) }
     {
         self.feed(samples, quiet)?;
         self.end(quiet)?;
@@ -95,8 +104,9 @@ impl Filter {
     // The next sample.
     #[inline(always)]
     fn next(&mut self, sample: &Sample, quiet: &mut Vec<Sample>) -> Result<(), AllocError>
-        ensures { OnOk result ((more : List Sample) →
+        ensures handed { OnOk result ((more : List Sample) →
             quiet.new.items ++ behind self.new more ≡ quiet.old.items ++ behind self.old (sample.now ∷ more)) }
+        ensures least { OnOk result (least_of self.new ≡ least_of self.old) }
     {
         if self.begun {
             self.pass(sample.time);

@@ -16,15 +16,16 @@ pub struct QuietFollower {
 }
 
 impl QuietFollower {
-    ghost use Rattle.std.specs.Prelude.{◌≡◌, ◌++◌, List, IfOk, map};
+    ghost use Rattle.std.specs.Prelude.{◌≡◌, ◌++◌, List, IfOk, OnOk, map};
     ghost use Rattle.vcd_read.specs.declared.samples.Sample.{Sample};
     ghost use Rattle.capture_check.specs.Views.{recorded};
-    ghost use Rattle.pulses.specs.Following.{quiet_behind, quiet_transactions};
+    ghost use Rattle.pulses.specs.Following.{least_in, quiet_behind, quiet_transactions};
 
     /// Nothing is known of the bus. Levels that last less than this time are left out, in the unit of the capture; no level
     /// lasts less than 0.
     pub fn new(alloc: Global, least: u64) -> QuietFollower
-        ensures { (samples : List Sample) → quiet_behind result samples ≡ quiet_transactions least samples }
+        ensures behind { (samples : List Sample) → quiet_behind result samples ≡ quiet_transactions least samples }
+        ensures least { least_in result ≡ least }
     {
         let filter = if least == 0 {
             None
@@ -45,8 +46,9 @@ impl QuietFollower {
         alloc: Global,
         samples: &[Sample],
     ) -> Result<Vec<Transaction>, AllocError>
-        ensures { IfOk result (λ found. (more : List Sample) →
+        ensures found { IfOk result (λ found. (more : List Sample) →
             map recorded found.items ++ quiet_behind self.new more ≡ quiet_behind self.old (samples.now ++ more)) }
+        ensures least { OnOk result (least_in self.new ≡ least_in self.old) }
     {
         match &mut self.filter {
             None => self.follower.follow(alloc, samples),
@@ -59,12 +61,15 @@ impl QuietFollower {
     }
 
     /// The transactions that are left, with these last samples, and the one that goes on at the end of the capture, if any.
+    /// Then nothing is known of the bus, as at first; what was counted is kept.
     pub fn follow_to_end(
         &mut self,
         alloc: Global,
         samples: &[Sample],
     ) -> Result<Vec<Transaction>, AllocError>
-        ensures { IfOk result (λ found. map recorded found.items ≡ quiet_behind self.old samples.now) }
+        ensures found { IfOk result (λ found. map recorded found.items ≡ quiet_behind self.old samples.now) }
+        ensures left { OnOk result ((more : List Sample) →
+            quiet_behind self.new more ≡ quiet_transactions (least_in self.old) more) }
     {
         match &mut self.filter {
             None => self.follower.follow_to_end(alloc, samples),

@@ -64,7 +64,12 @@ struct Refusal<'a> {
     earlier: Option<EarlierAt<'a>>,
 }
 
-/// The object of a refusal: its code, its line where it has one, and what else is known of it.
+/// What a refusal is called: `P1` to `B8`, or the words of its line.
+pub fn code_of(error: RunError) -> &'static str {
+    refusal_of(error).code
+}
+
+/// The object of a refusal: its code, its line where it has one, what else is known of it, and its reason in words.
 ///
 /// # Errors
 ///
@@ -73,10 +78,12 @@ pub fn refusal_object(
     alloc: Global,
     error: RunError,
     detail: Detail<'_>,
+    reason: &str,
 ) -> Result<String, AllocError> {
     let refusal = refusal_of(error);
     object_of(
         alloc,
+        reason,
         match detail {
             Detail::Nothing => refusal,
             Detail::Text(detail) => with_place(refusal, detail),
@@ -107,7 +114,10 @@ fn with_place<'a>(refusal: Refusal<'a>, detail: TextDetail<'a>) -> Refusal<'a> {
         earlier,
         byte: Some(place.start as u64),
         column: Some(place.column as u64),
-        expected: place.expected.map(text_word),
+        expected: match semicolon {
+            Some(_) => Some("semicolon"),
+            None => place.expected.map(text_word),
+        },
         ..refusal
     }
 }
@@ -178,8 +188,8 @@ fn opened_word(opened: Opened) -> &'static str {
 /// # Errors
 ///
 /// Where an allocation fails.
-pub fn timescale_object(alloc: Global) -> Result<String, AllocError> {
-    object_of(alloc, coded("timescale"))
+pub fn timescale_object(alloc: Global, reason: &str) -> Result<String, AllocError> {
+    object_of(alloc, reason, coded("timescale"))
 }
 
 /// The object of the refusal of a line that was to be what this controller pulls.
@@ -187,15 +197,15 @@ pub fn timescale_object(alloc: Global) -> Result<String, AllocError> {
 /// # Errors
 ///
 /// Where an allocation fails.
-pub fn drive_object(alloc: Global, controller: &str) -> Result<String, AllocError> {
+pub fn drive_object(alloc: Global, controller: &str, reason: &str) -> Result<String, AllocError> {
     let refusal = Refusal {
         controller: Some(controller),
         ..coded("drives")
     };
-    object_of(alloc, refusal)
+    object_of(alloc, reason, refusal)
 }
 
-fn object_of(alloc: Global, refusal: Refusal<'_>) -> Result<String, AllocError> {
+fn object_of(alloc: Global, reason: &str, refusal: Refusal<'_>) -> Result<String, AllocError> {
     let mut lines = ObjectLines::new(alloc);
     lines.begin("refusal");
     lines.word("code", refusal.code);
@@ -215,6 +225,9 @@ fn object_of(alloc: Global, refusal: Refusal<'_>) -> Result<String, AllocError> 
         lines.field_if("file", &earlier.file);
         lines.number("line", earlier.line);
         lines.close();
+    }
+    if !reason.is_empty() {
+        lines.field("reason", &reason);
     }
     lines.end();
     lines.finish()

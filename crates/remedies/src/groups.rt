@@ -1,13 +1,14 @@
 // The unsafe pairs of a plan, in groups of one cause each, and between whom each group is.
 
+ghost use Rattle.std.specs.Prelude.{◌≡◌, length};
 ghost use Rattle.plan_core.specs.PlanContents.{plan_contents};
 ghost use Rattle.verdicts.specs.Faults.{AreFaults, fault_list};
 
 use crate::families::{called_of, families_of, party_of};
-use crate::mends::{GroupMends, both_of, mends_of_groups};
-use crate::partings::has_claim;
+use crate::mends::{Common, GroupMends, GroupsMends, both_of, mends_of_groups};
+use crate::ranks::Ranked;
 use bus_rows::{Labels, called_by};
-use causes::{Family, Group, Groups, groups_of};
+use causes::{Family, Group, groups_of};
 use plan_core::Plan;
 use plan_words::PlanWords;
 use std::alloc::{AllocError, Global};
@@ -89,9 +90,9 @@ pub struct Alike<'a> {
     pub example: usize,
 }
 
-/// The unsafe pairs of a plan, in groups of one cause each: the shortest wire first.
+/// The unsafe pairs of a plan, in groups of one cause each: the one with the most pairs first.
 pub struct Grouped {
-    groups: Groups,
+    groups: Ranked,
     labels: Labels,
     /// What the family of each message is called.
     families: Vec<String>,
@@ -101,8 +102,8 @@ pub struct Grouped {
     meets: Vec<Meet>,
     /// Where those of each group begin.
     starts: Vec<usize>,
-    /// What mends the first groups.
-    mends: Vec<GroupMends>,
+    /// What mends them.
+    mends: GroupsMends,
 }
 
 // Written out, so that one call lets it go.
@@ -128,20 +129,12 @@ impl Grouped {
 
     /// The group with this number.
     pub fn group(&self, g: usize) -> Option<Group> {
-        if g < self.groups.len() {
-            Some(self.groups.get(g))
-        } else {
-            None
-        }
+        self.groups.get(g)
     }
 
     /// The number of the group in which the `k`th unsafe pair stands.
     pub fn number_of(&self, k: usize) -> Option<usize> {
-        if k < self.groups.pairs() {
-            Some(self.groups.group_of(k))
-        } else {
-            None
-        }
+        self.groups.numbers().get(k).copied()
     }
 
     /// How often two meet in this group who are called otherwise.
@@ -175,18 +168,12 @@ impl Grouped {
 
     /// What mends the group with this number, if that was looked for.
     pub fn mends(&self, g: usize) -> Option<&GroupMends> {
-        self.mends.get(g)
+        self.mends.each.get(g)
     }
 
-    /// Whether it was tried of all groups without an interrupt that the same shape from the slot of its fault on mends each pair.
-    /// Then each known bit before that slot does too, since all faults of a pair lie behind it.
-    pub fn have_shapes(&self) -> bool {
-        for g in 0..self.groups.len() {
-            if !has_claim(self.groups.get(g)) && !is_shape(self.mends.get(g)) {
-                return false;
-            }
-        }
-        true
+    /// What mends each pair without an interrupt, if that was looked for.
+    pub fn common(&self) -> Option<Common> {
+        self.mends.common
     }
 
     /// What the family of a message is called, which is the name of the message where it is alone in it.
@@ -224,16 +211,6 @@ fn text_at(texts: &[String], k: u32) -> &str {
     }
 }
 
-fn is_shape(mends: Option<&GroupMends>) -> bool {
-    match mends {
-        Some(mends) => match &mends.parting {
-            Some(parting) => parting.shape,
-            None => false,
-        },
-        None => false,
-    }
-}
-
 fn at(starts: &[usize], g: usize, end: usize) -> usize {
     match starts.get(g) {
         Some(start) => *start,
@@ -241,8 +218,8 @@ fn at(starts: &[usize], g: usize, end: usize) -> usize {
     }
 }
 
-/// The groups of the unsafe pairs of the plan, which has these faults, in these words of it, and what mends the first so many: none
-/// of a safe one.
+/// The groups of the unsafe pairs of the plan, which has these faults, in these words of it, and what mends them, if that is wanted:
+/// of the first so many by itself. There are none of a safe plan.
 ///
 /// # Errors
 ///
@@ -252,17 +229,20 @@ pub fn grouped_of(
     plan: &Plan,
     words: PlanWords<'_>,
     faults: &Faults,
-    most: usize,
+    most: Option<usize>,
 ) -> Result<Grouped, AllocError>
     requires { AreFaults (plan_contents plan.now) (fault_list faults.now) }
 {
     let families = families_of(alloc, plan, words)?;
-    let groups = groups_of(alloc, plan, families.as_slice(), faults)?;
+    let groups = ranked_of(alloc, plan, families.as_slice(), faults)?;
     let labels = called_by(alloc, words)?;
     let parties = parties_of(alloc, words, families.as_slice())?;
     let meets = meets_of(alloc, plan, faults, &groups, parties.as_slice())?;
     let starts = starts_of(alloc, meets.as_slice())?;
-    let mends = mends_of_groups(alloc, words, faults, &groups, most)?;
+    let mends = match most {
+        Some(most) => mends_of_groups(alloc, words, faults, &groups, most)?,
+        None => GroupsMends::none(alloc),
+    };
     let families = all_called(alloc, plan, families.as_slice())?;
     Ok(Grouped {
         groups,
@@ -273,6 +253,19 @@ pub fn grouped_of(
         starts,
         mends,
     })
+}
+
+fn ranked_of(
+    alloc: Global,
+    plan: &Plan,
+    families: &[Family],
+    faults: &Faults,
+) -> Result<Ranked, AllocError>
+    requires families { length families.now ≡ length (plan_contents plan.now).messages }
+    requires faults { AreFaults (plan_contents plan.now) (fault_list faults.now) }
+{
+    let groups = groups_of(alloc, plan, families, faults)?;
+    Ranked::of(alloc, &groups)
 }
 
 fn all_called(alloc: Global, plan: &Plan, families: &[Family]) -> Result<Vec<String>, AllocError> {
@@ -321,16 +314,16 @@ fn meets_of(
     alloc: Global,
     plan: &Plan,
     faults: &Faults,
-    groups: &Groups,
+    groups: &Ranked,
     parties: &[String],
 ) -> Result<Vec<Meet>, AllocError> {
     let firsts = firsts_of(alloc, parties)?;
     let mut all = Vec::with_capacity(alloc, faults.len())?;
-    for k in 0..faults.len() {
-        let (pair, _) = faults.get(k);
-        if k < groups.pairs() {
+    for (k, g) in groups.numbers().iter().enumerate() {
+        if k < faults.len() {
+            let (pair, _) = faults.get(k);
             let both = both_of(plan, pair);
-            let key = key_of(groups.group_of(k), both, firsts.as_slice());
+            let key = key_of(*g, both, firsts.as_slice());
             all.push((key, (both, k)))?;
         }
     }

@@ -1,6 +1,7 @@
 // The `never` items of a brief that keep unsafe pairs apart: by labels of families, and of single messages.
 
 use crate::mends::{Never, both_of, controller_of, has_interrupt, is_never, is_whole, sendings};
+use plan_core::Plan;
 use plan_core::limits::MOST_CONTROLLERS;
 use plan_words::PlanWords;
 use std::alloc::{AllocError, Global};
@@ -19,6 +20,19 @@ const LABEL: usize = 32;
 pub struct Kept {
     pub nevers: Vec<Never>,
     pub unchecked: u64,
+}
+
+impl Kept {
+    /// The same, or no item where these leave nothing of the plan to check.
+    pub fn unless_all(self, alloc: Global, plan: &Plan) -> Kept {
+        if self.unchecked < u64::from(plan.pair_count()) {
+            return self;
+        }
+        Kept {
+            nevers: Vec::new(alloc),
+            unchecked: 0,
+        }
+    }
 }
 
 /// Items that keep apart these unsafe pairs of the plan, as far as they are of two controllers, where briefs have words for them and

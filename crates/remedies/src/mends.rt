@@ -4,8 +4,9 @@ ghost use Rattle.plan_core.specs.PlanContents.{plan_contents};
 ghost use Rattle.verdicts.specs.Faults.{AreFaults, fault_list};
 
 use crate::keeping::{self, Kept, kept_by};
-use crate::partings::{Parting, Trial};
-use causes::{Group, Groups};
+use crate::partings::{Parting, Trial, has_claim};
+use crate::ranks::Ranked;
+use causes::Group;
 use mending::nevers_that_mend;
 use plan_core::{Participant, Plan};
 use plan_words::PlanWords;
@@ -35,6 +36,55 @@ pub struct GroupMends {
     pub is_shared: bool,
     /// What keeps them apart, as far as they have no interrupt.
     pub kept: Kept,
+}
+
+/// What the messages of each pair without an interrupt do to mend it.
+#[derive(Clone, Copy)]
+pub struct Common {
+    /// Whether there is a bit before the slot of its fault that both may send either way, and that parts it.
+    pub has_bit: bool,
+    /// Whether one message is sent on both sides of a group.
+    pub is_shared: bool,
+    /// Whether the same shape from that slot on mends it.
+    pub has_shape: bool,
+    /// Whether all groups were tried. Else the plan has too many slots to try it.
+    pub is_tried: bool,
+}
+
+impl Common {
+    // With what mends a further group.
+    fn with(self, group: Group, parting: Option<&Parting>, is_shared: bool) -> Common {
+        if has_claim(group) {
+            return self;
+        }
+        let (has_bit, has_shape) = match parting {
+            Some(parting) => (!parting.slots.is_empty(), parting.shape),
+            None => (false, false),
+        };
+        Common {
+            has_bit: self.has_bit && has_bit,
+            is_shared: self.is_shared || is_shared,
+            has_shape: self.has_shape && has_shape,
+            is_tried: self.is_tried && parting.is_some(),
+        }
+    }
+}
+
+/// What mends the groups of a plan's unsafe pairs, if that was looked for: all together, and the first of them each by itself.
+#[derive(Drop)]
+pub struct GroupsMends {
+    pub common: Option<Common>,
+    pub each: Vec<GroupMends>,
+}
+
+impl GroupsMends {
+    /// It was not looked for.
+    pub fn none(alloc: Global) -> GroupsMends {
+        GroupsMends {
+            common: None,
+            each: Vec::new(alloc),
+        }
+    }
 }
 
 /// A `never` item: what it keeps apart, as it is written. Of a plan text these are controllers, and of a brief a controller may
@@ -69,7 +119,7 @@ pub fn mends_of(
     Ok(Mends {
         pairs: faults.len(),
         interrupted,
-        kept,
+        kept: kept.unless_all(alloc, plan),
         kept_apart: kept_apart(words),
     })
 }
@@ -85,43 +135,57 @@ fn all_of(alloc: Global, faults: &Faults) -> Result<Vec<u32>, AllocError> {
 
 // ---- groups
 
-/// What mends the first so many of these groups of the plan's unsafe pairs, in these words of it.
+/// What mends these groups of the plan's unsafe pairs, in these words of it: of the first so many by itself.
 pub fn mends_of_groups(
     alloc: Global,
     words: PlanWords<'_>,
     faults: &Faults,
-    groups: &Groups,
+    groups: &Ranked,
     most: usize,
-) -> Result<Vec<GroupMends>, AllocError> {
-    let mut mends = Vec::new(alloc);
-    if most == 0 {
-        return Ok(mends);
-    }
+) -> Result<GroupsMends, AllocError> {
     let sides = keeping::groups_of(alloc, words)?;
     let all = by_groups(alloc, groups)?;
     let mut trial = Trial::new(alloc, words.plan())?;
     let mut rest = all.as_slice();
+    let mut common = ALL;
+    let mut each = Vec::new(alloc);
     for g in 0..groups.len() {
-        if g < most {
-            let group = groups.get(g);
+        if let Some(group) = groups.get(g) {
             let members = rest.get(..group.pairs).unwrap_or(rest);
             rest = rest.get(group.pairs..).unwrap_or(rest);
             let pairs = pairs_at(alloc, faults, members)?;
-            mends.push(GroupMends {
-                parting: trial.parting(alloc, faults, group, members)?,
-                is_shared: is_shared(alloc, words, group, pairs.as_slice())?,
-                kept: kept_in(alloc, words, &sides, pairs.as_slice())?,
-            })?;
+            let parting = trial.parting(alloc, faults, group, members)?;
+            let is_shared = is_shared(alloc, words, group, pairs.as_slice())?;
+            common = common.with(group, parting.as_ref(), is_shared);
+            if g < most {
+                let kept = kept_in(alloc, words, &sides, pairs.as_slice())?;
+                each.push(GroupMends {
+                    parting,
+                    is_shared,
+                    kept,
+                })?;
+            }
         }
     }
-    Ok(mends)
+    Ok(GroupsMends {
+        common: Some(common),
+        each,
+    })
 }
 
+// What mends each pair of no group.
+const ALL: Common = Common {
+    has_bit: true,
+    is_shared: false,
+    has_shape: true,
+    is_tried: true,
+};
+
 // Each unsafe pair by its group and its place among all, group by group.
-fn by_groups(alloc: Global, groups: &Groups) -> Result<Vec<(usize, usize)>, AllocError> {
-    let mut all = Vec::with_capacity(alloc, groups.pairs())?;
-    for k in 0..groups.pairs() {
-        all.push((groups.group_of(k), k))?;
+fn by_groups(alloc: Global, groups: &Ranked) -> Result<Vec<(usize, usize)>, AllocError> {
+    let mut all = Vec::with_capacity(alloc, groups.numbers().len())?;
+    for (k, g) in groups.numbers().iter().enumerate() {
+        all.push((*g, k))?;
     }
     all.sort()?;
     Ok(all)
@@ -183,11 +247,14 @@ fn kept_in(
     sides: &keeping::Groups,
     pairs: &[u32],
 ) -> Result<Kept, AllocError> {
-    if let Some(kept) = kept_by(alloc, words, sides, pairs)? {
-        return Ok(kept);
-    }
-    let between = between_of(alloc, words.plan(), pairs)?;
-    by_controllers(alloc, words, between.as_slice())
+    let kept = match kept_by(alloc, words, sides, pairs)? {
+        Some(kept) => kept,
+        None => {
+            let between = between_of(alloc, words.plan(), pairs)?;
+            by_controllers(alloc, words, between.as_slice())?
+        }
+    };
+    Ok(kept.unless_all(alloc, words.plan()))
 }
 
 // Each two controllers that have one of these pairs.
@@ -265,12 +332,7 @@ fn left_out_by(words: PlanWords<'_>, between: &[(u32, u32)]) -> u64 {
 
 fn names_both(words: PlanWords<'_>, never: (u32, u32), c: u32, d: u32) -> bool {
     let (one, other) = never;
-    names(words, one, c) && names(words, other, d) || names(words, one, d) && names(words, other, c)
-}
-
-// Whether what stands for the first means the second too: a controller means all its parts.
-fn names(words: PlanWords<'_>, named: u32, c: u32) -> bool {
-    named == c || !words.is_part(named) && words.is_one(named, c)
+    words.means(one, c) && words.means(other, d) || words.means(one, d) && words.means(other, c)
 }
 
 // The unsafe pairs with an interrupt.

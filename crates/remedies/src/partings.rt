@@ -83,7 +83,7 @@ impl<'a> Trial<'a> {
             shape: !has_claim(group),
         };
         for (_, k) in members {
-            if *k < faults.len() {
+            if *k < faults.len() && 0 < self.left {
                 let (pair, fault) = faults.get(*k);
                 self.follow_pair(pair, fault.wire.as_slice(), &mut tried)?;
             }

@@ -18,7 +18,7 @@ pub enum Reasons {
 }
 
 /// What explains the verdict on a plan that was checked, in these words of it. Of a safe one the proof of each two senders is looked at
-/// once more, and of an unsafe one it is tried what mends the first so many groups.
+/// once more, and of an unsafe one it is tried what mends its groups, of the first so many by itself.
 ///
 /// # Errors
 ///
@@ -36,7 +36,7 @@ pub fn reasons_of(
         Ok(Reasons::Safe(safety_of(alloc, words)?))
     } else {
         let mends = mends_of(alloc, plan, words, faults)?;
-        let groups = grouped_of(alloc, plan, words, faults, groups as usize)?;
+        let groups = grouped_of(alloc, plan, words, faults, Some(groups as usize))?;
         Ok(Reasons::Unsafe(mends, groups))
     }
 }
@@ -54,6 +54,6 @@ pub fn count_groups(
     requires { AreFaults (plan_contents checked.now.plan) (fault_list checked.now.faults) }
 {
     let Checked { plan, faults } = checked;
-    let groups = grouped_of(alloc, plan, words, faults, 0)?;
+    let groups = grouped_of(alloc, plan, words, faults, None)?;
     Ok(groups.len())
 }

@@ -19,7 +19,7 @@ pub struct Safety {
 }
 
 /// How many pairs are decided where, while targets acknowledge: in the first byte, later, at the end of a read, or never,
-/// since both send alike to the end.
+/// since both may end together.
 #[derive(Clone, Copy)]
 pub struct Decided {
     pub header: u64,

@@ -3,7 +3,10 @@
 use crate::endings::{Recorded, Remark};
 use crate::extras::Extras;
 use crate::inputs::{Inputs, NamedSources};
-use crate::voices::{Voice, refused_drive, refused_timescale, say};
+use crate::messages::refused_at;
+use crate::styles::Format;
+use crate::voices::{Voice, refused, refused_drive, refused_timescale, say, say_these};
+use diagnostics::reason_of;
 use dump_hints::{
     Names, on_bytes, on_choice, on_dump, on_recording, on_rises, on_signals, on_silence,
     on_unexplained,
@@ -15,6 +18,7 @@ use hints::{
     on_reading, on_text, on_workers, on_writing,
 };
 use plan_text::PlanError;
+use refusal_objects::Detail;
 use report::{Probe, RunError, Status};
 use std::alloc::{AllocError, Global};
 use std::io::{self, Read, Seek};
@@ -85,12 +89,11 @@ pub fn no_lines() -> BusLines<'static> {
     }
 }
 
-/// How a run has ended, and what is to be said of what it has found. `named` are the files that it was over, or those
+/// What is to be said of what a run has found. `named` are the files that it was over, or those
 /// that were to give its plan. `output` is the file that was to be written in place of standard output, and `error` why
 /// it was not. Hints are written by this voice.
 #[derive(Drop)]
 pub struct Closing<'a> {
-    pub ended: Result<Status, RunError>,
     pub remark: Remark,
     pub named: NamedSources<'a>,
     pub output: Option<&'a str>,
@@ -114,42 +117,188 @@ pub fn advise_on_closed_input<R: Eprint + AllocGlobal>(rt: &R, file: Named<'_>, 
     say(rt, on_closed_input(rt.alloc(), file), voice.uncolored());
 }
 
-/// After a run.
+/// After a run that has ended with this status.
 pub fn advise<R: Eprint + AllocGlobal, F: Read + Seek + Drop>(
     rt: &R,
+    status: Status,
     read: Inputs<'_, F>,
     closing: Closing<'_>,
 ) {
-    let about = closing.about;
-    let command = made(rt.alloc(), command_of(rt.alloc(), about));
-    let vcd = made(rt.alloc(), file_word(rt.alloc(), about.names.vcd));
+    let alloc = rt.alloc();
+    let command = made(alloc, command_of(alloc, closing.about));
+    let vcd = made(alloc, file_word(alloc, closing.about.names.vcd));
     let names = Names {
         command: command.as_str(),
         vcd: vcd.as_str(),
-        ..about.names
+        ..closing.about.names
     };
-    let voice = closing.voice;
-    match closing.ended {
-        Ok(status) => {
-            if let Remark::Recording(_, rises) = &closing.remark {
-                say(rt, on_rises(rt.alloc(), names, *rises), voice);
+    advise_on_report(rt, read, names, status, closing);
+}
+
+/// After a run that was refused: the line of the refusal, with its reason in words where that is no line, and hints where they are
+/// wanted. Its status.
+pub fn refuse<R: Eprint + AllocGlobal, F: Read + Seek + Drop>(
+    rt: &R,
+    error: RunError,
+    read: Inputs<'_, F>,
+    closing: Closing<'_>,
+    extras: Extras,
+) -> u8 {
+    let last = Last {
+        file: read.last.path,
+        path: read.path,
+    };
+    if !extras.says_why() {
+        return tell(rt, error, last, &closing, "", extras);
+    }
+    let alloc = rt.alloc();
+    let own = own_reason(alloc, error, read.error.as_ref(), &closing, extras.format);
+    if let (Some(reason), false) = (&own, extras.hints) {
+        return tell(rt, error, last, &closing, reason.as_str(), extras);
+    }
+    let found = hints_after(alloc, read, error, &closing);
+    let hints = hints_of(&closing.remark, &found);
+    let reason = match own {
+        Some(reason) => reason,
+        None => made(alloc, reason_of(alloc, hints)),
+    };
+    let status = tell(rt, error, last, &closing, reason.as_str(), extras);
+    if extras.hints {
+        say_these(rt, hints, voice_of(error, closing.voice));
+    }
+    status
+}
+
+// The hints that a run has itself, or else those that were found.
+fn hints_of<'a>(remark: &'a Remark, found: &'a Hints) -> &'a Hints {
+    match remark {
+        Remark::Hints(hints) | Remark::Starters(_, hints) => hints,
+        _ => found,
+    }
+}
+
+// What a run has read: the file that it read last, and the path of its dump, where it is over one.
+#[derive(Clone, Copy)]
+struct Last<'a> {
+    file: &'a str,
+    path: &'a str,
+}
+
+// The line of a refusal, or what stands for it.
+fn tell<R: Eprint + AllocGlobal>(
+    rt: &R,
+    error: RunError,
+    last: Last<'_>,
+    closing: &Closing<'_>,
+    reason: &str,
+    extras: Extras,
+) -> u8 {
+    let remark = &closing.remark;
+    let detail = match error {
+        RunError::Read => Detail::File(last.file),
+        _ => remark.detail(rt.alloc(), error, closing.named),
+    };
+    match extras.format {
+        Format::Messages => {
+            refused_at(rt, error, remark, closing.named, last.path, detail, reason)
+        }
+        Format::Lines | Format::Objects => refused(rt, error, detail, reason, extras.voice()),
+    }
+}
+
+// The reason of a refusal that is not what hints say first. The message of a text has its own words.
+fn own_reason(
+    alloc: Global,
+    error: RunError,
+    why: Option<&io::Error>,
+    closing: &Closing<'_>,
+    format: Format,
+) -> Option<String> {
+    match (error, &closing.remark) {
+        (RunError::Read, _) => Some(reading_reason(alloc, why)),
+        (RunError::Plan(_), Remark::Text(_)) if format == Format::Messages => {
+            Some(String::new(alloc))
+        }
+        (RunError::Plan(error), Remark::Text(source)) => {
+            match source.diagnose(alloc, error, closing.named) {
+                Ok(diagnostic) => Some(diagnostic.message),
+                Err(_) => Some(String::new(alloc)),
             }
-            let hints = on_report(rt.alloc(), read, names, status, closing);
+        }
+        _ => None,
+    }
+}
+
+/// Why a file cannot be read, in words.
+pub(crate) fn reading_reason(alloc: Global, error: Option<&io::Error>) -> String {
+    let words = match error {
+        Some(error) if error.kind() == io::ErrorKind::NotFound => {
+            String::from_str(alloc, "no such file")
+        }
+        Some(error) => format!(in alloc; "{error}"),
+        None => String::from_str(alloc, "it gave an error in reading, or has no end"),
+    };
+    made(alloc, words)
+}
+
+// What hints say of a refusal, beside what the run has to say. Without memory for them there are none.
+fn hints_after<F: Read + Seek + Drop>(
+    alloc: Global,
+    read: Inputs<'_, F>,
+    error: RunError,
+    closing: &Closing<'_>,
+) -> Hints {
+    let vcd = made(alloc, file_word(alloc, closing.about.names.vcd));
+    let command = made(alloc, command_of(alloc, closing.about));
+    let names = Names {
+        command: command.as_str(),
+        vcd: vcd.as_str(),
+        ..closing.about.names
+    };
+    match on_text_refused(alloc, read, names, error, closing) {
+        Ok(hints) => hints,
+        Err(_) => Hints::new(alloc),
+    }
+}
+
+// After a report.
+fn advise_on_report<R: Eprint + AllocGlobal, F: Read + Seek + Drop>(
+    rt: &R,
+    read: Inputs<'_, F>,
+    names: Names<'_>,
+    status: Status,
+    closing: Closing<'_>,
+) {
+    let alloc = rt.alloc();
+    let Closing {
+        remark,
+        output,
+        voice,
+        ..
+    } = closing;
+    match remark {
+        Remark::Recording(recorded, rises, lines) => {
+            say(rt, on_rises(alloc, names, rises), voice);
+            say(rt, Ok(lines), voice);
+            let hints = on_recorded(alloc, read.other, names, status, recorded);
             say(rt, hints, voice);
         }
-        Err(error) => {
-            let hints = on_refusal(rt.alloc(), read, names, error, closing);
-            say(rt, hints, voice_of(error, voice));
-        }
+        remark => say(rt, on_report(alloc, remark, output), voice),
     }
 }
 
 /// The refusal of a time with a unit, of which a dump does not say what it counts, and its status.
 pub fn no_timescale<R: Clock + Eprint + AllocGlobal>(rt: &R, extras: Extras) -> u8 {
     extras.watcher.clear(rt);
-    refused_timescale(rt, extras.voice());
+    let alloc = rt.alloc();
+    let hints = match on_no_timescale(alloc) {
+        Ok(hints) => hints,
+        Err(_) => Hints::new(alloc),
+    };
+    let reason = made(alloc, reason_of(alloc, &hints));
+    refused_timescale(rt, reason.as_str(), extras.voice());
     if extras.hints {
-        say(rt, on_no_timescale(rt.alloc()), extras.voice().uncolored());
+        say_these(rt, &hints, extras.voice().uncolored());
     }
     2
 }
@@ -162,9 +311,10 @@ pub fn no_drive<R: Clock + Eprint + AllocGlobal>(
     extras: Extras,
 ) -> u8 {
     extras.watcher.clear(rt);
-    refused_drive(rt, controller, extras.voice());
+    let reason = made(rt.alloc(), reason_of(rt.alloc(), &hints));
+    refused_drive(rt, controller, reason.as_str(), extras.voice());
     if extras.hints {
-        say(rt, Ok(hints), extras.voice().uncolored());
+        say_these(rt, &hints, extras.voice().uncolored());
     }
     2
 }
@@ -212,19 +362,6 @@ fn voice_of(error: RunError, voice: Voice) -> Voice {
     }
 }
 
-fn on_refusal<F: Read + Seek + Drop>(
-    alloc: Global,
-    read: Inputs<'_, F>,
-    names: Names<'_>,
-    ended: RunError,
-    closing: Closing<'_>,
-) -> Result<Hints, AllocError> {
-    match ended {
-        RunError::Brief(_) | RunError::Bench(_) => Ok(said(alloc, closing.remark)),
-        _ => on_text_refused(alloc, read, names, ended, &closing),
-    }
-}
-
 // After a text that was refused, and what the system refused.
 fn on_text_refused<F: Read + Seek + Drop>(
     alloc: Global,
@@ -263,29 +400,12 @@ fn on_refused_text(
     )
 }
 
-// What the run has to say.
-fn said(alloc: Global, remark: Remark) -> Hints {
+fn on_report(alloc: Global, remark: Remark, output: Option<&str>) -> Result<Hints, AllocError> {
     match remark {
-        Remark::Hints(hints) => hints,
-        Remark::Starters(_label, hints) => hints,
-        _ => Hints::new(alloc),
-    }
-}
-
-fn on_report<F: Read + Seek + Drop>(
-    alloc: Global,
-    read: Inputs<'_, F>,
-    names: Names<'_>,
-    status: Status,
-    closing: Closing<'_>,
-) -> Result<Hints, AllocError> {
-    let Closing { remark, output, .. } = closing;
-    match remark {
-        Remark::Nothing | Remark::Refused(_) | Remark::Text(_) => Ok(Hints::new(alloc)),
         Remark::Hints(hints) => Ok(hints),
         Remark::Starters(_label, hints) => Ok(hints),
         Remark::Fault => on_fault(alloc, output),
-        Remark::Recording(recorded, _) => on_recorded(alloc, read.other, names, status, recorded),
+        _ => Ok(Hints::new(alloc)),
     }
 }
 

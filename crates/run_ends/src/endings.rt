@@ -38,8 +38,8 @@ pub enum Remark {
     Hints(Hints),
     /// That what was written is the certificate of a fault.
     Fault,
-    /// What can be said of a dump, and how often SCL rises in it.
-    Recording(Recorded, Rises),
+    /// What can be said of a dump, how often SCL rises in it, and what is to be said of the lines of controllers.
+    Recording(Recorded, Rises, Hints),
     /// What is wrong with a dump that is refused.
     Refused(Wrong),
     /// The text of a plan or of a brief that is refused.
@@ -180,6 +180,11 @@ impl Remark {
             Ok(hints) => Remark::Hints(hints),
             Err(_) => Remark::Nothing,
         }
+    }
+
+    /// What can be said of a dump whose controllers have no lines, and how often SCL rises in it.
+    pub fn recording(alloc: Global, recorded: Recorded, rises: Rises) -> Remark {
+        Remark::Recording(recorded, rises, Hints::new(alloc))
     }
 
     /// The text of a plan or of a brief that is refused, where one is.

@@ -26,6 +26,11 @@ impl Extras {
         }
     }
 
+    /// Whether somebody is told why a run was refused: people by hints, and whoever takes no lines by its words.
+    pub fn says_why(self) -> bool {
+        self.hints || self.format != Format::Lines
+    }
+
     /// How refusals and hints are written.
     pub fn voice(self) -> Voice {
         match self.format {

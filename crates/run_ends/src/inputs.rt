@@ -1,6 +1,6 @@
 // What is read: files that the command line names, or standard input.
 
-use crate::advice::{advise_on_closed_input, advise_on_opening};
+use crate::advice::{advise_on_closed_input, advise_on_opening, reading_reason};
 use crate::extras::Extras;
 use crate::sources::Sources;
 use crate::voices::refused;
@@ -76,7 +76,7 @@ fn open_all<'a, 'n, R: Files + Input + Eprint + Clock + AllocGlobal>(
     for path in named.further {
         let file = open(rt, named.further_one(path), ids, extras)?;
         if further.push(file).is_err() {
-            refused(rt, RunError::NoMemory, Detail::Nothing, extras.voice());
+            refused(rt, RunError::NoMemory, Detail::Nothing, "", extras.voice());
             return None;
         }
     }
@@ -154,16 +154,20 @@ fn open<'a, R: Files + Input + Eprint + Clock + AllocGlobal>(
 fn unopened<R: Eprint + AllocGlobal>(rt: &R, file: Named<'_>, error: &io::Error, extras: Extras) {
     let voice = extras.voice();
     if error.kind() == io::ErrorKind::OutOfMemory {
-        refused(rt, RunError::NoMemory, Detail::Nothing, voice);
+        refused(rt, RunError::NoMemory, Detail::Nothing, "", voice);
         return;
     }
-    refused(rt, RunError::Read, Detail::File(file.path), voice);
-    if !extras.hints {
-        return;
-    }
+    let detail = Detail::File(file.path);
     if is_standard_input(file.path) {
-        advise_on_closed_input(rt, file, voice);
-    } else {
+        refused(rt, RunError::Read, detail, "it is closed", voice);
+        if extras.hints {
+            advise_on_closed_input(rt, file, voice);
+        }
+        return;
+    }
+    let reason = reading_reason(rt.alloc(), Some(error));
+    refused(rt, RunError::Read, detail, reason.as_str(), voice);
+    if extras.hints {
         advise_on_opening(rt, file, error, voice);
     }
 }

@@ -1,10 +1,10 @@
 // Refusals as compilers write them.
 
 use crate::endings::{RefusedSource, Remark};
-use crate::inputs::{Inputs, NamedSources};
-use crate::voices::{Voice, refused};
-use diagnostics::{Messages, push_file};
-use growing_text::Text;
+use crate::inputs::NamedSources;
+use crate::voices::{Voice, push_words, refused};
+use diagnostics::Messages;
+use growing_text::{Text, push_shown};
 use plan_text::PlanError;
 use plan_words::called;
 use refusal_objects::Detail;
@@ -12,22 +12,22 @@ use report::RunError;
 use std::alloc::{AllocError, Global};
 use vcd_read::{VcdError, Wrong};
 
-/// Writes the message of a refusal at its place: in one of the texts that were to give a plan, in a dump, or in no text. Its status.
-pub fn refused_at<R: Eprint + AllocGlobal, F>(
+/// Writes the message of a refusal at its place: in one of the texts that were to give a plan, in the dump of this path, or in no
+/// text. Its status.
+pub(crate) fn refused_at<R: Eprint + AllocGlobal>(
     rt: &R,
     error: RunError,
     remark: &Remark,
     named: NamedSources<'_>,
-    read: &Inputs<'_, F>,
+    dump: &str,
+    detail: Detail<'_>,
+    reason: &str,
 ) -> u8 {
     let alloc = rt.alloc();
     let message = match (error, remark) {
         (RunError::Plan(error), Remark::Text(source)) => text_message(alloc, error, source, named),
-        (RunError::Vcd(error), _) => dump_message(alloc, error, remark.wrong(), read.path),
-        (RunError::Read, _) => {
-            return refused(rt, error, Detail::File(read.last.path), Voice::Messages);
-        }
-        _ => return refused(rt, error, Detail::Nothing, Voice::Messages),
+        (RunError::Vcd(error), _) => dump_message(alloc, error, remark.wrong(), dump, reason),
+        _ => return refused(rt, error, detail, reason, Voice::Messages),
     };
     match message {
         Ok(message) => {
@@ -35,7 +35,7 @@ pub fn refused_at<R: Eprint + AllocGlobal, F>(
             let _ = eprint!(rt; "{message}");
             2
         }
-        Err(_) => refused(rt, RunError::NoMemory, Detail::Nothing, Voice::Messages),
+        Err(_) => refused(rt, RunError::NoMemory, Detail::Nothing, "", Voice::Messages),
     }
 }
 
@@ -62,9 +62,10 @@ fn dump_message(
     error: VcdError,
     wrong: Option<&Wrong>,
     file: &str,
+    reason: &str,
 ) -> Result<String, AllocError> {
     let mut text = Text::new(alloc);
-    push_file(&mut text, called(file));
+    push_shown(&mut text, called(file));
     if let Some(line) = line_of(error) {
         text.push(":");
         text.push_number(line);
@@ -73,8 +74,8 @@ fn dump_message(
             text.push_number(place.column);
         }
     }
-    let refusal = RunError::Vcd(error);
-    text.push_made(format!(in alloc; ": error: refused {refusal}\n"));
+    text.push(": error: ");
+    push_words(alloc, &mut text, RunError::Vcd(error), reason);
     text.finish()
 }
 

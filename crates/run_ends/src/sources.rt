@@ -3,6 +3,7 @@
 use crate::endings::{Halt, Takes};
 use brief_text::Briefs;
 use given_plans::{Further, GivenPlan, GivenText, find_further, find_given, given_by};
+use lexer::{Letters, Lexeme, Lexer, Symbol};
 use origins::Origins;
 use plan_core::Plan;
 use plan_words::{BriefFiles, PlanWords};
@@ -66,7 +67,26 @@ impl<'a, I: Input> Sources<'a, I> {
     where
         'a: 'p,
     {
-        PlanWords::new(plan, origins.as_ref(), self.files)
+        let is_first_version = match self.texts.first() {
+            Some(text) => is_first_version(text.as_slice()),
+            None => false,
+        };
+        PlanWords::new(plan, origins.as_ref(), self.files, is_first_version)
+    }
+}
+
+// Whether a text begins as a plan of the first version, in which no `never` stands.
+fn is_first_version(text: &[u8]) -> bool {
+    let mut lexer = Lexer::new(text, Letters::Plain);
+    let first = lexer.next();
+    let second = lexer.next();
+    is_word(&first, b"plan") && is_word(&second, b"1")
+}
+
+fn is_word(lexeme: &Lexeme<'_>, word: &[u8]) -> bool {
+    match lexeme.symbol {
+        Symbol::Word(it) => it == word,
+        _ => false,
     }
 }
 

@@ -1,11 +1,10 @@
 // What goes to standard error: refusals, and hints for people.
 
-use diagnostics::push_file;
-use growing_text::Text;
-use hints::{Hints, shown, visible};
+use growing_text::{Text, push_shown, shown, visible};
+use hints::Hints;
 use plan_words::called;
 use refusal_objects::{
-    Detail, TextDetail, drive_object, hint_objects, refusal_object, timescale_object,
+    Detail, TextDetail, code_of, drive_object, hint_objects, refusal_object, timescale_object,
 };
 use report::RunError;
 use std::alloc::{AllocError, Global};
@@ -32,17 +31,23 @@ impl Voice {
     }
 }
 
-/// Writes the line of a refusal, and answers its status. An object also has the other things that are known of it.
+/// Writes the line of a refusal, and answers its status. An object also has the other things that are known of it, and its reason in
+/// words, and a message has the words. Without memory for them there are none.
 pub fn refused<R: Eprint + AllocGlobal>(
     rt: &R,
     error: RunError,
     detail: Detail<'_>,
+    reason: &str,
     voice: Voice,
 ) -> u8 {
     match (voice, detail) {
-        (Voice::Objects, _) => say_refusal(rt, refusal_object(rt.alloc(), error, detail)),
-        (Voice::Messages, Detail::File(file)) => say_message(rt, called(file), error),
-        (Voice::Messages, _) => say_message(rt, "twire", error),
+        (Voice::Objects, _) => {
+            say_refusal(rt, refusal_object(rt.alloc(), error, detail, reason));
+        }
+        (Voice::Messages, Detail::File(file)) => {
+            say_message(rt, message(rt.alloc(), called(file), error, reason));
+        }
+        (Voice::Messages, _) => say_message(rt, message(rt.alloc(), "", error, reason)),
         (
             _,
             Detail::Text(
@@ -73,16 +78,42 @@ fn say_refused_file<R: Eprint + AllocGlobal>(rt: &R, error: RunError, file: &str
     }
 }
 
-// A refusal that has no place in a text: of a file, or of the run.
-fn say_message<R: Eprint + AllocGlobal>(rt: &R, place: &str, error: RunError) {
-    let mut text = Text::new(rt.alloc());
-    push_file(&mut text, place);
-    let _ = match text.finish() {
-        Ok(place) => {
-            let place = place.as_str();
-            eprintln!(rt; "{place}: error: refused {error}")
+// A refusal that has no place in a text: of the run, or of a file.
+fn message(alloc: Global, file: &str, error: RunError, reason: &str) -> Result<String, AllocError> {
+    let mut text = Text::new(alloc);
+    text.push("twire: error: ");
+    if !file.is_empty() {
+        push_shown(&mut text, file);
+        text.push(": ");
+    }
+    push_words(alloc, &mut text, error, reason);
+    text.finish()
+}
+
+/// Adds the words of a refusal, and its code where that is a letter and a digit. Without a reason it is its line.
+pub(crate) fn push_words(alloc: Global, text: &mut Text, error: RunError, reason: &str) {
+    let code = code_of(error);
+    if reason.is_empty() {
+        text.push_made(format!(in alloc; "refused {error}"));
+    } else {
+        text.push(reason);
+        if code.starts_with(is_capital) {
+            text.push(" [");
+            text.push(code);
+            text.push("]");
         }
-        Err(_) => eprintln!(rt; "twire: error: refused {error}"),
+    }
+    text.push("\n");
+}
+
+fn is_capital(c: char) -> bool {
+    c.is_ascii_uppercase()
+}
+
+fn say_message<R: Eprint>(rt: &R, message: Result<String, AllocError>) {
+    let _ = match message {
+        Ok(message) => eprint!(rt; "{message}"),
+        Err(_) => eprintln!(rt; "twire: error: refused memory"),
     };
 }
 
@@ -95,11 +126,11 @@ fn say_refusal<R: Eprint>(rt: &R, object: Result<String, AllocError>) {
 }
 
 /// Writes the line of the refusal of a time with a unit, of which a dump does not say what it counts.
-pub fn refused_timescale<R: Eprint + AllocGlobal>(rt: &R, voice: Voice) {
+pub(crate) fn refused_timescale<R: Eprint + AllocGlobal>(rt: &R, reason: &str, voice: Voice) {
     match voice {
-        Voice::Objects => say_refusal(rt, timescale_object(rt.alloc())),
+        Voice::Objects => say_refusal(rt, timescale_object(rt.alloc(), reason)),
         Voice::Messages => {
-            let _ = eprintln!(rt; "twire: error: refused timescale");
+            let _ = eprintln!(rt; "twire: error: {reason}");
         }
         _ => {
             let _ = eprintln!(rt; "refused timescale");
@@ -108,35 +139,42 @@ pub fn refused_timescale<R: Eprint + AllocGlobal>(rt: &R, voice: Voice) {
 }
 
 /// Writes the line of the refusal of a line that was to be what this controller pulls.
-pub fn refused_drive<R: Eprint + AllocGlobal>(rt: &R, controller: &str, voice: Voice) {
-    if let Voice::Objects = voice {
-        return say_refusal(rt, drive_object(rt.alloc(), controller));
-    }
-    match visible(rt.alloc(), controller) {
-        Ok(controller) => {
-            let controller = controller.as_str();
-            let head = if let Voice::Messages = voice {
-                "twire: error: "
-            } else {
-                ""
-            };
-            let _ = eprintln!(rt; "{head}refused drives {controller}");
+pub(crate) fn refused_drive<R: Eprint + AllocGlobal>(
+    rt: &R,
+    controller: &str,
+    reason: &str,
+    voice: Voice,
+) {
+    match voice {
+        Voice::Objects => say_refusal(rt, drive_object(rt.alloc(), controller, reason)),
+        Voice::Messages => {
+            let _ = eprintln!(rt; "twire: error: {reason}");
         }
-        Err(_) => {
-            let _ = eprintln!(rt; "refused drives");
+        _ => {
+            let _ = match visible(rt.alloc(), controller) {
+                Ok(controller) => {
+                    let controller = controller.as_str();
+                    eprintln!(rt; "refused drives {controller}")
+                }
+                Err(_) => eprintln!(rt; "refused drives"),
+            };
         }
     }
 }
 
 /// Writes hints. Where there is no memory for them, or standard error takes nothing, there are none.
 pub fn say<R: Eprint + AllocGlobal>(rt: &R, hints: Result<Hints, AllocError>, voice: Voice) {
-    let Ok(hints) = hints else {
-        return;
-    };
+    if let Ok(hints) = hints {
+        say_these(rt, &hints, voice);
+    }
+}
+
+/// The same of hints that there was memory for.
+pub(crate) fn say_these<R: Eprint + AllocGlobal>(rt: &R, hints: &Hints, voice: Voice) {
     let text = match voice {
         Voice::Plain | Voice::Messages => hints.text(rt.alloc(), false),
         Voice::Colored => hints.text(rt.alloc(), true),
-        Voice::Objects => hint_objects(rt.alloc(), &hints),
+        Voice::Objects => hint_objects(rt.alloc(), hints),
     };
     if let Ok(text) = text {
         let _ = eprint!(rt; "{text}");

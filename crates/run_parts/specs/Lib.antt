@@ -8,3 +8,4 @@ pub mod Runs
 pub mod Lines
 pub mod PlanTexts
 pub mod Finding
+pub mod Statuses

@@ -1,14 +1,14 @@
 -- A refusal of a text, of a dump, and of a bench, as that of a run.
 use Rattle.plan_text.specs.declared.briefs.NoBrief.{NoBrief}
 use Rattle.plan_text.specs.declared.briefs.NoBrief.TheVariants as brief
-use Rattle.plays.specs.declared.starters.OpenError.{OpenError}
-use Rattle.plays.specs.declared.starters.OpenError.TheVariants as opening
+use Rattle.run_errors.specs.declared.benches.OpenError.{OpenError}
+use Rattle.run_errors.specs.declared.benches.OpenError.TheVariants as opening
 use Rattle.plan_text.specs.declared.errors.PlanError.{PlanError}
 use Rattle.plan_text.specs.declared.errors.PlanError.TheVariants as plan
 use Rattle.run_parts.specs.declared.errors.RunError.{RunError}
 use Rattle.run_parts.specs.declared.errors.RunError.TheVariants.{Plan, Brief, Vcd, Bench, NoMemory}
-use Rattle.vcd_read.specs.declared.errors.VcdError.{VcdError}
-use Rattle.vcd_read.specs.declared.errors.VcdError.TheVariants as vcd
+use Rattle.run_errors.specs.declared.dumps.VcdError.{VcdError}
+use Rattle.run_errors.specs.declared.dumps.VcdError.TheVariants as vcd
 
 -- the same refusal; out of memory has no place in the text
 abbrev pub run_error : PlanError → RunError

@@ -5,10 +5,9 @@ ghost use Rattle.run_parts.specs.declared.errors.RunError.TheVariants.{NoMemory}
 ghost use Rattle.run_parts.specs.RunErrors.{run_error, brief_error, vcd_error, open_error};
 
 use plan_text::{NoBrief, PlanError};
-use plays::OpenError;
+use run_errors::{OpenError, VcdError};
 use std::alloc::{AllocError, AllocFailed};
 use thiserror::Error;
-use vcd_read::VcdError;
 
 /// Why a run ends without its report. Only after `Write` has a part of the report been written: its first bytes.
 #[derive(Clone, Copy, Debug, PartialEq, Eq, Error)]

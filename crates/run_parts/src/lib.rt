@@ -14,4 +14,4 @@ pub use devices::watched::Watched;
 pub use devices::writing::write_report;
 pub use errors::RunError;
 pub use lines::push_labels;
-pub use runs::{Status, write_lines};
+pub use runs::{Status, exit_code, write_lines};

@@ -1,6 +1,7 @@
 // What all runs have: a status, and the writing of their lines.
 
 ghost use Rattle.std.specs.Prelude.{◌≡◌, IfOk, IfErr, OnOk};
+ghost use Rattle.run_parts.specs.Statuses.{status_code, exit_code};
 ghost use Rattle.run_parts.specs.Writing.{WritesAll, WritingStops};
 
 use crate::devices::traits::Output;
@@ -16,6 +17,32 @@ pub enum Status {
     Bad,
     /// The certificate is wrong.
     Refused,
+}
+
+impl Status {
+    ghost use Rattle.std.specs.Prelude.{◌≡◌};
+    ghost use Rattle.run_parts.specs.Statuses.{status_code};
+
+    /// The exit status of a program whose run ended so: 0, 1, 2.
+    pub fn code(self) -> u8
+        ensures { result ≡ status_code self }
+    {
+        match self {
+            Status::Good => 0,
+            Status::Bad => 1,
+            Status::Refused => 2,
+        }
+    }
+}
+
+/// The exit status of a program by how its run ended: 2 where it has no whole report.
+pub fn exit_code(ended: Result<Status, RunError>) -> u8
+    ensures { result ≡ exit_code ended }
+{
+    match ended {
+        Ok(status) => status.code(),
+        Err(_) => 2,
+    }
 }
 
 /// Writes the whole report of a run that ends with this status.

@@ -344,9 +344,10 @@ impl Changes {
     // What the signals of a dump have shown that its reader does not refuse.
     fn finish(self, wrong: &mut Option<Wrong>) -> Result<Lasting, RunError> {
         let Changes { reader, cutter } = self;
-        if let Err(refused) = reader.end() {
-            *wrong = refused.wrong;
-            return Err(RunError::from(refused.error));
+        if let Err(refused) = reader.close() {
+            let error = refused.error;
+            *wrong = refused.wrong();
+            return Err(RunError::from(error));
         }
         let (levels, _) = cutter.finish()?;
         Ok(levels.finish()?)

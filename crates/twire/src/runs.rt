@@ -5,7 +5,8 @@ use crate::versions::version_of;
 use closings::{FilesWritten, finish};
 use command_words::{Asked, Format, Manner, Request, When, read_words};
 use files::{FilesRead, Form, Sheet, Watcher, is_standard_input};
-use hints::{Named, visible};
+use growing_text::visible;
+use hints::Named;
 use language_server::serve;
 use refusal_objects::Detail;
 use report::{RunError, Status, Watched};
@@ -37,7 +38,7 @@ pub fn run<R: Files + Env + Input + Print + Eprint + AllocGlobal + Threads + Wai
     match run_words(rt, terminals) {
         Ok(status) => status,
         // (before it is known whether objects are wanted)
-        Err(error) => refused(rt, error, Detail::Nothing, Voice::Plain),
+        Err(error) => refused(rt, error, Detail::Nothing, "", Voice::Plain),
     }
 }
 

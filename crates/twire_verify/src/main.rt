@@ -4,6 +4,7 @@
 //! opened that they name, and its status.
 #![tactic(auto)]
 
+use builds::{build_in, own_end};
 use run_parts::{Opened, RunError, Status, Watched};
 use std::io::{self, ErrorKind};
 use std::process::ExitCode;
@@ -13,7 +14,7 @@ use verifying::run_verify;
 
 const USAGE: &str = "usage: twire-verify PLAN CERT\n";
 
-const VERSION: &str = "twire-verify 0.1.0\n";
+const VERSION: &str = "twire-verify 0.1.0";
 
 const STANDARD_INPUT: &str = "/dev/stdin";
 
@@ -36,7 +37,7 @@ fn run<R: Files + Env + Input + Print + Eprint + AllocGlobal>(rt: &R) -> Result<
     let first = word_at(words.as_slice(), 1);
     match words.len() {
         2 if first == "-h" || first == "--help" => show(rt, USAGE),
-        2 if first == "--version" => show(rt, VERSION),
+        2 if first == "--version" => show_version(rt),
         3 => verify(rt, first, word_at(words.as_slice(), 2)),
         _ => Ok(refuse(rt)),
     }
@@ -52,6 +53,16 @@ fn word_at(words: &[String], place: usize) -> &str {
 
 fn show<R: Print>(rt: &R, text: &str) -> Result<u8, RunError> {
     match print!(rt; "{text}") {
+        Ok(()) => Ok(0),
+        Err(_) => Err(RunError::Write),
+    }
+}
+
+// The version, and what the build has written into the program's own file: a label.
+fn show_version<R: Files + Print + AllocGlobal>(rt: &R) -> Result<u8, RunError> {
+    let end = own_end(rt);
+    let build = build_in(end.as_slice());
+    match print!(rt; "{VERSION} ({build})\n") {
         Ok(()) => Ok(0),
         Err(_) => Err(RunError::Write),
     }

@@ -7,7 +7,7 @@ use Rattle.vcd_read.specs.declared.dumps.Levels.{Levels}
 use Rattle.vcd_read.specs.declared.dumps.Seen.{Seen}
 use Rattle.vcd_read.specs.declared.dumps.Seen.TheVariants as seen
 use Rattle.vcd_read.specs.declared.samples.Level.{Level}
-use Rattle.vcd_read.specs.declared.samples.Signal.TheVariants.{Scl, Sda}
+use Rattle.run_errors.specs.declared.dumps.Signal.TheVariants.{Scl, Sda}
 use Rattle.vcd_read.specs.Beginnings.{IsInVar, CanBe}
 use Rattle.vcd_read.specs.Changes.{changed}
 use Rattle.vcd_read.specs.Definitions.{named_by}

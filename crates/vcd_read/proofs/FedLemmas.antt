@@ -3,7 +3,7 @@ use Rattle.std.proofs.Common.{◌≡◌, ℕ, List, [], ◌++◌, Option, Some, 
 use Rattle.std.specs.Prelude.{IfOk, option_to_list}
 use Rattle.std.proofs.lemmas.List.{append-nil}
 use Rattle.vcd_read.specs.declared.errors.Refusal.{Refusal}
-use Rattle.vcd_read.specs.declared.errors.VcdError.{VcdError}
+use Rattle.run_errors.specs.declared.dumps.VcdError.{VcdError}
 use Rattle.vcd_read.specs.declared.samples.Sample.{Sample}
 use Rattle.vcd_read.specs.Dumps.{Run, with_front, with_last, at_end, ended, said_so_far, given_so_far, samples_of}
 use Rattle.vcd_read.specs.Pieces.{Kept, Refused, Scan, kept_at_first, token_ended, go_on, bytes_read, ended_by, samples_at_end}

@@ -6,7 +6,7 @@ use Rattle.vcd_read.specs.declared.dumps.Context.TheVariants as inside
 use Rattle.vcd_read.specs.declared.errors.Refusal.{Refusal}
 use Rattle.vcd_read.specs.declared.errors.Refusal.TheVariants.{NoSignal, BadToken, TimeBack, Unended}
 use Rattle.vcd_read.specs.declared.samples.Sample.{Sample}
-use Rattle.vcd_read.specs.declared.samples.Signal.{Signal}
+use Rattle.run_errors.specs.declared.dumps.Signal.{Signal}
 use Rattle.vcd_read.specs.Beginnings.{IsLate}
 use Rattle.vcd_read.specs.Changes.{Step, stays}
 use Rattle.vcd_read.specs.Definitions.{missing, definitions_end, inside_end_definitions}

@@ -7,8 +7,8 @@ use Rattle.vcd_read.specs.declared.errors.Refusal.{Refusal}
 use Rattle.vcd_read.specs.declared.errors.Refusal.TheVariants.{NoSignal, BadToken, TimeBack, Unended}
 use Rattle.vcd_read.specs.declared.samples.Level.TheVariants.{Unknown}
 use Rattle.vcd_read.specs.declared.samples.Sample.{Sample}
-use Rattle.vcd_read.specs.declared.samples.Signal.{Signal}
-use Rattle.vcd_read.specs.declared.samples.Signal.TheVariants.{Scl, Sda}
+use Rattle.run_errors.specs.declared.dumps.Signal.{Signal}
+use Rattle.run_errors.specs.declared.dumps.Signal.TheVariants.{Scl, Sda}
 use Rattle.vcd_read.specs.declared.words.Command.TheVariants.{EndDefinitions}
 use Rattle.vcd_read.specs.Beginnings.{AreWithout, EndsDefinitions, Lacks}
 use Rattle.vcd_read.specs.Changes.{Step, stays}

@@ -12,7 +12,7 @@ use Rattle.vcd_read.specs.declared.dumps.Seen.TheVariants as seen
 use Rattle.vcd_read.specs.declared.errors.Refusal.{Refusal}
 use Rattle.vcd_read.specs.declared.errors.Refusal.TheVariants.{NoSignal, BadToken, TimeBack, Unended}
 use Rattle.vcd_read.specs.declared.samples.Level.{Level}
-use Rattle.vcd_read.specs.declared.samples.Signal.{Signal}
+use Rattle.run_errors.specs.declared.dumps.Signal.{Signal}
 use Rattle.vcd_read.specs.declared.words.Command.{Command}
 use Rattle.vcd_read.specs.declared.words.Command.TheVariants.{Var, EndDefinitions, Changes, End, Other}
 use Rattle.vcd_read.specs.Beginnings.{IsTime}

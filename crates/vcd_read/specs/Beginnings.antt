@@ -3,8 +3,8 @@ use Rattle.std.specs.Prelude.{◌≡◌, ℕ, ◌⊎◌, true, false, List, [], 
 use Rattle.vcd_read.specs.declared.errors.Refusal.{Refusal}
 use Rattle.vcd_read.specs.declared.errors.Refusal.TheVariants.{NoSignal, Unended}
 use Rattle.vcd_read.specs.declared.samples.Sample.{Sample}
-use Rattle.vcd_read.specs.declared.samples.Signal.{Signal}
-use Rattle.vcd_read.specs.declared.samples.Signal.TheVariants.{Scl, Sda}
+use Rattle.run_errors.specs.declared.dumps.Signal.{Signal}
+use Rattle.run_errors.specs.declared.dumps.Signal.TheVariants.{Scl, Sda}
 use Rattle.vcd_read.specs.declared.words.Command.TheVariants.{EndDefinitions}
 use Rattle.vcd_read.specs.Grammar.{Skipped, skipped_tokens, EndsOnce, Declaration, code_for, declarations_tokens, AreDeclarations, Spells}
 use Rattle.vcd_read.specs.Probes.{Finder, word_of}

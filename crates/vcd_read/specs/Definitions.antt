@@ -7,8 +7,8 @@ use Rattle.vcd_read.specs.declared.dumps.Seen.{Seen}
 use Rattle.vcd_read.specs.declared.dumps.Seen.TheVariants as seen
 use Rattle.vcd_read.specs.declared.errors.Refusal.{Refusal}
 use Rattle.vcd_read.specs.declared.errors.Refusal.TheVariants.{NoSignal, BadToken}
-use Rattle.vcd_read.specs.declared.samples.Signal.{Signal}
-use Rattle.vcd_read.specs.declared.samples.Signal.TheVariants.{Scl, Sda}
+use Rattle.run_errors.specs.declared.dumps.Signal.{Signal}
+use Rattle.run_errors.specs.declared.dumps.Signal.TheVariants.{Scl, Sda}
 use Rattle.vcd_read.specs.declared.words.Command.{Command}
 use Rattle.vcd_read.specs.declared.words.Command.TheVariants.{Var, EndDefinitions, Other}
 use Rattle.vcd_read.specs.Probes.{declares}

@@ -6,7 +6,7 @@ use Rattle.vcd_read.specs.declared.dumps.Context.TheVariants as inside
 use Rattle.vcd_read.specs.declared.errors.Refusal.{Refusal}
 use Rattle.vcd_read.specs.declared.errors.Refusal.TheVariants.{NoSignal, Unended}
 use Rattle.vcd_read.specs.declared.samples.Sample.{Sample}
-use Rattle.vcd_read.specs.declared.samples.Signal.{Signal}
+use Rattle.run_errors.specs.declared.dumps.Signal.{Signal}
 use Rattle.vcd_read.specs.Changes.{Step, stays, change, change_of_code, stamp_sample}
 use Rattle.vcd_read.specs.Definitions.{definition, inside_var, inside_end_definitions, missing}
 use Rattle.vcd_read.specs.Probes.{Finder}

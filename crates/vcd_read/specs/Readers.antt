@@ -1,8 +1,8 @@
 -- What a reader of a dump in pieces stands for.
 use Rattle.std.specs.Prelude.{◌≡◌, ℕ, ◌⊎◌, List, ◌++◌, Option, Some, None, Result, Ok, Err, MatchResult}
 use Rattle.vcd_read.specs.declared.errors.Refusal.{Refusal}
-use Rattle.vcd_read.specs.declared.errors.VcdError.{VcdError}
-use Rattle.vcd_read.specs.declared.errors.VcdError.TheVariants.{NoMemory}
+use Rattle.run_errors.specs.declared.dumps.VcdError.{VcdError}
+use Rattle.run_errors.specs.declared.dumps.VcdError.TheVariants.{NoMemory}
 use Rattle.vcd_read.specs.declared.reader.Reader.{Reader}
 use Rattle.vcd_read.specs.declared.samples.Sample.{Sample}
 use Rattle.vcd_read.specs.Pieces.{Kept, Scan, kept_at_first, bytes_read, kept_of}

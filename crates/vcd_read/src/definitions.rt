@@ -6,8 +6,8 @@ ghost use Rattle.vcd_read.specs.Views.{state_of, HasRoom, Leaves};
 
 use crate::dumps::{Context, Dump, Seen};
 use crate::errors::Refusal;
-use crate::samples::Signal;
 use crate::words::{Command, command_of, is_end};
+use run_errors::Signal;
 
 impl Dump {
     /// A token outside commands opens one.

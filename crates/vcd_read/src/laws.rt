@@ -11,7 +11,7 @@ ghost use Rattle.vcd_read.specs.Tokens.{Token, tokens_of};
 ghost use Rattle.vcd_read.specs.Words.{command_of};
 ghost use Rattle.vcd_read.specs.declared.errors.Refusal.TheVariants.{NoSignal, BadToken, TimeBack};
 ghost use Rattle.vcd_read.specs.declared.samples.Sample.{Sample};
-ghost use Rattle.vcd_read.specs.declared.samples.Signal.{Signal};
+ghost use Rattle.run_errors.specs.declared.dumps.Signal.{Signal};
 ghost use Rattle.vcd_read.specs.declared.words.Command.TheVariants.{EndDefinitions};
 
 /// The tokens of a text are its runs of bytes that are not white space, as long as they can be, and each stands on the

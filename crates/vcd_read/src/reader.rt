@@ -2,11 +2,12 @@
 
 ghost use Rattle.vcd_read.specs.Pieces.{RoomForToken, RoomForSamples};
 
-use crate::errors::{EndError, Refusal, VcdError};
+use crate::errors::Refusal;
 use crate::places::{OpenLine, Wrong};
 use crate::probes::Probe;
 use crate::samples::Sample;
 use crate::scanner::Scanner;
+use run_errors::VcdError;
 use std::alloc::{AllocError, Global};
 
 /// A reader of a dump that comes in pieces of any size, cut anywhere.
@@ -24,6 +25,32 @@ pub struct Reader {
     ghost last_samples_fit: { RoomForSamples 2 scanner },
 }
 
+/// Why a dump has no samples at its end.
+#[derive(Drop)]
+pub struct EndError {
+    pub error: VcdError,
+    left: Left,
+}
+
+// What is left of a reader whose dump is refused.
+#[derive(Drop)]
+enum Left {
+    // by a piece: what is wrong is known
+    Known(Option<Wrong>),
+    // at its end, in this line
+    Ended(Scanner, Refusal, OpenLine),
+}
+
+impl EndError {
+    /// What is wrong with the dump, beside the refusal, where there is memory to say it.
+    pub fn wrong(self) -> Option<Wrong> {
+        match self.left {
+            Left::Known(wrong) => wrong,
+            Left::Ended(scanner, refusal, line) => scanner.wrong(refusal, &[], &line),
+        }
+    }
+}
+
 // Written out, so that one call lets it go.
 impl Drop for Reader {
     fn drop(self) {
@@ -38,7 +65,7 @@ impl Drop for Reader {
 
 impl Reader {
     ghost use Rattle.std.specs.Prelude.{◌≡◌, ℕ, List, [], ◌++◌, IfOk, Err, MatchResult};
-    ghost use Rattle.vcd_read.specs.declared.errors.VcdError.TheVariants.{NoMemory};
+    ghost use Rattle.run_errors.specs.declared.dumps.VcdError.TheVariants.{NoMemory};
     ghost use Rattle.vcd_read.specs.declared.samples.Sample.{Sample};
     ghost use Rattle.vcd_read.specs.Dumps.{samples_of, said_so_far, given_so_far};
     ghost use Rattle.vcd_read.specs.Probes.{Finder, by_name};
@@ -140,12 +167,29 @@ impl Reader {
         self.wrong.take()
     }
 
-    /// The end of the dump: its samples, without those that were cleared. This takes no memory, but to say what is wrong.
+    /// The end of the dump: its samples, without those that were cleared. This takes no memory.
     ///
     /// # Errors
     ///
     /// V1 to V4.
-    pub fn end(self) -> Result<Vec<Sample>, EndError>
+    pub fn end(self) -> Result<Vec<Sample>, VcdError>
+        ensures { (scl sda : Finder) (text : List ℕ) (cleared : List Sample) →
+            Fed scl sda text cleared (reading_of self) →
+            MatchResult result (λ samples. samples_of scl sda text ≡ Ok (cleared ++ samples.items))
+            (λ e. IsRefusal (samples_of scl sda text) e) }
+    {
+        match self.close() {
+            Ok(samples) => Ok(samples),
+            Err(refused) => Err(refused.error),
+        }
+    }
+
+    /// The same. Of a dump that is refused, what is wrong can be asked for. This takes no memory.
+    ///
+    /// # Errors
+    ///
+    /// V1 to V4.
+    pub fn close(self) -> Result<Vec<Sample>, EndError>
         ensures { (scl sda : Finder) (text : List ℕ) (cleared : List Sample) →
             Fed scl sda text cleared (reading_of self) →
             MatchResult result (λ samples. samples_of scl sda text ≡ Ok (cleared ++ samples.items))
@@ -159,7 +203,8 @@ impl Reader {
         } = self;
         if let Some(refusal) = refused {
             let error = VcdError::from(refusal);
-            return Err(EndError { error, wrong });
+            let left = Left::Known(wrong);
+            return Err(EndError { error, left });
         }
         match scanner.end() {
             Ok(()) => {
@@ -167,9 +212,9 @@ impl Reader {
                 Ok(samples)
             }
             Err(refusal) => {
-                let wrong = scanner.wrong(refusal, &[], &line);
                 let error = VcdError::from(refusal);
-                Err(EndError { error, wrong })
+                let left = Left::Ended(scanner, refusal, line);
+                Err(EndError { error, left })
             }
         }
     }

@@ -1,7 +1,5 @@
 // What a dump says about the two lines of the bus.
 
-use std::fmt::{self, Display, Formatter, Write};
-
 /// The level of a line. The lines are open-drain with a pull-up, so one that is `z` is high.
 #[derive(Clone, Copy, PartialEq, Eq)]
 pub enum Level {
@@ -16,20 +14,4 @@ pub struct Sample {
     pub time: u64,
     pub scl: Level,
     pub sda: Level,
-}
-
-/// One of the two lines.
-#[derive(Clone, Copy, Debug, PartialEq, Eq)]
-pub enum Signal {
-    Scl,
-    Sda,
-}
-
-impl Display for Signal {
-    fn fmt<W: Write>(&self, f: &mut Formatter<W>) -> fmt::Result {
-        f.write_str(match self {
-            Signal::Scl => "scl",
-            Signal::Sda => "sda",
-        })
-    }
 }

@@ -2,6 +2,7 @@
 
 use crate::faults::below_unsafe;
 use crate::group_lines::{above_rest, of_group, of_rest};
+use crate::offers::offers_for_all;
 use crate::plans::below_safe;
 use crate::reports::{BLOCK, write_block};
 use crate::unchecked::below_checked;
@@ -10,7 +11,7 @@ use certificate::Fault;
 use growing_text::Text;
 use plan_core::Plan;
 use plan_words::PlanWords;
-use remedies::{Grouped, Reasons, both_of};
+use remedies::{Grouped, Mends, Reasons, both_of};
 use report::{Checked, Output, RunError, push_count, push_fault};
 use std::alloc::{AllocError, Global};
 use std::mem;
@@ -114,11 +115,23 @@ fn push_end(
     match reasons {
         Some(Reasons::Safe(safety)) => text.push_made(below_safe(alloc, safety)),
         Some(Reasons::Unsafe(mends, groups)) => {
-            text.push_made(below_unsafe(alloc, words, faults, mends, groups))
+            text.push_made(offered(alloc, words, faults, mends, groups))
         }
         None => return,
     }
     text.push_made(below_checked(alloc, words));
+}
+
+// What is offered to mend all unsafe pairs.
+fn offered(
+    alloc: Global,
+    words: PlanWords<'_>,
+    faults: &Faults,
+    mends: &Mends,
+    groups: &Grouped,
+) -> Result<String, AllocError> {
+    let offers = offers_for_all(alloc, words, faults, mends, groups)?;
+    below_unsafe(alloc, offers.as_slice())
 }
 
 // The line of an unsafe pair.

@@ -39,13 +39,6 @@ fn feed_pieces(
     Ok(())
 }
 
-fn end_of(reader: Reader) -> Result<Vec<Sample>, VcdError> {
-    match reader.end() {
-        Ok(samples) => Ok(samples),
-        Err(refused) => Err(refused.error),
-    }
-}
-
 // What a reader answers for a dump in pieces of so many bytes: a word for each sample, or the refusal, which it then
 // answers for any other piece.
 fn answer(alloc: Global, dump: &[u8], bytes: usize) -> Result<String, AllocError> {
@@ -53,7 +46,7 @@ fn answer(alloc: Global, dump: &[u8], bytes: usize) -> Result<String, AllocError
     let mut line = Text::new(alloc);
     let fed = feed_pieces(&mut reader, &mut line, dump, bytes);
     let is_same = fed.is_ok() || reader.feed(b"\n#0 $end ") == fed;
-    match fed.and(end_of(reader)) {
+    match fed.and(reader.end()) {
         Ok(samples) => push_samples(&mut line, samples.as_slice()),
         Err(refusal) if is_same => return format!(in alloc; "{refusal}"),
         Err(_) => line.push("another answer"),

@@ -83,9 +83,9 @@ fn wrong_of(alloc: Global, dump: &[u8], bytes: usize) -> Result<Option<Wrong>, A
     if feed(&mut reader, dump, bytes).is_err() {
         return Ok(reader.take_wrong());
     }
-    Ok(match reader.end() {
+    Ok(match reader.close() {
         Ok(_) => None,
-        Err(refused) => refused.wrong,
+        Err(refused) => refused.wrong(),
     })
 }
 

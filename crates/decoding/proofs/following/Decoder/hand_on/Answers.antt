@@ -17,8 +17,8 @@ returns-in_err-take-clause-stops g c =
     let sink = g.S.TransactionSink.sink in
     let e = c.in_err-take.field-0.0 in
     on_error c.from_residual-in_err-take.result e (λ e. (start : _) (least : ℕ) (scl sda : Finder) (text : List ℕ) → Follows sink start least scl sda text c.args.self.now c.args.sink.now → StopsAt sink start least scl sda text c.args.sink.now e c.take.new.self) c.from_residual-in_err-take.ensures.1
-    (λ start least scl sda text f. stops_there sink start least scl sda text c.args.self.now c.follow.new.self c.samples.result.now c.in_ok-found.found.items c.as_slice.result.now c.args.sink.now c.take.new.self e f c.samples.ensures.samples c.as_slice.ensures.value c.in_ok-found.ensures c.in_err-take.ensures.stops)
+    (λ start least scl sda text f. stops_there sink start least scl sda text c.args.self.now c.follow.new.self c.samples.result.now c.in_ok-found.found.items c.as_slice.result.now c.args.sink.now c.take.new.self e f c.samples.ensures.samples c.as_slice.ensures.value c.in_ok-found.ensures.found c.in_err-take.ensures.stops)
 
 pub returns-clause-handed : goal.returns-clause-handed
 returns-clause-handed g c = λ start least scl sda text f.
-    goes_on g.S.TransactionSink.sink start least scl sda text c.args.self.now (record { reader = c.clear_samples.new.self; follower = c.follow.new.self }) c.samples.result.now c.in_ok-found.found.items c.as_slice.result.now c.args.sink.now c.take.new.self f (c.clear_samples.ensures scl sda text f.cleared f.fed) c.samples.ensures.samples c.as_slice.ensures.value c.in_ok-found.ensures c.in_ok-take.ensures.taken
+    goes_on g.S.TransactionSink.sink start least scl sda text c.args.self.now (record { reader = c.clear_samples.new.self; follower = c.follow.new.self }) c.samples.result.now c.in_ok-found.found.items c.as_slice.result.now c.args.sink.now c.take.new.self f (c.clear_samples.ensures scl sda text f.cleared f.fed) c.samples.ensures.samples c.as_slice.ensures.value c.in_ok-found.ensures.found c.in_ok-take.ensures.taken

@@ -4,8 +4,8 @@ use Rattle.pulses.specs.Filtering.{to_come}
 use Rattle.pulses.proofs.ComingLemmas.{coming_end, coming_last}
 use Rattle.pulses.proofs.filtering.Filter.end.Goals as goal
 
-pub returns-in_ok-hand_out : goal.returns-in_ok-hand_out
-returns-in_ok-hand_out c =
+pub returns-in_ok-hand_out-clause-handed : goal.returns-in_ok-hand_out-clause-handed
+returns-in_ok-hand_out-clause-handed c =
     let f = c.hand_out.new.self in
     let given = c.in_ok-hand_out.ensures in
     let none : to_come f [] ≡ [] = coming_end f.least f.first f.scl f.sda f.time
