@@ -353,6 +353,20 @@ for words in "check devices.brief bmc.brief" "print devices.brief bmc.brief" "ve
   tip: further files of a brief follow by '--with FILE'"
     compare "a file too much: $words"
 done
+"$twire" certify devices.brief bmc.brief >out 2>said
+echo "$?" >status
+head -n 3 said >err
+want 2 "" "error: unexpected argument 'bmc.brief' found
+
+  tip: further files of a brief follow by '--with FILE'"
+compare "a file too much: certify"
+"$twire" certify devices.brief nosuch.cert >out 2>said
+echo "$?" >status
+head -n 3 said >err
+want 2 "" "error: unexpected argument 'nosuch.cert' found
+
+  tip: the certificate is written to a file by '-o FILE'"
+compare "a certificate without its option"
 "$twire" brief board.plan bmc.brief >out 2>said
 echo "$?" >status
 head -n 3 said >err
@@ -381,11 +395,12 @@ field() {
     sed -n "\$s/.*\"$1\":\([0-9]*\).*/\1/p" objects
 }
 
-# mended NAME: board.brief with the items that are advised. Pairs with interrupts are left, and no other ones.
+# mended NAME: board.brief with the items that are advised. Pairs with interrupts are left, and no other ones. Without interrupts
+# there may be no items, where these would leave nothing to check: then all is left as it was.
 mended() {
-    local name=$1 pairs promised interrupts
+    local name=$1 pairs promised interrupts faults
     "$asked" check --format json --hints never --explain board.brief >objects 2>err
-    pairs=$(field pairs)
+    pairs=$(field pairs) faults=$(field unsafe_pairs)
     promised=$(field unchecked)
     interrupts=$(sed -n '$s/.*"interrupts":\[\([^]]*\)\].*/\1/p' objects | tr ',' '\n' | grep -c .)
     {
@@ -397,6 +412,9 @@ mended() {
     echo "$(field unsafe_pairs) unsafe, $((pairs - $(field pairs))) left out" >out
     echo 0 >status
     want 0 "${interrupts:-0} unsafe, ${promised:-0} left out" ""
+    if cmp -s board.brief mended.brief && ! grep -q '^interrupt' board.brief; then
+        want 0 "$faults unsafe, 0 left out" ""
+    fi
     compare "$name"
 }
 
@@ -428,6 +446,18 @@ board() {
 for seed in {1..30}; do
     board "$seed" >board.brief
     mended "a board that is mended: $seed"
+done
+
+# Nine controllers meet the second message of a family, so that items name controllers, or parts of them. The label of the family
+# also means the part of its first message, which an item of the brief names.
+for parts in 'never a/m_1 z ; never a/m z ;' 'never a/m z ; never a/m_1 z ;' 'never a/m z ;' 'never a/m_2 z ; never a/m_1 z ;' ''; do
+    {
+        printf '%s\n' 'brief 1' 'message m write 0x50 any*1..2 ;' 'message w write 0x50 any ;' 'message far read 0x40 1 ;' \
+            'controller a m ;' 'controller z far ;'
+        printf 'controller c%d w ;\n' {1..9}
+        echo "$parts"
+    } >board.brief
+    mended "a family with parts that is mended: $parts"
 done
 
 # groups_mended NAME: board.brief with the items that are advised for each group alone. They leave out as many pairs as is said, and
@@ -522,7 +552,7 @@ compare "many unsafe pairs of two files"
 # What was not looked at stands in an explained report, and then not in hints.
 want 0 "safe: 0 pairs
     where targets acknowledge, decided in the header: 0, later: 0,
-    at a read's end: 0; alike to the end: 0
+    at a read's end: 0; may end together: 0
     no two participants may start together, so nothing was checked
     not checked: 3 messages that no controller lists: family_1 (second.brief:4),
     family_3 (second.brief:4), other (second.brief:5)" "hint: second.brief:2: device 'c' has the address of 'a', which stands at
@@ -544,11 +574,33 @@ hint: looked at"
 run "a family that nobody sends" check unsent.brief --hints always
 want 0 "safe: 0 pairs
     where targets acknowledge, decided in the header: 0, later: 0,
-    at a read's end: 0; alike to the end: 0
+    at a read's end: 0; may end together: 0
     no two participants may start together, so nothing was checked
     not checked: 32 messages that no controller lists: page_1 to page_32
     (unsent.brief:2)" ""
 run "a family that nobody sends, explained" check --explain unsent.brief --hints always
+lines unsent.brief "brief 1" "message alpha write 0x10 ; message zed write 0x11 ; message page write 0x50 any*1..4 ; message last read 0x10 1 ;" \
+    "controller a page_2 ;"
+want 0 "safe: 0 pairs" "hint: unsent.brief:2: no controller lists message 'alpha', which was not looked
+hint: at
+hint: unsent.brief:2: no controller lists message 'zed', which was not looked at
+hint: unsent.brief:2: no controller lists message 'page_1', which was not looked
+hint: at
+hint: unsent.brief:2: no controller lists messages 'page_3' to 'page_4', which
+hint: were not looked at
+hint: unsent.brief:2: no controller lists message 'last', which was not looked
+hint: at
+hint: the plan has no two participants that may start together: no pair was
+hint: looked at"
+run "several messages of one line that nobody sends" check unsent.brief --hints always
+want 0 "safe: 0 pairs
+    where targets acknowledge, decided in the header: 0, later: 0,
+    at a read's end: 0; alike to the end: 0
+    no two participants may start together, so nothing was checked
+    not checked: 6 messages that no controller lists: alpha (unsent.brief:2),
+    zed (unsent.brief:2), page_1 (unsent.brief:2), page_3 to page_4
+    (unsent.brief:2), last (unsent.brief:2)" ""
+run "several messages of one line that nobody sends, explained" check --explain unsent.brief --hints always
 lines one.brief "brief 1" "message m write 0x10 ;" "controller a m ;"
 printf 'brief 1\r# a board\rdevice eeprom 0x50 ;\r' >returns.brief
 want 0 "safe: 0 pairs" "hint: returns.brief:1: this brief has no items

@@ -121,6 +121,13 @@ $(hint "line 21 of the capture:" "  U!" "  ^^" \
     "$example" nine_states --hints always
 expect "hints on a time" 2 "" "refused V3 line 8
 $(hint "line 8 of the capture:" "  #5 #4" "     ^^" "the last time was 5, and times never go back")" plan back --hints always
+# A simulator that is killed leaves a part of its last time.
+printf '%s' "$(cat back)" >broken
+expect "hints on a dump that breaks off in its last time" 2 "" "refused V3 line 8
+$(hint "line 8 of the capture:" "  #5 #4" "     ^^" "the last time was 5, and the dump ends with this one: it breaks off in its" \
+    "last time, as where a simulator was killed" \
+    "what came before is shown by 'twire decode --live', and by 'twire capture" "--live'")" plan broken --hints always
+expect "the same on standard input" 2 "" "$(cat err)" plan - --hints always < <(cat broken)
 expect "hints on what is open" 2 "" "refused V4 line 9
 $(hint "line 9 of the capture:" '  $comment' "  ^^^^^^^^" \
     "this command goes on to the end of the file: its '\$end' is missing")" plan open --hints always

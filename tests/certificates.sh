@@ -252,7 +252,11 @@ for word in -h --help; do
     expect "twire-verify $word, on standard error" "" "$("$verifier" "$word" 2>&1 >/dev/null)"
 done
 version=$("$twire" --version)
-expect "twire-verify --version" "twire-verify ${version:6:5}, status 0" "$(small --version)"
+found=$(small --version)
+label='(proved|trial), sources [0-9a-f]{12}'
+[[ $found =~ ^"twire-verify ${version:6:5} ("$label"), status 0"$ ]] && found=yes
+expect "twire-verify --version" yes "$found"
+expect "twire-verify --version, on standard error" "" "$("$verifier" --version 2>&1 >/dev/null)"
 expect "twire-verify: usage, on standard output" "" "$("$verifier" plan 2>/dev/null)"
 expect "twire-verify: a full device" "refused write, status 2" "$(small_full)"
 

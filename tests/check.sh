@@ -330,6 +330,14 @@ For more information, try '--help'."
 run "no plan" check
 run "no plan after --" check --
 
+want 2 "" "error: the following required arguments were not provided:
+  --wave <FILE>
+
+Usage: twire check --wave <FILE> --pair <I> <PLAN>
+
+For more information, try '--help'."
+run "a pair that no wave shows" check safe.plan --pair 1
+
 want 2 "" "error: unrecognized subcommand 'chek'
 
   tip: a similar subcommand exists: 'check'
@@ -443,7 +451,7 @@ run "no word on hints on a safe plan" check spare.plan
 # An explained report says it itself, and hints do not say it again.
 not_checked="safe: 0 pairs
     where targets acknowledge, decided in the header: 0, later: 0,
-    at a read's end: 0; alike to the end: 0
+    at a read's end: 0; may end together: 0
     no two participants may start together, so nothing was checked
     not checked: 1 message that no controller lists: n
     not checked: 1 of 1 pair, which 'never' keeps apart"
@@ -500,7 +508,7 @@ want 1 "safe: 1 pairs" "hint: messages that no controller lists, which were not 
 run "the same with hints" check --strict unlisted.plan --hints always
 want 1 "safe: 1 pairs
     where targets acknowledge, decided in the header: 0, later: 0,
-    at a read's end: 0; alike to the end: 1
+    at a read's end: 0; may end together: 1
     not checked: 1 message that no controller lists: n" ""
 run "the same, explained" check --strict --explain unlisted.plan --hints always
 want 1 "$not_checked" ""

@@ -87,6 +87,12 @@ if command -v python3 >/dev/null; then
     table "a first time above 0" "$(dump us 'scl,sda' '#2 1! 1"' '#3 0"')" 'Time [s],scl,sda\n0.000002,1,1\n0.000003,1,0\n'
     table "dates" "$(dump us 'scl,sda' '#0 1! 1"' '#1000005 0"')" \
         'Time,scl,sda\n2026-11-25T23:59:59.5+00:00,1,1\n2026-11-26T00:00:00.500005000Z,1,0\n'
+    table "dates with a decimal comma" "$(dump us 'scl,sda' '#0 1! 1"' '#1000005 0"')" \
+        'Time;scl;sda\n2026-11-25T23:59:59,5+00:00;1;1\n2026-11-26T00:00:00,500005;1;0\n'
+    table "a decimal comma in quotation marks" "$(dump us 'scl,sda' '#0 1! 1"' '#5 0"')" \
+        'Time,scl,sda\n"2026-11-25 10:00:00,000001",1,1\n"2026-11-25 10:00:00,000006",1,0\n'
+    table "dates with picoseconds" "$(dump ps 'scl,sda' '#0 1! 1"' '#1000000000001 0"')" \
+        'Time;scl;sda\n2026-11-25T23:59:59,123456789012Z;1;1\n2026-11-26T00:00:00,123456789013Z;1;0\n'
     table "dates with a zone" "$(dump s 'scl,sda' '#0 1! 1"' '#1 0"')" \
         'Time [s],scl,sda\n2026-11-25T12:00:00+01:00,1,1\n2026-11-25T11:00:01Z,1,0\n'
     table "equal times" "$(dump us 'scl,sda' '#0 1! 1"' '#5 0!' '#5 0"')" 'Time [s],scl,sda\n0,1,1\n0.000005,0,1\n0.000005,0,0\n'
@@ -142,6 +148,10 @@ $var wire 1 !! c95 $end' "$("$convert" table.csv | grep 'c9[45] ')"
     no_table "a value that is no bit" "line 3: '1.0' in the column 'sda' is neither 0 nor 1" 'Time [s],scl,sda\n0,1,1\n1,1,1.0\n'
     no_table "a level that is not known" "line 2: 'X' in the column 'scl' is neither 0 nor 1" 'Time [s],scl\n0,X\n'
     no_table "a time that is none" "line 3: 'now' is no time" 'Time [s],scl\n0,1\nnow,0\n'
+    no_table "a number among dates" "line 3: a number stands in the column of times, which has dates above it" \
+        'Time,scl\n2026-11-25T00:00:00Z,1\n0.5,0\n'
+    no_table "a date among numbers" "line 4: a date stands in the column of times, which has numbers above it" \
+        'Time,scl\n0,1\n0.5,0\n2026-11-25T00:00:00Z,1\n'
     no_table "a date that is none" "line 2: '2026-13-01T00:00:00Z' is no time" 'Time [s],scl\n2026-13-01T00:00:00Z,1\n'
     no_table "a time that goes back" "line 4: this time is below the one before it" 'Time [s],scl\n0,1\n2,0\n1,1\n'
     no_table "a part of a femtosecond" "line 3: a time has parts of a femtosecond" 'Time [s],scl\n0,1\n0.0000000000000005,0\n'

@@ -231,6 +231,12 @@ expect "the same for pulses" 2 "" "refused timescale" decode no_scale --min-puls
 expect "plain times in their place" 0 "$("$twire" decode three)" "" decode no_scale --times si
 refuses "a time that is none" "the value for '--from <TIME>' is no time as 15 or 1.5us" decode header --from 1.5.5us
 refuses "a pulse of no time" "the value for '--min-pulse <T>' is no time as 15 or 1.5us" decode header --min-pulse 5min
+nothing="'--from' is after '--to', so there is nothing between them"
+refuses "a part that ends before it begins" "$nothing" decode header --from 700us --to 500us
+refuses "the same in other units" "$nothing" decode header --from 0.7ms --to 699us
+refuses "the same in steps" "$nothing" decode header --from 16 --to 15
+refuses "the same of signals" "$nothing" signals header --from 2s --to 1s
+refuses "the same of a page" "$nothing" page plan --capture header --from 2s --to 1s
 refuses "two ways for SCL" "'--scl' and '--scl-code' both say which signal is SCL: give one" decode header --scl a --scl-code b
 refuses "an option of captures" "unexpected argument '--at-least' found" decode header --at-least 1
 refuses "another option of captures" "unexpected argument '--explain' found" decode header --explain

@@ -60,12 +60,15 @@ controller main  write_limit ;
 controller guard read_limit ;
 never main guard ;
 END
-    TWIRE=$twire BRIEF=$work/bus.brief FORMATTED=$work/formatted.brief XDG_STATE_HOME=$work XDG_CACHE_HOME=$work \
+    printf '%s\n' "brief 1" "device eeprom 0x50 ;" >devices.brief
+    printf '%s\n' "brief 1" "message set write eeprom any ;" "controller bmc set ;" >bmc.brief
+    printf '%s\n' "brief 1" "message get write eeprom any ;" "controller pch get ;" >pch.brief
+    TWIRE=$twire BRIEF=$work/bus.brief BOARD="devices.brief bmc.brief pch.brief" FORMATTED=$work/formatted.brief XDG_STATE_HOME=$work XDG_CACHE_HOME=$work \
         timeout 300 "$program" --headless -u NONE -i NONE -n -c "luafile $tests/editors/neovim.lua" >neovim 2>neovim.err </dev/null
     grep '^FAILED' neovim
     passed=$((passed + $(grep -c '^ok ' neovim)))
     failed=$((failed + $(grep -c '^FAILED' neovim)))
-    if (($(grep -c '^ok \|^FAILED' neovim) != 8)); then
+    if (($(grep -c '^ok \|^FAILED' neovim) != 14)); then
         failed=$((failed + 1))
         echo "FAILED: Neovim did not come to the end:"
         cat neovim.err

@@ -76,17 +76,14 @@ plan() {
 # ---- Unsafe pairs: a kind that meets another.
 
 want 1 "pair 0 main/write_output service/probe_10: data against stop after 00100000l
-    group 0, as pair 0:
+    group 0, pair 0:
     bus                S 10 Wr A
     main/write_output  S 10 Wr A xxxxxxxx  next: a data bit
     service/probe_10   S 10 Wr A P         next: a STOP
     slot 9, UM10204 3.1.8: a data bit meets a STOP. Both send alike until here.
     main/write_output × service/probe_10: 1 pair, lengths differ
 unsafe: 1 of 2 pairs
-    to mend it: a bit before that slot, known in both and different; or the same
-    shape from there on; or:
-    never main service ;
-    (leaves 2 of 2 pairs unchecked)" ""
+    to mend it: the same shape from that slot on" ""
 run "a STOP meets a data bit" check --explain "$examples/stop_meets_data.plan"
 
 plan 'plan 1' \
@@ -94,7 +91,7 @@ plan 'plan 1' \
     'message r write 1001000 0000000x again read 1001000 2 stop else stop else stop else stop ;' \
     'controller a w ;' 'controller b r ;'
 want 1 "pair 0 a/w b/r: data against restart after 10010000l00000001l
-    group 0, as pair 0:
+    group 0, pair 0:
     bus  S 48 Wr A 01 A
     a/w  S 48 Wr A 01 A 02        next: a data bit
     b/r  S 48 Wr A 0000000x A Sr  next: a repeated START
@@ -103,10 +100,7 @@ want 1 "pair 0 a/w b/r: data against restart after 10010000l00000001l
     b/r may send either bit before it in slot 16
     a/w × b/r: 1 pair, one goes on, one repeats START
 unsafe: 1 of 1 pairs
-    to mend it: a bit before that slot, known in both and different; or the same
-    shape from there on; or:
-    never a b ;
-    (leaves 1 of 1 pair unchecked)" ""
+    to mend it: the same shape from that slot on" ""
 run "a repeated START meets a data bit, after an open bit" check --explain p.plan
 
 plan 'plan 1' 'message get read 1001000 1 stop else stop ;' 'controller a get ;' 'interrupt al 1001000 ;' \
@@ -114,21 +108,21 @@ plan 'plan 1' 'message get read 1001000 1 stop else stop ;' 'controller a get ;'
 want 1 "pair 0 a/get !al: answer against claim after 10010001
 pair 1 a/get !second: answer against claim after 10010001
 pair 2 !al !second: claim against claim after 10010001
-    group 0, as pair 0:
+    group 0, pair 0:
     bus    S 48 Rd
     a/get  S 48 Rd          next: a target's bit
     !al    S 48 Rd (waits)  next: a wait for the answer
     slot 8, the profile of interrupts: a target's bit meets a wait for the
     answer. Both send alike until here.
     a/get × !al: 1 pair, an interrupt has the same header
-    group 1, as pair 1:
+    group 1, pair 1:
     bus      S 48 Rd
     a/get    S 48 Rd          next: a target's bit
     !second  S 48 Rd (waits)  next: a wait for the answer
     slot 8, the profile of interrupts: a target's bit meets a wait for the
     answer. Both send alike until here.
     a/get × !second: 1 pair, an interrupt has the same header
-    group 2, as pair 2:
+    group 2, pair 2:
     bus      S 48 Rd
     !al      S 48 Rd (waits)  next: a wait for the answer
     !second  S 48 Rd (waits)  next: a wait for the answer
@@ -136,14 +130,13 @@ pair 2 !al !second: claim against claim after 10010001
     the answer. Both send alike until here.
     !al × !second: 1 pair, an interrupt has the same header
 unsafe: 3 of 3 pairs
-    to mend each: a bit before its slot, known in both and different
-    no shape and no 'never' mends a pair with an interrupt: pair 0 pair 1 pair 2" ""
+    only another header mends a pair with an interrupt: pair 0, pair 1, pair 2" ""
 run "interrupts, which no never keeps away" check --explain p.plan
 
 plan 'plan 2' 'message one read 1001000 1 again write 1001000 stop else stop else stop ;' \
     'message few read 1001000 1..3 stop else stop ;' 'controller a one ;' 'controller b few ;'
 want 1 "pair 0 a/one b/few: restart against stop after 10010001lllllllll1
-    group 0, as pair 0:
+    group 0, pair 0:
     bus    S 48 Rd A 00 NA
     a/one  S 48 Rd A 00 NA Sr   next: a repeated START
     b/few  S 48 Rd A 00 A/NA P  next: a STOP
@@ -152,28 +145,24 @@ want 1 "pair 0 a/one b/few: restart against stop after 10010001lllllllll1
     b/few may send either bit before it in slot 17
     a/one × b/few: 1 pair, one ends, one repeats START
 unsafe: 1 of 1 pairs
-    to mend it: a bit before that slot, known in both and different; or the same
-    shape from there on; or:
-    never a b ;
-    (leaves 1 of 1 pair unchecked)" ""
+    to mend it: the same shape from that slot on" ""
 run "reads that may end alike: the last acknowledge of one is open" check --explain p.plan
 
 # ---- Groups, and how many of them are explained.
 
 plan 'plan 2' 'message w write 1001000 00000001 stop else stop else stop ;' 'message p write 1001000 stop else stop ;' \
     'controller a w ;' 'controller b p ;' 'controller c p ;'
-one="    group 0, as pair 0:
+one="    group 0, 2 pairs, such as pair 0:
     bus  S 48 Wr A
     a/w  S 48 Wr A 01  next: a data bit
     b/p  S 48 Wr A P   next: a STOP
     slot 9, UM10204 3.1.8: a data bit meets a STOP. Both send alike until here.
     a/w × b/p, a/w × c/p: 2 pairs, lengths differ
 unsafe: 2 of 3 pairs
-    to mend each: a bit before its slot, known in both and different; or the
-    same shape from there on; or all of:
+    to mend each: the same shape from its slot on; or all of these, which leave
+    2 of 3 pairs unchecked:
     never a b ;
-    never a c ;
-    (leaves 2 of 3 pairs unchecked)"
+    never a c ;"
 want 1 "pair 0 a/w b/p: data against stop after 10010000l
 pair 1 a/w c/p: data against stop after 10010000l
 $one" ""
@@ -186,16 +175,15 @@ pair 1 a/w c/p: data against stop after 10010000l
     not explained (--most 1 explains all groups):
     a/w × b/p, a/w × c/p: 2 pairs, lengths differ
 unsafe: 2 of 3 pairs
-    to mend each: a bit of its first header, known in both and different; or all
-    of:
+    to mend each: the same shape from its slot on; or all of these, which leave
+    2 of 3 pairs unchecked:
     never a b ;
-    never a c ;
-    (leaves 2 of 3 pairs unchecked)" ""
+    never a c ;" ""
 run "none is explained where --most is 0" check --explain --most 0 p.plan
 printf 'never a b ; never a c ;\n' >>p.plan
 want 0 "safe: 1 pairs
     where targets acknowledge, decided in the header: 0, later: 0,
-    at a read's end: 0; alike to the end: 1
+    at a read's end: 0; may end together: 1
     not checked: 2 of 3 pairs, which 'never' keeps apart" ""
 run "the never items that are named make the plan safe" check --explain p.plan
 run "a safe plan, without pairs" check --summary p.plan
@@ -212,47 +200,48 @@ pair 11 b/p c/w: stop against data after 10010000l
 pair 15 b/q !al: answer against claim after 00100001"
 want 1 "$six
     not explained (--most 3 explains all groups):
-    b/q × !al: 1 pair, an interrupt has the same header
     a/w × b/p, a/w × c/p, b/p × c/w: 3 pairs, lengths differ
     a/v × b/p, a/v × c/p: 2 pairs, lengths differ
+    b/q × !al: 1 pair, an interrupt has the same header
 unsafe: 6 of 18 pairs
-    to mend each: a bit of its first header, known in both and different; or all
-    of:
+    to mend each without an interrupt: the same shape from its slot on; or all
+    of these, which leave 12 of 18 pairs unchecked:
     never a b ;
     never a c ;
     never b c ;
-    (leaves 12 of 18 pairs unchecked)
-    no shape and no 'never' mends a pair with an interrupt: pair 15" ""
+    only another header mends a pair with an interrupt: pair 15" ""
 run "several pairs of two controllers, beside one with an interrupt" check --explain --most 0 p.plan
 want 1 "$six
-    group 0, as pair 15:
-    bus  S 10 Rd
-    b/q  S 10 Rd          next: a target's bit
-    !al  S 10 Rd (waits)  next: a wait for the answer
-    slot 8, the profile of interrupts: a target's bit meets a wait for the
-    answer. Both send alike until here.
-    b/q × !al: 1 pair, an interrupt has the same header
-    group 1, as pair 0:
+    group 0, 3 pairs, such as pair 0:
     bus  S 48 Wr A
     a/w  S 48 Wr A 01  next: a data bit
     b/p  S 48 Wr A P   next: a STOP
     slot 9, UM10204 3.1.8: a data bit meets a STOP. Both send alike until here.
     a/w × b/p, a/w × c/p, b/p × c/w: 3 pairs, lengths differ
+    to mend each: the same shape from its slot on; or all of these, which leave
+    12 of 18 pairs unchecked:
+    never a b ;
+    never a c ;
+    never b c ;
+    group 1, 2 pairs, such as pair 5:
+    bus  S 48 Wr A
+    a/v  S 48 Wr A 02  next: a data bit
+    b/p  S 48 Wr A P   next: a STOP
+    slot 9, UM10204 3.1.8: a data bit meets a STOP. Both send alike until here.
+    a/v × b/p, a/v × c/p: 2 pairs, lengths differ
     to mend each: the same shape from its slot on; or all of:
     never a b ;
     never a c ;
-    never b c ;
-    (leaves 12 of 18 pairs unchecked)
+    (leaves 8 of 18 pairs unchecked)
     not explained (--most 3 explains all groups):
-    a/v × b/p, a/v × c/p: 2 pairs, lengths differ
+    b/q × !al: 1 pair, an interrupt has the same header
 unsafe: 6 of 18 pairs
-    to mend each: a bit of its first header, known in both and different; or all
-    of:
+    to mend each without an interrupt: the same shape from its slot on; or all
+    of these, which leave 12 of 18 pairs unchecked:
     never a b ;
     never a c ;
     never b c ;
-    (leaves 12 of 18 pairs unchecked)
-    no shape and no 'never' mends a pair with an interrupt: pair 15" ""
+    only another header mends a pair with an interrupt: pair 15" ""
 run "the shortest wire first" check --explain --most 2 p.plan
 printf 'never b a ;\n' >>p.plan
 want 1 "pair 0 a/w c/p: data against stop after 10010000l
@@ -260,16 +249,15 @@ pair 3 a/v c/p: data against stop after 10010000l
 pair 7 b/p c/w: stop against data after 10010000l
 pair 11 b/q !al: answer against claim after 00100001
     not explained (--most 3 explains all groups):
-    b/q × !al: 1 pair, an interrupt has the same header
     a/w × c/p, b/p × c/w: 2 pairs, lengths differ
+    b/q × !al: 1 pair, an interrupt has the same header
     a/v × c/p: 1 pair, lengths differ
 unsafe: 4 of 14 pairs
-    to mend each: a bit of its first header, known in both and different; or all
-    of:
+    to mend each without an interrupt: the same shape from its slot on; or all
+    of these, which leave 8 of 14 pairs unchecked:
     never a c ;
     never b c ;
-    (leaves 8 of 14 pairs unchecked)
-    no shape and no 'never' mends a pair with an interrupt: pair 11
+    only another header mends a pair with an interrupt: pair 11
     not checked: 4 of 18 pairs, which 'never' keeps apart" ""
 run "a never that the plan has is not named" check --explain --most 0 p.plan
 printf 'never a c ; never b c ;\n' >>p.plan
@@ -277,8 +265,7 @@ want 1 "pair 3 b/q !al: answer against claim after 00100001
     not explained (--most 1 explains all groups):
     b/q × !al: 1 pair, an interrupt has the same header
 unsafe: 1 of 6 pairs
-    to mend it: a bit before that slot, known in both and different
-    no shape and no 'never' mends a pair with an interrupt: pair 3
+    only another header mends a pair with an interrupt: pair 3
     not checked: 12 of 18 pairs, which 'never' keeps apart" ""
 run "with these items the pair with the interrupt is left" check --explain --most 0 p.plan
 
@@ -312,8 +299,8 @@ plan 'plan 1' "message a_1 write 1010000$(any 1)$(tails 2)" "message a_2 write 1
     "message e write 1010011 again write 1010011$(any 2)$(tails 4)" \
     'controller left a_1 a_2 a_03 p q g d ;' 'controller right b1 b2 b12 p q r g e ;' 'interrupt s 1010010 ;'
 between "families, bytes, frames and interrupts" \
-    "left/g × !s, right/g × !s: 2 pairs, an interrupt has the same header" \
-    "left/a_* × right/b*: 9 pairs, lengths differ" "left/p × right/q, left/q × right/p: 2 pairs, lengths differ" \
+    "left/a_* × right/b*: 9 pairs, lengths differ" \
+    "left/g × !s, right/g × !s: 2 pairs, an interrupt has the same header" "left/p × right/q, left/q × right/p: 2 pairs, lengths differ" \
     "left/q × right/r: 1 pair, lengths differ" "left/p × right/r: 1 pair, lengths differ" \
     "left/d × right/e: 1 pair, lengths differ"
 # In the first frame, and in the second.
@@ -344,23 +331,20 @@ plan 'plan 1' "message get1 write 1010000 00000001 again read 1010000 1$(tails 3
     "message page_1 write 1010001$(any 1)$(tails 2)" "message page_2 write 1010001$(any 2)$(tails 3)" \
     "message page_3 write 1010001$(any 3)$(tails 4)" 'controller a get1 page_1 page_2 page_3 ;' \
     'controller b put page_1 page_2 page_3 ;'
-want 1 "    group 0, as pair 0:
-    bus     S 50 Wr A 01 A
-    a/get1  S 50 Wr A 01 A Sr              next: a repeated START
-    b/put   S 50 Wr A xxxxxxxx A xxxxxxxx  next: a data bit
-    slot 18, UM10204 3.1.8: a repeated START meets a data bit. Both send alike
-    until here.
-    b/put may send either bit before it in slot 9..16
-    a/get1 × b/put: 1 pair, one goes on, one repeats START
-    to mend it: the same shape from its slot on; or:
-    never a b ;
-    (leaves 16 of 16 pairs unchecked)
-    not explained (--most 2 explains all groups):
+want 1 "    group 0, 6 pairs, such as pair 6:
+    bus       S 51 Wr A 00 A
+    a/page_1  S 51 Wr A xxxxxxxx A P         next: a STOP
+    b/page_2  S 51 Wr A xxxxxxxx A xxxxxxxx  next: a data bit
+    slot 18, UM10204 3.1.8: a STOP meets a data bit. Both send alike until here.
+    a/page_1 may send either bit before it in slot 9..16
+    b/page_2 may send either bit before it in slot 9..16
     a/page_* × b/page_*: 6 pairs, lengths differ
+    to mend each: a bit in slot 9..16, known in both and different (in messages
+    of their own); or the same shape from its slot on
+    not explained (--most 2 explains all groups):
+    a/get1 × b/put: 1 pair, one goes on, one repeats START
 unsafe: 7 of 16 pairs
-    to mend each: a bit of its first header, known in both and different; or:
-    never a b ;
-    (leaves 16 of 16 pairs unchecked)" ""
+    to mend each: the same shape from its slot on" ""
 run "a line of each group that is not explained" check --summary --most 1 p.plan
 # Whoever sends them, on either side.
 plan 'plan 1' 'message w write 1001000 00000001 stop else stop else stop ;' 'message p write 1001000 stop else stop ;' \
@@ -395,34 +379,66 @@ plan 'plan 1' "message w1 write 1010000$(any 2)$(tails 3)" "message w2 write 101
     "message v write 1010000 0000xxxx 1xxxxxx0$(tails 3)" "message probe write 1010001$(tails 1)" \
     "message put write 1010001$(any 1)$(tails 2)" 'controller a w2 probe ;' 'controller b v put ;' 'controller c w1 ;'
 mends "three groups, each with items of its own" \
-    "to mend it: the same shape from its slot on; or:" "never a b ;" "(leaves 4 of 8 pairs unchecked)" \
+    "to mend it: the same shape from its slot on; or:" "never a b ;" "(leaves 4 of 8 pairs unchecked; the first line becomes 'plan 2')" \
     "to mend it: a bit in slot 13..16, 19..24, known in both and different; or" "the same shape from its slot on; or:" \
-    "never a b ;" "(leaves 4 of 8 pairs unchecked)" \
+    "never a b ;" "(leaves 4 of 8 pairs unchecked; the first line becomes 'plan 2')" \
     "to mend it: a bit in slot 9..16, 18..25, known in both and different; or the" "same shape from its slot on; or:" \
-    "never a c ;" "(leaves 2 of 8 pairs unchecked)"
+    "never a c ;" "(leaves 2 of 8 pairs unchecked; the first line becomes 'plan 2')"
 # After a NACK of the first byte one repeats START and the other ends: no bit after it mends the pair, and no shape.
 plan 'plan 1' "message m write 101xxxx$(any 2) stop else stop else again write 1010000 stop else stop else stop ;" \
     "message n write 1010xxx$(any 3)$(tails 4)" 'controller a m ;' 'controller b n ;'
 mends "another fault after a NACK" "to mend it: a bit in slot 4..6, 9..16, known in both and different"
 
+# The same with known bits alone: nothing mends it but a 'never', after which no pair would be left.
+plan 'plan 1' "message m write 1010000 00000001 00000001 stop else stop else again write 1010000 stop else stop else stop ;" \
+    "message n write 1010000 00000001 00000001 00000001$(tails 4)" 'controller a m ;' 'controller b n ;'
+want 1 "    nothing was found that mends it and leaves a pair to check" ""
+"$twire" check --summary p.plan 2>err >explained
+echo "$?" >status
+sed '1,/^unsafe/d' explained >out
+compare "nothing mends the only pair"
+# Beside another group that the same shape mends: no way mends each. A 'plan 1' has no 'never'.
+sed -i "2i message put write 1010001$(any 1)$(tails 2)\nmessage probe write 1010001$(tails 1)\nmessage far read 0100000 1 stop else stop ;" p.plan
+sed -i 's/^controller a m/& put far/; s/^controller b n/& probe/' p.plan
+echo 'controller c far ;' >>p.plan
+want 1 "    to mend each: this, which leaves 6 of 11 pairs unchecked:
+    never a b ;
+    (the first line becomes 'plan 2')" ""
+"$twire" check --summary p.plan 2>err >explained
+echo "$?" >status
+sed '1,/^unsafe/d' explained >out
+compare "no bit and no shape mends each pair"
+sed 's/^plan 1/plan 2/' p.plan >q.plan
+echo 'never a b ;' >>q.plan
+want 0 "safe: 5 pairs" ""
+run "the item that is named, where the first line became 'plan 2'" check q.plan
+# What mends all pairs does not depend on how many groups are explained.
+want 1 "$("$twire" check --summary --most 100 p.plan | sed '1,/^unsafe/d')" ""
+for most in 0 1; do
+    "$twire" check --summary --most "$most" p.plan 2>err >explained
+    echo "$?" >status
+    sed '1,/^unsafe/d' explained >out
+    compare "the last lines with --most $most"
+done
+
 # ---- Safe plans.
 
 want 0 "safe: 2 pairs
     where targets acknowledge, decided in the header: 0, later: 1,
-    at a read's end: 0; alike to the end: 1" ""
+    at a read's end: 0; may end together: 1" ""
 run "two writers: one pair ends alike, one parts in a data byte" check --explain "$examples/two_writers.plan"
 plan 'plan 1' 'message short read 1001000 1 stop else stop ;' 'message long read 1001000 2 stop else stop ;' \
     'message other read 1001001 2 stop else stop ;' 'message spare write 1001000 stop else stop ;' \
     'controller a short ;' 'controller b long ;' 'controller c other ;'
 want 0 "safe: 3 pairs
     where targets acknowledge, decided in the header: 2, later: 0,
-    at a read's end: 1; alike to the end: 0
+    at a read's end: 1; may end together: 0
     not checked: 1 message that no controller lists: spare" ""
 run "a read's end, headers, and a message that nobody sends" check --explain p.plan
 plan 'plan 1'
 want 0 "safe: 0 pairs
     where targets acknowledge, decided in the header: 0, later: 0,
-    at a read's end: 0; alike to the end: 0
+    at a read's end: 0; may end together: 0
     no two participants may start together, so nothing was checked" ""
 run "a plan without pairs" check --explain p.plan
 
@@ -670,7 +686,7 @@ brief 'brief 1' 'device sensor 0x48 ;' 'message set write sensor 0x01 any ;' \
 want 1 "pair 2 bmc/page_1 pch_page/page_2: stop against data after 10100000l00000000l
 pair 4 bmc/page_2 pch_page/page_1: data against stop after 10100000l00000000l
 pair 6 bmc_set/set pch/get: data against restart after 10010000l00000001l
-    group 0, as pair 2:
+    group 0, 2 pairs, such as pair 2:
     bus         S 50 Wr A 00 A
     bmc/page_1  S 50 Wr A xxxxxxxx A P         next: a STOP
     pch/page_2  S 50 Wr A xxxxxxxx A xxxxxxxx  next: a data bit
@@ -684,7 +700,7 @@ pair 6 bmc_set/set pch/get: data against restart after 10010000l00000001l
     never bmc/page_1 pch/page_2 ;
     never bmc/page_2 pch/page_1 ;
     (leaves 2 of 7 pairs unchecked)
-    group 1, as pair 6:
+    group 1, pair 6:
     bus      S 48 Wr A 01 A
     bmc/set  S 48 Wr A 01 A xxxxxxxx  next: a data bit
     pch/get  S 48 Wr A 01 A Sr        next: a repeated START
@@ -696,8 +712,7 @@ pair 6 bmc_set/set pch/get: data against restart after 10010000l00000001l
     never bmc/set pch/get ;
     (leaves 1 of 7 pairs unchecked)
 unsafe: 3 of 7 pairs
-    to mend each: a bit before its slot, known in both and different; or the
-    same shape from there on; or all of:
+    to mend each: the same shape from its slot on; or all of:
     never bmc/page_1 pch/page_2 ;
     never bmc/page_2 pch/page_1 ;
     never bmc/set pch/get ;
@@ -708,7 +723,7 @@ alike "a brief" check board.brief
 printf 'never bmc/page_1 pch/page_2 ; never bmc/page_2 pch/page_1 ; never bmc/set pch/get ;\n' >>board.brief
 want 0 "safe: 4 pairs
     where targets acknowledge, decided in the header: 2, later: 0,
-    at a read's end: 0; alike to the end: 2
+    at a read's end: 0; may end together: 2
     not checked: 5 of 9 pairs, which 'never' keeps apart" ""
 run "the items that are named mend the brief" check --explain board.brief
 
@@ -729,73 +744,71 @@ brief 'brief 1' 'message page write 0x50 any*1..3 ;' 'message get write 0x50 any
 echo "$?" >status
 sed -i '/^pair/d; /^    not explained/,/^unsafe/{/^unsafe/!d}' out
 want 1 "unsafe: 14 of 18 pairs
-    to mend each: a bit of its first header, known in both and different; or all
-    of:
+    to mend each: a bit before its slot, known in both and different (in
+    messages of their own); or the same shape from there on; or all of these,
+    which leave 17 of 18 pairs unchecked:
     never bmc/page pch/page ;
     never bmc/page seq ;
     never bmc/get pch/page ;
     never pch/page seq ;
-    (leaves 17 of 18 pairs unchecked)
     not checked: 1 of 19 pairs, which 'never' keeps apart" ""
 compare "many pairs of a brief"
 
-# advice NAME UNSAFE LINE..: what is said below the report on the brief, without its pairs, from the first item on.
+# advice NAME UNSAFE LINE..: what is said below the report on the brief, without its pairs and groups.
 advice() {
-    local name=$1 all=$'or all\n    of:' said line
-    [[ $4 == never* ]] || all="or:"
-    said="unsafe: $2 pairs
-    to mend each: a bit of its first header, known in both and different; $all"
-    for line in "${@:3}"; do
-        said+=$'\n'"    $line"
-    done
+    local name=$1
+    want 1 "unsafe: $2 pairs$(printf '\n    %s' "${@:3}")" ""
     "$twire" check --explain --most 0 board.brief >out 2>err
     echo "$?" >status
     sed -i '/^pair/d; /^    not explained/,/^unsafe/{/^unsafe/!d}' out
-    want 1 "$said" ""
     compare "$name"
 }
+# What is said where a bit mends each pair, and where the same shape alone does.
+bit="to mend each: a bit before its slot, known in both and different; or the"
+own=("to mend each: a bit before its slot, known in both and different (in" "messages of their own); or the same shape from there on")
+shape="to mend each: the same shape from its slot on"
 
 # One item for a family does, also where its messages are few.
 for n in 2 4 5 32; do
     brief 'brief 1' "message page write 0x50 any*1..$n ;" 'message get write 0x50 any read 0x50 1 ;' \
         'message other read 0x48 1 ;' 'controller bmc page other ;' 'controller host other get ;'
     m=$((2 * (n + 1)))
-    advice "a family of $n" "$n of $m" "never bmc/page host/get ;" "(leaves $n of $m pairs unchecked)"
+    advice "a family of $n" "$n of $m" "$bit" "same shape from there on; or:" "never bmc/page host/get ;" "(leaves $n of $m pairs unchecked)"
 done
 # A controller that sends nothing but the family is named itself.
 brief 'brief 1' 'message page write 0x50 any*1..5 ;' 'message get write 0x50 any read 0x50 1 ;' \
     'message other read 0x48 1 ;' 'controller bmc page ;' 'controller host other get ;'
-advice "a controller of one family" "5 of 10" "never bmc host/get ;" "(leaves 5 of 10 pairs unchecked)"
+advice "a controller of one family" "5 of 10" "$bit" "same shape from there on; or:" "never bmc host/get ;" "(leaves 5 of 10 pairs unchecked)"
 # Two families: pairs of equal lengths are left out with the others where their labels are named.
 brief 'brief 1' 'message page write 0x50 any*1..3 ;' 'message other read 0x48 1 ;' 'controller bmc page other ;' \
     'controller host other page ;'
-advice "two families" "6 of 16" "never bmc/page host/page ;" "(leaves 9 of 16 pairs unchecked)"
+advice "two families" "6 of 16" "${own[0]}" "${own[1]}; or this, which" "leaves 9 of 16 pairs unchecked:" "never bmc/page host/page ;"
 # Of a family of which few clash these are named.
 brief 'brief 1' 'message page write 0x50 0x01 0x00*1..8 ;' 'message put write 0x50 0x01 0x00 0x00 0x01 ;' \
     'message other read 0x48 1 ;' 'controller bmc page other ;' 'controller host other put ;'
-advice "few messages of a family" "2 of 18" "never bmc/page_1 host/put ;" "never bmc/page_2 host/put ;" \
+advice "few messages of a family" "2 of 18" "$shape; or all of:" "never bmc/page_1 host/put ;" "never bmc/page_2 host/put ;" \
     "(leaves 2 of 18 pairs unchecked)"
 sed -i 's/^controller bmc .*/controller bmc page_1 page_2 page_7 other ;/' board.brief
-advice "two of three messages of a family" "2 of 8" "never bmc/page_1 host/put ;" "never bmc/page_2 host/put ;" \
+advice "two of three messages of a family" "2 of 8" "$shape; or all of:" "never bmc/page_1 host/put ;" "never bmc/page_2 host/put ;" \
     "(leaves 2 of 8 pairs unchecked)" "not checked: 5 messages that no controller lists: page_3 to page_6" \
     "(board.brief:2), page_8 (board.brief:2)"
 # A label stands for those of a family that the controller lists.
 brief 'brief 1' 'message page write 0x50 any*1..32 ;' 'message get write 0x50 any read 0x50 1 ;' \
     'message other read 0x48 1 ;' 'controller bmc page_1 page_2 page_3 page_4 page_5 page_9 other ;' \
     'controller host other get ;'
-advice "six messages of a family" "6 of 14" "never bmc/page host/get ;" "(leaves 6 of 14 pairs unchecked)" \
+advice "six messages of a family" "6 of 14" "$bit" "same shape from there on; or:" "never bmc/page host/get ;" "(leaves 6 of 14 pairs unchecked)" \
     "not checked: 26 messages that no controller lists: page_6 to page_8" \
     "(board.brief:2), page_10 to page_32 (board.brief:2)"
 # Messages of one line that have the names of a family are none.
 brief 'brief 1' 'message page_1 write 0x50 any ; message page_2 write 0x50 any any ;' \
     'message get write 0x50 any read 0x50 1 ; message other read 0x48 1 ;' 'controller bmc page_1 page_2 other ;' \
     'controller host other get ;'
-advice "no family" "2 of 6" "never bmc/page_1 host/get ;" "never bmc/page_2 host/get ;" \
+advice "no family" "2 of 6" "$bit" "same shape from there on; or all of:" "never bmc/page_1 host/get ;" "never bmc/page_2 host/get ;" \
     "(leaves 2 of 6 pairs unchecked)"
 # What a brief could not have is not named: a label whose part has the name of a controller.
 brief 'brief 1' 'message page write 0x50 any*1..5 ;' 'message get write 0x50 any read 0x50 1 ;' \
     'message other read 0x48 1 ;' 'controller bmc page other ;' 'controller bmc_page other ;' 'controller host other get ;'
-advice "a label whose name is taken" "5 of 20" "never bmc host ;" "(leaves 12 of 20 pairs unchecked)"
+advice "a label whose name is taken" "5 of 20" "$bit" "same shape from there on; or this, which leaves 12 of 20 pairs unchecked:" "never bmc host ;"
 # Eight items are named, and with more of them controllers.
 # writes COUNT: a board of so many single messages that clash with one.
 writes() {
@@ -808,41 +821,41 @@ writes() {
         "controller bmc other$listed ;" 'controller host get other ;'
 }
 writes 8
-advice "eight items" "8 of 18" "never bmc/a1 host/get ;" "never bmc/a2 host/get ;" "never bmc/a3 host/get ;" \
+advice "eight items" "8 of 18" "$shape; or all of:" "never bmc/a1 host/get ;" "never bmc/a2 host/get ;" "never bmc/a3 host/get ;" \
     "never bmc/a4 host/get ;" "never bmc/a5 host/get ;" "never bmc/a6 host/get ;" "never bmc/a7 host/get ;" \
     "never bmc/a8 host/get ;" "(leaves 8 of 18 pairs unchecked)"
 writes 9
-advice "nine items" "9 of 20" "never bmc host ;" "(leaves 20 of 20 pairs unchecked)"
+advice "nine items" "9 of 20" "$shape"
 # Messages that could be one family are told, with the items for it.
 pages() {
     brief 'brief 1' "message page1 write 0x50 $1 any ;" "message page2 write 0x50 $1 any*2 ;" \
-        "message page3 write 0x50 $1 any*3 ;" "message page4 write 0x50 $2 any*4 ;" "${@:3}" \
-        'controller bmc page1 page2 page3 page4 ;' 'controller pch page1 page2 page3 page4 ;'
+        "message page3 write 0x50 $1 any*3 ;" "message page4 write 0x50 $2 any*4 ;" 'message far read 0x40 1 ;' "${@:3}" \
+        'controller bmc page1 page2 page3 page4 far ;' 'controller pch page1 page2 page3 page4 far ;'
 }
 pages any any
-advice "messages that could be a family" "12 of 16" "never bmc pch ;" "(leaves 16 of 16 pairs unchecked)" \
-    "page1 to page4 could be written as one family (any*1..4). Then their pairs" "are kept apart by:" \
-    "never bmc/page pch/page ;"
+advice "messages that could be a family" "12 of 25" "${own[@]}" \
+    "page1 to page4 could be written as one family (any*1..4). Then their pairs" \
+    "are kept apart by this, which leaves 16 of 25 pairs unchecked:" "never bmc/page pch/page ;"
 # As it is said, that item mends them.
-brief 'brief 1' 'message page write 0x50 any any*1..4 ;' 'controller bmc page ;' 'controller pch page ;' \
-    'never bmc/page pch/page ;'
-want 0 "safe: 0 pairs" ""
+brief 'brief 1' 'message page write 0x50 any any*1..4 ;' 'message far read 0x40 1 ;' 'controller bmc page far ;' \
+    'controller pch page far ;' 'never bmc/page pch/page ;'
+want 0 "safe: 9 pairs" ""
 run "messages that are written as a family" check board.brief
 # Of three controllers each two have an item.
 pages any any 'controller seq page4 ;'
-advice "messages of three controllers that could be a family" "18 of 24" "never seq bmc ;" "never seq pch ;" \
-    "never bmc pch ;" "(leaves 24 of 24 pairs unchecked)" \
-    "page1 to page4 could be written as one family (any*1..4). Then their pairs" "are kept apart by all of:" \
+advice "messages of three controllers that could be a family" "18 of 35" "${own[@]}" \
+    "page1 to page4 could be written as one family (any*1..4). Then their pairs" \
+    "are kept apart by all of these, which leave 24 of 35 pairs unchecked:" \
     "never seq/page bmc/page ;" "never seq/page pch/page ;" "never bmc/page pch/page ;"
 # Known bytes before those that each has one more of; another one in the last message; and a name that is taken.
 pages "0x01 0x02" "0x01 0x02"
-advice "known bytes before those of a family" "12 of 16" "never bmc pch ;" "(leaves 16 of 16 pairs unchecked)" \
-    "page1 to page4 could be written as one family (any*1..4). Then their pairs" "are kept apart by:" \
-    "never bmc/page pch/page ;"
+advice "known bytes before those of a family" "12 of 25" "${own[@]}" \
+    "page1 to page4 could be written as one family (any*1..4). Then their pairs" \
+    "are kept apart by this, which leaves 16 of 25 pairs unchecked:" "never bmc/page pch/page ;"
 pages 0x01 0b0000000x
-advice "a message that is no part of a family" "12 of 16" "never bmc pch ;" "(leaves 16 of 16 pairs unchecked)"
+advice "a message that is no part of a family" "12 of 25" "${own[@]}"
 pages any any 'message page write 0x51 ;' 'controller seq page ;'
-advice "a family whose name is taken" "12 of 24" "never bmc pch ;" "(leaves 16 of 24 pairs unchecked)"
+advice "a family whose name is taken" "12 of 35" "${own[0]}" "${own[1]}; or this, which" "leaves 25 of 35 pairs unchecked:" "never bmc pch ;"
 # Single messages of a family have items of their own as far as there is room for them.
 # families COUNT: so many single messages and a family of which all clash with one message, and two with another.
 families() {
@@ -851,11 +864,11 @@ families() {
         -e 's/^\(controller bmc .*\) ;/\1 page ;/; s/^controller host get/& put/' board.brief
 }
 families 5
-advice "seven clashes" "15 of 42" "never bmc/a1 host/get ;" "never bmc/a2 host/get ;" "never bmc/a3 host/get ;" \
+advice "seven clashes" "15 of 42" "$shape; or all of:" "never bmc/a1 host/get ;" "never bmc/a2 host/get ;" "never bmc/a3 host/get ;" \
     "never bmc/a4 host/get ;" "never bmc/a5 host/get ;" "never bmc/page host/get ;" "never bmc/page_1 host/put ;" \
     "never bmc/page_2 host/put ;" "(leaves 15 of 42 pairs unchecked)"
 families 6
-advice "eight clashes" "16 of 45" "never bmc/a1 host/get ;" "never bmc/a2 host/get ;" "never bmc/a3 host/get ;" \
+advice "eight clashes" "16 of 45" "$shape; or all of:" "never bmc/a1 host/get ;" "never bmc/a2 host/get ;" "never bmc/a3 host/get ;" \
     "never bmc/a4 host/get ;" "never bmc/a5 host/get ;" "never bmc/a6 host/get ;" "never bmc/page host/get ;" \
     "never bmc/page host/put ;" "(leaves 22 of 45 pairs unchecked)"
 
@@ -865,7 +878,7 @@ brief 'brief 1' 'device sensor 0x48 ;' 'message get read sensor 1 ;' 'controller
 want 1 "pair 0 a/get !al: answer against claim after 10010001
 pair 1 a/get !second: answer against claim after 10010001
 pair 2 !al !second: claim against claim after 10010001
-    group 0, as pair 0:
+    group 0, pair 0:
     bus    S 48 Rd
     a/get  S 48 Rd          next: a target's bit
     !al    S 48 Rd (waits)  next: a wait for the answer
@@ -873,7 +886,7 @@ pair 2 !al !second: claim against claim after 10010001
     answer. Both send alike until here.
     see board.brief:3 and board.brief:6
     a/get × !al: 1 pair, an interrupt has the same header
-    group 1, as pair 1:
+    group 1, pair 1:
     bus      S 48 Rd
     a/get    S 48 Rd          next: a target's bit
     !second  S 48 Rd (waits)  next: a wait for the answer
@@ -881,7 +894,7 @@ pair 2 !al !second: claim against claim after 10010001
     answer. Both send alike until here.
     see board.brief:3 and board.brief:6
     a/get × !second: 1 pair, an interrupt has the same header
-    group 2, as pair 2:
+    group 2, pair 2:
     bus      S 48 Rd
     !al      S 48 Rd (waits)  next: a wait for the answer
     !second  S 48 Rd (waits)  next: a wait for the answer
@@ -890,8 +903,7 @@ pair 2 !al !second: claim against claim after 10010001
     see board.brief:6
     !al × !second: 1 pair, an interrupt has the same header
 unsafe: 3 of 3 pairs
-    to mend each: a bit before its slot, known in both and different
-    no shape and no 'never' mends a pair with an interrupt: pair 0 pair 1 pair 2" ""
+    only another header mends a pair with an interrupt: pair 0, pair 1, pair 2" ""
 run "interrupts of a brief" check --explain board.brief
 
 # Several files.
@@ -899,7 +911,7 @@ printf '%s\n' 'brief 1' 'message set write 0x48 0x01 any ;' 'message get write 0
     'controller bmc set ;' >first.brief
 printf '%s\n' 'brief 1' '' 'controller pch get ;' >second.brief
 want 1 "pair 0 bmc/set pch/get: data against restart after 10010000l00000001l
-    group 0, as pair 0:
+    group 0, pair 0:
     bus      S 48 Wr A 01 A
     bmc/set  S 48 Wr A 01 A xxxxxxxx  next: a data bit
     pch/get  S 48 Wr A 01 A Sr        next: a repeated START
@@ -908,10 +920,7 @@ want 1 "pair 0 bmc/set pch/get: data against restart after 10010000l00000001l
     see <stdin>:2 and <stdin>:3
     bmc/set × pch/get: 1 pair, one goes on, one repeats START
 unsafe: 1 of 1 pairs
-    to mend it: a bit before that slot, known in both and different; or the same
-    shape from there on; or:
-    never bmc pch ;
-    (leaves 1 of 1 pair unchecked)" ""
+    to mend it: the same shape from that slot on" ""
 run "the first file is standard input" check --explain - --with second.brief <first.brief
 sed -i '/^message get/d' first.brief
 sed -i '2s/.*/message get write 0x48 0x01 read 0x48 1 ;/' second.brief
@@ -1056,7 +1065,7 @@ total !sensor: wins 0, may win 0, loses 3
 total !keypad: wins 3, may win 0, loses 0" ""
 run "interrupts, each by itself" order --explain "$examples/interrupts.plan"
 plan 'plan 1' 'message m write 1001000 00000001 stop else stop else stop ;' 'controller a m ;' 'controller b m ;'
-want 0 "    a × b: 1 pair; both end alike 1
+want 0 "    a × b: 1 pair; both always end together 1
 $frequency
 pair 0 a/m b/m: both 9..18" ""
 run "nobody wins" order --explain p.plan
@@ -1089,7 +1098,7 @@ summed "ten messages that never win" 0 "bmc × pch: 11 pairs; bmc wins 1, pch wi
 brief 'brief 1' 'message low read 0x40 1 ;' 'message mid read 0x48 1 ;' 'message high read 0x50 1 ;' 'controller a low high ;' \
     'controller b mid ;' 'controller c high ;'
 summed "three controllers" 0 "a × b: 2 pairs; a wins 1, b wins 1" "a/high never wins against b" \
-    "a × c: 2 pairs; a wins 1, both end alike 1" "c never wins against a" "b × c: 1 pair; b wins 1" \
+    "a × c: 2 pairs; a wins 1, both always end together 1" "c never wins against a" "b × c: 1 pair; b wins 1" \
     "c never wins against b" "a/high, c/high wait in each pair that somebody wins"
 alike "who wins among three controllers" order board.brief
 
@@ -1148,16 +1157,14 @@ meets="    bus  S 48 Wr A .. 253 bytes alike .. 00 A
     and 248 more
     see board.brief:2 and board.brief:3
     $left/$one ×"
-told "the longest that clash, by check" "    group 0, as pair 0:
+told "the longest that clash, by check" "    group 0, pair 0:
 $meets
     $right/$other: 1 pair,
     lengths differ
     to mend it: a bit in slot 9..16, 18..25, 27..34, 36..43, 45..52, 54..61 and
     248 more, known in both and different
     to mend it: a bit before that slot, known in both and different; or the same
-    shape from there on; or:
-    never $left $right ;
-    (leaves 1 of 1 pair unchecked)" check board.brief
+    shape from there on" check board.brief
 meets="    pair 0:
 $meets
     $right/$other: lengths
@@ -1221,7 +1228,7 @@ told "the longest that nobody explains" "    bus  S 48 Wr A .. 17 bytes alike ..
 brief 'brief 1' 'message short write 0x50 any*3 ;' 'message long write 0x50 any*8 ;' 'controller bmc short ;' \
     'controller host long ;'
 want 1 "pair 0 bmc/short host/long: stop against data after 10100000l00000000l00000000l00000000l
-    group 0, as pair 0:
+    group 0, pair 0:
     bus        S 50 Wr A .. 3 bytes alike ..
     bmc/short  S 50 Wr A .. 3 bytes alike .. P         next: a STOP
     host/long  S 50 Wr A .. 3 bytes alike .. xxxxxxxx  next: a data bit
@@ -1233,9 +1240,7 @@ want 1 "pair 0 bmc/short host/long: stop against data after 10100000l00000000l00
     to mend it: a bit in slot 9..16, 18..25, 27..34, known in both and different
 unsafe: 1 of 1 pairs
     to mend it: a bit before that slot, known in both and different; or the same
-    shape from there on; or:
-    never bmc host ;
-    (leaves 1 of 1 pair unchecked)" ""
+    shape from there on" ""
 run "a row that is too long" check --explain board.brief
 # Bytes that are known in one of them: the same ones are left out of it, though it would have room for more.
 brief 'brief 1' 'message short write 0x50 0x01*6 read 0x50 1 ;' 'message long write 0x50 any*9 ;' 'controller bmc short ;' \

@@ -432,6 +432,48 @@ for words in "check bad_plan" "certify bad_plan" "verify bad_plan cert" "capture
 done
 unwritten "bench of an unknown starter, standard output closed" "refused B2" bench plan cert q >&-
 
+# ---- owners
+
+# owned WANTED FILE: its owner, group and mode.
+owned() {
+    local found
+    found=$(stat -c '%u:%g %a' "$2")
+    [[ $found == "$1" ]] && return
+    failed=$((failed + 1))
+    echo "FAILED: $name: wanted $1, found $found"
+}
+
+# Who may give files away gives the new file to whom the old one was of; else it runs as nobody else. A shared file, in a folder
+# in which everybody may write, is replaced by another user.
+if ((EUID == 0)); then
+    for mode in 640 6755; do
+        printf 'brief 1\n\ndevice  a 0x48 ;\n' >theirs
+        chown 65534:65533 theirs && chmod "$mode" theirs
+        name="in place of another's file, mode $mode"
+        expect "$name" 0 "" "" format --in-place theirs
+        owned "65534:65533 $mode" theirs
+        name="in place of another's certificate, mode $mode"
+        expect "$name" 0 "" "" certify plan -o theirs
+        owned "65534:65533 $mode" theirs
+    done
+    mkdir shared && chmod 777 shared && chmod 755 .
+    as_nobody=(setpriv --reuid 65534 --regid 65534 --clear-groups)
+    if "${as_nobody[@]}" "$twire" --version >/dev/null 2>&1; then
+        # (of a file that another user than root writes the system takes these bits itself)
+        for before in 0:0 65534:0 0:65534 65534:65534; do
+            printf 'brief 1\n\ndevice  a 0x48 ;\n' >shared/ours
+            chown "$before" shared/ours && chmod 6777 shared/ours
+            "${as_nobody[@]}" "$twire" format --in-place shared/ours >out 2>err
+            status=$?
+            name="in place as another user, of $before"
+            judge "$name" 0 "" ""
+            owned "65534:65534 777" shared/ours
+        done
+    else
+        echo "left out: files in place as another user (setpriv is missing, or the program is not for all)"
+    fi
+fi
+
 # A report longer than a pipe holds, which is read late, while the run is stopped and goes on.
 "$tests/../tools/dump" 100100000 4000 >long
 bounded capture plan long >report

@@ -121,12 +121,12 @@ dump=$examples/stop_meets_data.vcd
 run "an unsafe plan" 1 '{"kind":"pair","pair":0,"participants":["main/write_output","service/probe_10"],"meet":["data","stop"],"after":"00100000l"}
 {"kind":"plan","safe":false,"pairs":2,"unsafe_pairs":1}' "" check --format json "$stop"
 run "an unsafe plan, explained" 1 '{"kind":"pair","pair":0,"participants":["main/write_output","service/probe_10"],"meet":["data","stop"],"after":"00100000l","group":0}
-{"kind":"group","group":0,"pairs":1,"between":[["main/write_output","service/probe_10"]],"frame":0,"part":"data","example":{"pair":0,"participants":["main/write_output","service/probe_10"],"meet":["data","stop"],"after":"00100000l","explain":{"slot":9,"rule":"UM10204 3.1.8","bus":"S 10 Wr A","bytes":["S 10 Wr A xxxxxxxx","S 10 Wr A P"],"open":[[],[]]}},"explain":{"parting":[],"shape":true,"never":[["main","service"]],"unchecked":2}}
-{"kind":"plan","safe":false,"pairs":2,"unsafe_pairs":1,"explain":{"explained":1,"groups":1,"never":[["main","service"]],"unchecked":2,"interrupts":[],"unsent":[],"kept_apart":0}}' \
+{"kind":"group","group":0,"pairs":1,"between":[["main/write_output","service/probe_10"]],"frame":0,"part":"data","example":{"pair":0,"participants":["main/write_output","service/probe_10"],"meet":["data","stop"],"after":"00100000l","explain":{"slot":9,"rule":"UM10204 3.1.8","bus":"S 10 Wr A","bytes":["S 10 Wr A xxxxxxxx","S 10 Wr A P"],"open":[[],[]]}},"explain":{"parting":[],"shape":true,"never":[],"unchecked":0}}
+{"kind":"plan","safe":false,"pairs":2,"unsafe_pairs":1,"explain":{"explained":1,"groups":1,"never":[],"unchecked":0,"interrupts":[],"unsent":[],"kept_apart":0}}' \
     "" --format json check --explain "$stop"
 run "open bits before a fault" 1 '{"kind":"pair","pair":0,"participants":["main/read_register","guard/set_register"],"meet":["restart","stop"],"after":"10010000l00000010l","group":0}
-{"kind":"group","group":0,"pairs":1,"between":[["main/read_register","guard/set_register"]],"frame":0,"part":"data","byte":2,"example":{"pair":0,"participants":["main/read_register","guard/set_register"],"meet":["restart","stop"],"after":"10010000l00000010l","explain":{"slot":18,"rule":"UM10204 3.1.8","bus":"S 48 Wr A 02 A","bytes":["S 48 Wr A 000000xx A Sr","S 48 Wr A 0000001x A P"],"open":[[[15,16]],[[16,16]]]}},"explain":{"parting":[],"shape":false,"never":[["main","guard"]],"unchecked":2}}
-{"kind":"plan","safe":false,"pairs":2,"unsafe_pairs":1,"explain":{"explained":1,"groups":1,"never":[["main","guard"]],"unchecked":2,"interrupts":[],"unsent":[],"kept_apart":0}}' \
+{"kind":"group","group":0,"pairs":1,"between":[["main/read_register","guard/set_register"]],"frame":0,"part":"data","byte":2,"example":{"pair":0,"participants":["main/read_register","guard/set_register"],"meet":["restart","stop"],"after":"10010000l00000010l","explain":{"slot":18,"rule":"UM10204 3.1.8","bus":"S 48 Wr A 02 A","bytes":["S 48 Wr A 000000xx A Sr","S 48 Wr A 0000001x A P"],"open":[[[15,16]],[[16,16]]]}},"explain":{"parting":[],"shape":false,"never":[],"unchecked":0}}
+{"kind":"plan","safe":false,"pairs":2,"unsafe_pairs":1,"explain":{"explained":1,"groups":1,"never":[],"unchecked":0,"interrupts":[],"unsent":[],"kept_apart":0}}' \
     "" check --format json --explain "$examples/restart_meets_stop.plan"
 cat >p.plan <<'PLAN'
 plan 2
@@ -139,16 +139,16 @@ controller c p ;
 interrupt al 0010000 ;
 never b c ;
 PLAN
-pairs='{"kind":"pair","pair":0,"participants":["a/w","b/p"],"meet":["data","stop"],"after":"10010000l","group":1}
-{"kind":"pair","pair":2,"participants":["a/w","c/p"],"meet":["data","stop"],"after":"10010000l","group":1}
-{"kind":"pair","pair":5,"participants":["b/q","!al"],"meet":["answer","claim"],"after":"00100001","group":0}'
-answer='{"kind":"group","group":0,"pairs":1,"between":[["b/q","!al"]],"frame":0,"part":"header","example":{"pair":5,"participants":["b/q","!al"],"meet":["answer","claim"],"after":"00100001","explain":{"slot":8,"rule":"interrupts","bus":"S 10 Rd","bytes":["S 10 Rd","S 10 Rd (waits)"],"open":[[],[]]}},"explain":{"parting":[],"shape":false,"never":[],"unchecked":0}}'
-data='{"kind":"group","group":1,"pairs":2,"between":[["a/w","b/p"],["a/w","c/p"]],"frame":0,"part":"data","byte":1,"example":{"pair":0,"participants":["a/w","b/p"],"meet":["data","stop"],"after":"10010000l"'
-groups=$answer$'\n'$data',"explain":{"slot":9,"rule":"UM10204 3.1.8","bus":"S 48 Wr A","bytes":["S 48 Wr A 01","S 48 Wr A P"],"open":[[],[]]}},"explain":{"parting":[],"shape":true,"never":[["a","b"],["a","c"]],"unchecked":3}}
+pairs='{"kind":"pair","pair":0,"participants":["a/w","b/p"],"meet":["data","stop"],"after":"10010000l","group":0}
+{"kind":"pair","pair":2,"participants":["a/w","c/p"],"meet":["data","stop"],"after":"10010000l","group":0}
+{"kind":"pair","pair":5,"participants":["b/q","!al"],"meet":["answer","claim"],"after":"00100001","group":1}'
+data='{"kind":"group","group":0,"pairs":2,"between":[["a/w","b/p"],["a/w","c/p"]],"frame":0,"part":"data","byte":1,"example":{"pair":0,"participants":["a/w","b/p"],"meet":["data","stop"],"after":"10010000l","explain":{"slot":9,"rule":"UM10204 3.1.8","bus":"S 48 Wr A","bytes":["S 48 Wr A 01","S 48 Wr A P"],"open":[[],[]]}},"explain":{"parting":[],"shape":true,"never":[["a","b"],["a","c"]],"unchecked":3}}'
+answer='{"kind":"group","group":1,"pairs":1,"between":[["b/q","!al"]],"frame":0,"part":"header","example":{"pair":5,"participants":["b/q","!al"],"meet":["answer","claim"],"after":"00100001"'
+groups=$data$'\n'$answer',"explain":{"slot":8,"rule":"interrupts","bus":"S 10 Rd","bytes":["S 10 Rd","S 10 Rd (waits)"],"open":[[],[]]}},"explain":{"parting":[],"shape":false,"never":[],"unchecked":0}}
 {"kind":"plan","safe":false,"pairs":7,"unsafe_pairs":3,"explain":{"explained":2,"groups":2,"never":[["a","b"],["a","c"]],"unchecked":3,"interrupts":[5],"unsent":[],"kept_apart":2}}'
 run "a pair with an interrupt, and pairs that are kept apart" 1 "$pairs"$'\n'"$groups" "" check --format json --explain p.plan
 run "groups alone" 1 "$groups" "" check --format json --summary p.plan
-run "one of two groups is explained" 1 "$pairs"$'\n'"$answer"$'\n'"$data"'}}
+run "one of two groups is explained" 1 "$pairs"$'\n'"$data"$'\n'"$answer"'}}
 {"kind":"plan","safe":false,"pairs":7,"unsafe_pairs":3,"explain":{"explained":1,"groups":2,"never":[["a","b"],["a","c"]],"unchecked":3,"interrupts":[5],"unsent":[],"kept_apart":2}}' \
     "" check --format json --explain --most 1 p.plan
 run "a safe plan" 0 '{"kind":"plan","safe":true,"pairs":2,"unsafe_pairs":0}' "" check --format=json "$two"
@@ -169,7 +169,7 @@ printf '%s\n' 'brief 1' 'message m write 0x48 ;' 'message spare write 0x48 ;' 'm
 "$twire" check --format json --summary --most 0 b.brief 2>err | tail -n 1 >out
 echo "${PIPESTATUS[0]}" >status
 echo 1 >want_status
-echo '{"kind":"plan","safe":false,"pairs":1,"unsafe_pairs":1,"explain":{"explained":0,"groups":1,"never":[["a","b"]],"unchecked":1,"interrupts":[],"unsent":["spare"],"kept_apart":0}}' >want_out
+echo '{"kind":"plan","safe":false,"pairs":1,"unsafe_pairs":1,"explain":{"explained":0,"groups":1,"never":[],"unchecked":0,"interrupts":[],"unsent":["spare"],"kept_apart":0}}' >want_out
 : >want_err
 compare "an unsafe plan with a message in no controller, explained"
 run "a safe plan, explained" 0 '{"kind":"plan","safe":true,"pairs":2,"unsafe_pairs":0,"explain":{"decided":{"header":0,"later":1,"read":0,"alike":1},"unsent":[],"kept_apart":0}}' \
@@ -200,9 +200,9 @@ printf 'cert 1\nfault 2 10010000l data stop\n' >wrong.cert
 run "a fault of a pair that there is not, explained" 2 '{"kind":"certificate","accepted":false,"code":"C5","pair":2}' "" \
     verify --format json --explain "$two" wrong.cert
 printf 'cert 2\n' >wrong.cert
-run "a certificate of another form" 2 '{"kind":"certificate","accepted":false,"code":"C1","line":1,"column":1,"expected":"version"}' "" \
+run "a certificate of another form" 2 '{"kind":"certificate","accepted":false,"code":"C1","line":1,"column":1,"expected":"version","reason":"a plan begins with '"'"'plan 1'"'"', or with '"'"'plan 2'"'"' where it has ranges of counts or '"'"'never'"'"'"}' "" \
     verify --format json "$two" wrong.cert
-run "a certificate of another form, explained" 2 '{"kind":"certificate","accepted":false,"code":"C1","line":1,"column":1,"expected":"version"}' "" \
+run "a certificate of another form, explained" 2 '{"kind":"certificate","accepted":false,"code":"C1","line":1,"column":1,"expected":"version","reason":"a plan begins with '"'"'plan 1'"'"', or with '"'"'plan 2'"'"' where it has ranges of counts or '"'"'never'"'"'"}' "" \
     verify --format json --explain "$two" wrong.cert
 pairs='{"kind":"order","pair":0,"participants":["main/write_settings","guard/write_alarm"],"both":[9,27],"first":[21,25],"second":[19,25]}
 {"kind":"order","pair":1,"participants":["main/write_limit","guard/write_alarm"],"both":[9,9],"second":[15,15]}
@@ -269,9 +269,9 @@ run "no transaction behind it is counted" 1 '{"kind":"participant","participant"
 {"kind":"count","what":"unfinished","transactions":0}
 {"kind":"transactions","transactions":1,"unexplained":1}' "" capture --format json --stop-at-unexplained --summary "$two" odd.vcd
 run "a refused dump" 2 "" \
-    "{\"kind\":\"refusal\",\"code\":\"V3\",\"line\":2,\"byte\":$((${#lines} + 4)),\"column\":4,\"expected\":\"change\"}" \
+    "{\"kind\":\"refusal\",\"code\":\"V3\",\"line\":2,\"byte\":$((${#lines} + 4)),\"column\":4,\"expected\":\"change\",\"reason\":\"the last time was 5, and times never go back\"}" \
     decode --format json - <<<"$lines"$'\n#5 #4'
-run "a dump with something open" 2 "" '{"kind":"refusal","code":"V4","line":2,"open":"block"}' \
+run "a dump with something open" 2 "" '{"kind":"refusal","code":"V4","line":2,"open":"block","reason":"this block of value changes goes on to the end of the file: its '"'"'$end'"'"' is missing"}' \
     decode --format json - <<<"$lines"$'\n$dumpvars 0!'
 run "a rehearsal" 0 '{"kind":"wire","wire":"10010000l00000001l00100000ls"}
 {"kind":"won","participants":["guard/write_alarm"]}' "" \
@@ -370,33 +370,37 @@ run "signals from a time on" 0 '{"kind":"signal","code":"!","changes":0,"scope":
 {"kind":"signal","code":"&","changes":6,"scope":"board.i2c1","name":"sda"}
 {"kind":"bus","transactions":1,"scl_code":"%","sda_code":"&"}
 {"kind":"signals","signals":4,"buses":1}' "" signals --format json --min-pulse 2us --from 165us "$examples/two_buses.vcd"
-run "signals, and times that the dump does not count" 2 "" '{"kind":"refusal","code":"timescale"}' signals --format json --to 1us d.vcd
+run "signals, and times that the dump does not count" 2 "" '{"kind":"refusal","code":"timescale","reason":"the capture does not say what its times count: it has no $timescale"}' signals --format json --to 1us d.vcd
 
-run "refusals: a code with a place" 2 "" '{"kind":"refusal","code":"P2","line":1,"byte":5,"column":6,"expected":"version"}' \
+run "refusals: a code with a place" 2 "" '{"kind":"refusal","code":"P2","line":1,"byte":5,"column":6,"expected":"version","reason":"a plan begins with '"'"'plan 1'"'"', or with '"'"'plan 2'"'"' where it has ranges of counts or '"'"'never'"'"'"}' \
     check --format json - <<<'plan 3'
-run "refusals: a place below others" 2 "" '{"kind":"refusal","code":"P3","line":3,"byte":41,"column":18,"expected":"count"}' \
+run "refusals: a place below others" 2 "" '{"kind":"refusal","code":"P3","line":3,"byte":41,"column":18,"expected":"count","reason":"expected here: a count from 1 to 255 or two of them as '"'"'2..4'"'"'"}' \
     expand --format json --hints never - <<<$'brief 1\ndevice d 0x50 ;\nmessage m read d x ;'
-run "refusals: a place where nothing else could stand" 2 "" '{"kind":"refusal","code":"P1","line":2,"byte":9,"column":3}' \
+run "refusals: a place where nothing else could stand" 2 "" '{"kind":"refusal","code":"P1","line":2,"byte":9,"column":3,"reason":"a plan is ASCII, in its comments too"}' \
     check --format json --hints never - <<<$'plan 1\n# \xc3\xa9'
-run "refusals: a code with a signal" 2 "" '{"kind":"refusal","code":"V1","signal":"scl"}' \
+run "refusals: a code with a signal" 2 "" '{"kind":"refusal","code":"V1","signal":"scl","reason":"no signal of one bit has the name '"'"'nothing'"'"'"}' \
     capture --format json --scl nothing "$two" "$dump"
-run "refusals: a code with a label" 2 "" '{"kind":"refusal","code":"B2","label":"nobody"}' bench --format json --certify "$two" nobody
-run "refusals: a code" 2 "" '{"kind":"refusal","code":"B3"}' \
+run "refusals: a code with a label" 2 "" '{"kind":"refusal","code":"B2","label":"nobody","reason":"no participant of the plan has the label '"'"'nobody'"'"'"}' bench --format json --certify "$two" nobody
+run "refusals: a code" 2 "" '{"kind":"refusal","code":"B3","reason":"'"'"'main/write_settings'"'"' and '"'"'main/write_limit'"'"' are of one controller"}' \
     bench --format json --certify "$two" main/write_settings,main/write_limit,nobody
-run "refusals: a file" 2 "" '{"kind":"refusal","code":"read","file":"missing.plan"}' check --format json missing.plan
-run "refusals: a name that stands already" 2 "" '{"kind":"refusal","code":"P7","line":3,"byte":31,"column":8,"expected":"name","earlier":{"line":2}}' \
+run "refusals: a file" 2 "" '{"kind":"refusal","code":"read","file":"missing.plan","reason":"no such file"}' check --format json missing.plan
+run "refusals: a name that stands already" 2 "" '{"kind":"refusal","code":"P7","line":3,"byte":31,"column":8,"expected":"name","earlier":{"line":2},"reason":"'"'"'d'"'"': an earlier device has this name, on line 2"}' \
     expand --format json --hints never - <<<$'brief 1\ndevice d 0x50 ;\ndevice d 0x51 ;'
 printf '%s\n' 'brief 1' 'device d 0x50 ;' >first.brief
-run "refusals: one of two files has it" 2 "" '{"kind":"refusal","code":"P7","line":2,"file":"-","byte":15,"column":8,"expected":"name","earlier":{"file":"first.brief","line":2}}' \
+run "refusals: one of two files has it" 2 "" '{"kind":"refusal","code":"P7","line":2,"file":"-","byte":15,"column":8,"expected":"name","earlier":{"file":"first.brief","line":2},"reason":"'"'"'d'"'"': an earlier device has this name, on line 2 of \"first.brief\""}' \
     expand --format json --hints never first.brief - <<<$'brief 1\ndevice d 0x51 ;'
-run "refusals: no semicolon" 2 "" '{"kind":"refusal","code":"P3","line":4,"byte":35,"column":1,"expected":"byte or further","after_line":2,"after_column":26}' \
+run "refusals: no semicolon" 2 "" '{"kind":"refusal","code":"P3","line":4,"byte":35,"column":1,"expected":"semicolon","after_line":2,"after_column":26,"reason":"'"'"';'"'"' is missing here, after '"'"'0x01'"'"': the next item begins on line 4"}' \
     expand --format json --hints never - <<<$'brief 1\nmessage m write 0x50 0x01\n\ndevice d 0x51 ;'
-run "refusals: a word" 2 "" '{"kind":"refusal","code":"workers"}' check --format json --workers 9 "$two"
-run "refusals: two words" 2 "" '{"kind":"refusal","code":"brief name"}' brief --format json - <<<'plan 1 controller brief ;'
-run "refusals and hints" 2 "" '{"kind":"refusal","code":"workers"}
+run "refusals: no semicolon, on one line" 2 "" '{"kind":"refusal","code":"P3","line":2,"byte":34,"column":27,"expected":"semicolon","after_line":2,"after_column":26,"reason":"'"'"';'"'"' is missing here"}' \
+    expand --format json --hints never - <<<$'brief 1\nmessage m write 0x50 0x01 device d 0x51 ;'
+run "refusals: no semicolon at the end" 2 "" '{"kind":"refusal","code":"P3","line":3,"byte":34,"column":1,"expected":"semicolon","after_line":2,"after_column":26,"reason":"'"'"';'"'"' is missing here, after '"'"'0x01'"'"': the text ends on line 3"}' \
+    expand --format json --hints never - <<<$'brief 1\nmessage m write 0x50 0x01'
+run "refusals: a word" 2 "" '{"kind":"refusal","code":"workers","reason":"'"'"'--workers'"'"' takes 1 to 8"}' check --format json --workers 9 "$two"
+run "refusals: two words" 2 "" '{"kind":"refusal","code":"brief name","reason":"the plan has the name '"'"'brief'"'"', which is a word of briefs"}' brief --format json - <<<'plan 1 controller brief ;'
+run "refusals and hints" 2 "" '{"kind":"refusal","code":"workers","reason":"'"'"'--workers'"'"' takes 1 to 8"}
 {"kind":"hint","form":"sentence","text":"'"'"'--workers'"'"' takes 1 to 8"}' check --format json --hints always --workers 9 "$two"
 printf 'plan 2\nmessage m read 1001000 256 stop else stop ;' >p.plan
-run "a hint that has more than 80 columns as a line is one object" 2 "" '{"kind":"refusal","code":"P4","line":2,"byte":30,"column":24,"expected":"count"}
+run "a hint that has more than 80 columns as a line is one object" 2 "" '{"kind":"refusal","code":"P4","line":2,"byte":30,"column":24,"expected":"count","reason":"a count is a number from 1 to 255, or two of them as '"'"'2..4'"'"', the smaller first"}
 {"kind":"hint","form":"sentence","text":"line 2 of the plan:"}
 {"kind":"hint","form":"line","text":"message m read 1001000 256 stop else stop ;"}
 {"kind":"hint","form":"marks","text":"                       ^^^"}
@@ -432,7 +436,7 @@ if [[ -w /dev/full ]]; then
     "$twire" check --format json --hints never "$two" >/dev/full 2>err
     echo "$?" >out
     cat err >>out
-    printf '%s\n' 2 '{"kind":"refusal","code":"write"}' >want_out
+    printf '%s\n' 2 '{"kind":"refusal","code":"write","reason":"standard output did not take the whole report: No space left on device (os error 28)"}' >want_out
     if cmp -s want_out out; then passed=$((passed + 1)); else
         failed=$((failed + 1))
         echo "FAILED: a full device"

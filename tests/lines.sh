@@ -279,11 +279,11 @@ shared='brief 1
 # seen: 2 transactions, 2 messages
 
 # 1 times, first at 5: S 48 Wr A 0f A P
-# never seen: 48 Wr NA, 0x0f NA,
+# never seen: 48 Wr NA, 0x0f NA
 message write_48_r0f write 0x48 0x0f ;
 
 # 1 times, first at 300: S 48 Wr A 33 A P
-# never seen: 48 Wr NA, 0x33 NA,
+# never seen: 48 Wr NA, 0x33 NA
 message write_48_r33 write 0x48 0x33 ;
 
 controller a write_48_r0f ;
@@ -302,7 +302,7 @@ expect "a message of both" 0 'brief 1
 # seen: 2 transactions, 1 messages
 
 # 2 times, first at 5: S 48 Wr A 0f A P
-# never seen: 48 Wr NA, 0x0f NA,
+# never seen: 48 Wr NA, 0x0f NA
 message write_48_r0f write 0x48 0x0f ;
 
 controller a write_48_r0f ;
@@ -319,11 +319,11 @@ expect "no message has what only another one sent" 0 'brief 1
 # seen: 2 transactions, 2 messages
 
 # 1 times, first at 5: S 48 Wr A 33 A P
-# never seen: 48 Wr NA, 0x33 NA,
+# never seen: 48 Wr NA, 0x33 NA
 message write_48_r33 write 0x48 0x33 ;
 
 # 1 times, first at 300: S 48 Wr NA P
-# never seen: 48 Wr A,
+# never seen: 48 Wr A
 message write_48 write 0x48 ;
 
 controller a write_48 ;
@@ -351,7 +351,7 @@ expect "a controller that the brief has" 0 'brief 1
 # 1 transactions are those of messages in known.brief
 
 # 1 times, first at 5: S 48 Wr A 0f A P
-# never seen: 48 Wr NA, 0x0f NA,
+# never seen: 48 Wr NA, 0x0f NA
 message write_48_r0f write sensor 0x0f ;
 
 # before a check, put these into a of known.brief
@@ -377,6 +377,32 @@ expect "a line that pulls at the other level" 2 "" "refused drives a
 hint: 'oa' pulls SDA LOW in a slot in which SDA is HIGH, so it is another line,
 hint: or pulls at the other level: --pulls 1 is for lines that pull where they
 hint: are 1, and --pulls 0 for those that pull where they are 0" learn arbitrated "${both[@]}" --pulls 1 --hints always
+# a probes alone, and nobody acknowledges: SDA has what a pulls, and nothing else.
+{ heads; drove "${header}1" "${rest}1" 111111111 Aa; } >alone
+alike="hint: 'oa' does in each slot what SDA does, and no target pulled SDA: what a
+hint: pulls cannot be told apart from the bus itself here"
+expect "a controller alone, without targets" 0 "5-160 a/low b/high
+    a starts, and goes on to the end
+    who drove: in 1 transactions as the rules of the plan give, not in 0; others
+    sent 0
+1 transactions, 0 unexplained" "$alike" capture two.brief alone "${both[@]}" --hints always
+expect "the same, learned" 0 'brief 1
+# seen: 1 transactions, 1 messages
+
+# 1 times, first at 5: S 48 Wr NA P
+# never seen: 48 Wr A
+message write_48 write 0x48 ;
+
+controller a write_48 ;' "$alike" learn alone "${both[@]}" --hints always
+# oa has what SDA has, the acknowledge too, but SDA is still LOW where it is released before the STOP.
+{ heads; drove "${header}0" "${rest}1" 111111111 a; } >let_go
+expect "a line that is released before a STOP is not SDA" 1 "5-160 unexplained
+    a starts, and in slot 8 pulls SDA, which no message of it does there:
+    against the plan
+    b does not start, but pulls SDA in slot 9: against the rules
+    who drove: in 0 transactions as the rules of the plan give, not in 1; others
+    sent 0
+1 transactions, 1 unexplained" "" capture two.brief let_go "${both[@]}"
 expect "a lesson by a line that is SDA" 2 "" "refused drives b" learn arbitrated --drives a=oa --drives b=sda
 expect "a controller that the plan does not have" 2 "" "refused drives c
 hint: the plan has no controller 'c'; it has
@@ -384,10 +410,12 @@ hint:   a
 hint:   b" capture two.brief arbitrated --drives c=oa --hints always
 expect "a controller that no brief has" 2 "" "refused drives 1a" learn arbitrated --drives 1a=oa
 expect "a controller with a word of briefs" 2 "" "refused drives device" learn arbitrated --drives device=oa
-expect "a refusal as an object" 2 "" '{"kind":"refusal","code":"drives","controller":"c"}' \
+expect "a refusal as an object" 2 "" '{"kind":"refusal","code":"drives","controller":"c","reason":"the plan has no controller '"'"'c'"'"'; it has a, b"}' \
     capture two.brief arbitrated --drives c=oa --format json
 refuses "no line" "'--drives' takes NAME=WHERE, as bmc=top.bmc.sda_o" learn arbitrated --drives a=
 refuses "no equals sign" "'--drives' takes NAME=WHERE, as bmc=top.bmc.sda_o" capture plan arbitrated --drives oa
+refuses "a level of no line" "the following required arguments were not provided:" capture plan arbitrated --pulls 1
+refuses "a level of no line, learned" "the following required arguments were not provided:" learn arbitrated --pulls 0
 refuses "a controller twice" "'--drives' names a controller twice: it has one line" learn arbitrated --drives a=oa --drives a=ob
 refuses "short pulses" "'--min-pulse' leaves out levels, and '--drives' looks at all of them" \
     capture plan arbitrated --drives a=oa --min-pulse 5

@@ -87,6 +87,23 @@ for command in "${commands[@]}"; do
     want "bash: the options of $command" "$of_help" "$(complete_after "$command" -)"
 done
 
+# verify_after WORD..: what bash offers for the last word of a call of twire-verify.
+source ./twire-verify
+verify_after() {
+    COMP_WORDS=(twire-verify "$@")
+    COMP_CWORD=$#
+    COMPREPLY=()
+    _twire_verify
+    printf '%s\n' "${COMPREPLY[@]}" | LC_ALL=C sort | paste -sd ' '
+}
+want "what bash finds wrong with twire-verify" "" "$(bash -n twire-verify 2>&1)"
+want "bash: the levels of --pulls" "0 1" "$(complete_after capture --pulls "")"
+want "bash: the options of twire-verify" "--help --version -h" "$(verify_after -)"
+want "bash: a plan for twire-verify" "folder/a.plan" "$(verify_after folder/a)"
+want "bash: a certificate for twire-verify" "folder/a.plan" "$(verify_after folder/a.plan folder/a)"
+want "bash: no third file for twire-verify" "" "$(verify_after folder/a.plan folder/a.plan folder/a)"
+want "bash: no option after a file for twire-verify" "" "$(verify_after folder/a.plan --h)"
+
 # ---- the completions of zsh
 
 want "zsh: the first line" "#compdef twire" "$(head -n 1 _twire)"
@@ -94,10 +111,42 @@ for command in "${commands[@]}"; do
     of_help=$("$twire" help "$command" | sed -n '/^Options:/,/^$/s/^ *\(-[-a-zA-Z, ]*\).*/\1/p' | tr -s ', ' '\n' | sed -n '/^-/p' |
         LC_ALL=C sort | paste -sd ' ')
     want "zsh: the options of $command" "$of_help" \
-        "$(sed -n "/^                $command)/,/;;/s/^ *'\(-[^[]*\)\[.*/\1/p" _twire | LC_ALL=C sort | paste -sd ' ')"
+        "$(sed -n "/^                $command)/,/;;/s/^ *'\*\{0,1\}\(-[^[]*\)\[.*/\1/p" _twire | LC_ALL=C sort | paste -sd ' ')"
 done
+# (by what docs/COMMAND_LINE.md says of them, and each takes what it did)
+want "zsh: options that may be given again" "--drives --with" \
+    "$(sed -n "s/^ *'\*\(--[^[]*\)\[.*/\1/p" _twire | LC_ALL=C sort -u | paste -sd ' ')"
+want "zsh: files of --with" "$(grep -c "'--with\|'\*--with" _twire)" "$(grep -c "'\*--with\[.*:FILE:_files'" _twire)"
+want "zsh: the levels of --pulls" 2 "$(grep -c "'--pulls\[.*:LEVEL:(0 1)'" _twire)"
+want "zsh: the first line for twire-verify" "#compdef twire-verify" "$(head -n 1 _twire-verify)"
 if type -P zsh >/dev/null; then
-    want "what zsh finds wrong" "" "$(zsh -n _twire 2>&1)"
+    want "what zsh finds wrong" "" "$(zsh -n _twire 2>&1)$(zsh -n _twire-verify 2>&1)"
+    # What zsh makes of a line where somebody presses the tabulator at its end, in a terminal of its own.
+    cat >ask.zsh <<'ZSH'
+zmodload zsh/zpty
+zpty shell zsh -f -i
+zpty -w shell "fpath=($1 \$fpath); autoload -Uz compinit; compinit -u -d $1/dump"
+zpty -w shell 'twire() { print -r -- "ma""de: $*" } ; twire-verify() { print -r -- "ma""de: $*" }'
+zpty -w -n shell "$2"$'\t\n'
+for ((tries = 0; tries < 200; tries++)); do
+    if zpty -r -t shell line; then
+        [[ $line != *made:* ]] || { print -r -- "${line#*made: }"; break }
+    else
+        sleep 0.05
+    fi
+done
+ZSH
+    # completed LINE: the words after the command.
+    completed() {
+        zsh -f ask.zsh "$work" "$1" | tr -d '\r' | sed 's/ *$//'
+    }
+    want "zsh: --with once more" "check --with a --with" "$(completed "twire check --with a --wit")"
+    want "zsh: --drives once more" "capture --drives a=b --drives" "$(completed "twire capture --drives a=b --driv")"
+    want "zsh: --hints only once" "check --hints auto --hin" "$(completed "twire check --hints auto --hin")"
+    want "zsh: a file for a second --with" "check --with a --with folder/a.plan" "$(completed "twire check --with a --with folder/a")"
+    want "zsh: an option of twire-verify" "--version" "$(completed "twire-verify --ver")"
+    want "zsh: a certificate for twire-verify" "b folder/a.plan" "$(completed "twire-verify b folder/a")"
+    want "zsh: no third file for twire-verify" "b c folder/a" "$(completed "twire-verify b c folder/a")"
 fi
 
 echo "$passed passed, $failed failed"

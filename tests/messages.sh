@@ -70,9 +70,9 @@ at "P8 at the name" 2:14 P8
 # ---- their words
 
 printf 'brief 1\nmessage m read 0x48 2\ncontroller c m ;\n' >text
-expect "a missing semicolon stands after the token before it" 2 "" "text:2:22: error: ';' is missing here [P3]" check text
-expect "the same of standard input" 2 "" "<stdin>:2:22: error: ';' is missing here [P3]" check - <text
-expect "the same of standard input by its name" 2 "" "<stdin>:2:22: error: ';' is missing here [P3]" check /dev/stdin <text
+expect "a missing semicolon stands after the token before it" 2 "" "text:2:22: error: ';' is missing here, after '2': the next item begins on line 3 [P3]" check text
+expect "the same of standard input" 2 "" "<stdin>:2:22: error: ';' is missing here, after '2': the next item begins on line 3 [P3]" check - <text
+expect "the same of standard input by its name" 2 "" "<stdin>:2:22: error: ';' is missing here, after '2': the next item begins on line 3 [P3]" check /dev/stdin <text
 printf 'brief 1\ndevice temp 0x48 ;\n' >first
 printf 'brief 1\nbyte R 0x01 ; device temp 0x49 ;\n' >second
 expect "where it stands already, in another file" 2 "" "second:2:22: error: 'temp': an earlier device has this name, on line 2 of \"first\" [P7]
@@ -83,17 +83,44 @@ expect "the nearest names on one line" 2 "" \
 
 # ---- refusals without a place in such a text
 
-expect "a file that is missing" 2 "" "none: error: refused read" check none
-expect "a number of workers" 2 "" "twire: error: refused workers" check first --workers 9
+expect "a file that is missing" 2 "" "twire: error: none: no such file" check none
+expect "a file that is a folder" 2 "" "twire: error: .: Is a directory (os error 21)" check .
+expect "a certificate that is missing" 2 "" "twire: error: none: no such file" verify first none
+# (a substitution would open it anew)
+"$twire" check - --format gcc <&- >out 2>err
+echo "$?" >>out
+if [[ $(cat out err) == $'2\ntwire: error: <stdin>: it is closed' ]]; then
+    passed=$((passed + 1))
+else
+    failed=$((failed + 1))
+    echo "FAILED: standard input that is closed: found $(cat out err)"
+fi
+expect "a number of workers" 2 "" "twire: error: '--workers' takes 1 to 8" check first --workers 9
 printf 'brief 1\nmessage get read 0x48 1 ;\ncontroller c get ;\ncontroller d get ;\n' >two
-expect "a token of a dump" 2 "" "text:1:1: error: refused V2 line 1" capture two text
-expect "the same without a plan" 2 "" "text:1:1: error: refused V2 line 1" decode text
+commands="before '\$enddefinitions \$end' only commands can stand, as '\$var wire 1 ! scl \$end'"
+expect "a token of a dump" 2 "" "text:1:1: error: $commands [V2]" capture two text
+expect "the same without a plan" 2 "" "text:1:1: error: $commands [V2]" decode text
+expect "the same of standard input" 2 "" "<stdin>:1:1: error: $commands [V2]" decode - <text
 printf '$enddefinitions $end\n' >dump
-expect "a line that a dump does not have" 2 "" "dump: error: refused V1 scl" capture two dump
+expect "a line that a dump does not have" 2 "" "dump: error: no signal of one bit has the name 'scl', and none has the name 'sda' [V1]" capture two dump
 printf '$var wire 1 ! scl $end $var wire 1 " sda $end $enddefinitions $end\n#0 1! 1"\n#5\n#3\n' >dump
-expect "a time that goes back" 2 "" "dump:4:1: error: refused V3 line 4" capture two dump
-expect "a file that is not written" 2 "" "twire: error: refused write" expand two -o none/file
-expect "starters" 2 "" "twire: error: refused B2" bench two nobody --certify
+expect "a time that goes back" 2 "" "dump:4:1: error: the last time was 5, and times never go back [V3]" capture two dump
+expect "a file that is not written" 2 "" "twire: error: the output \"none/file\" was not written: No such file or directory (os error 2)" expand two -o none/file
+expect "starters" 2 "" "twire: error: no participant of the plan has the label 'nobody' [B2]" bench two nobody --certify
+expect "a name that no brief can have" 2 "" "twire: error: the plan has the name 'byte', which is a word of briefs" brief - <<<'plan 1 controller byte ;'
+expect "a time with a unit" 2 "" "twire: error: the capture does not say what its times count: it has no \$timescale" decode dump --from 1us
+expect "what hints say has its own lines" 2 "" "twire: error: none: no such file
+hint: PLAN, the plan \"none\", cannot be opened:
+hint: No such file or directory (os error 2)" check none --hints always
+
+# ---- names of files that a terminal would not show as they are
+
+hidden=$'o\u202eb\e[31m\nc' shown='o\xe2\x80\xaeb\x1b[31m\nc'
+printf 'brief 1\ncontroller c mm ;\n' >"$hidden"
+expect "a mark of direction at a place" 2 "" "$shown:2:14: error: 'mm': no message stands before this place [P8]" check "$hidden"
+expect "a mark of direction in a file that is missing" 2 "" "twire: error: not-$shown: no such file" check "not-$hidden"
+printf 'brief 1\nmessage get read 0x48 1 ;\nmessage set write 0x48 ;\ncontroller c get ;\ncontroller d set ;\nbyte CONF 0x02 ;\n' >"$hidden"
+expect "a mark of direction in a warning" 0 "$shown:6:6: warning: no message names byte 'CONF' [unused byte]" "" check "$hidden"
 
 # ---- unsafe pairs
 
@@ -125,10 +152,10 @@ controller b other ;
 BRIEF
 # (of the bytes that are open the first wire has 0 in each bit)
 expect "a family is one, both ways" 1 \
-    "lengths:2:9: error: a/page_1 sends STOP where b/other_2 sends a data bit, after S 50 Wr A 00 A: lengths differ [unsafe]
-lengths:3:9: note: b/other_2 sends a data bit there
-lengths:2:9: error: a/page_* sends a data bit where b/other_* sends STOP, after S 50 Wr A 00 A: lengths differ (3 pairs) [unsafe]
-lengths:3:9: note: b/other_* sends STOP there" "" check lengths
+    "lengths:2:9: error: a/page_* sends a data bit where b/other_* sends STOP, after S 50 Wr A 00 A: lengths differ (3 pairs) [unsafe]
+lengths:3:9: note: b/other_* sends STOP there
+lengths:2:9: error: a/page_1 sends STOP where b/other_2 sends a data bit, after S 50 Wr A 00 A: lengths differ [unsafe]
+lengths:3:9: note: b/other_2 sends a data bit there" "" check lengths
 cat >alert <<'BRIEF'
 brief 1
 message ask read 0x48 1 ;

@@ -344,16 +344,43 @@ ran 2 "refused read
 hint: PLAN, the plan \"./-x\", cannot be opened:
 hint: No such file or directory (os error 2)" check --hints always -- -x
 judge "a name that would be an option"
-ran 2 '{"kind":"refusal","code":"read","file":"'$'a\u202eb''"}
+ran 2 '{"kind":"refusal","code":"read","file":"'$'a\u202eb''","reason":"no such file"}
 {"kind":"hint","form":"sentence","text":"PLAN, the plan $'"'a\\\\xe2\\\\x80\\\\xaeb'"', cannot be opened:"}
 {"kind":"hint","form":"sentence","text":"No such file or directory (os error 2)"}' check $'a\u202eb' --hints always --format json
 judge "a mark of direction in an object"
+hidden=$'a\u202eb'
+printf '%s\n' "brief 1" "message m write 0x48 any ;" "message n write 0x48 ;" "controller a m ;" "controller b n ;" >"$hidden"
+"$twire" check "$hidden" --explain >out 2>err
+grep '^    see ' out >first
+has first '    see a\xe2\x80\xaeb:2 and a\xe2\x80\xaeb:3'
+judge "a mark of direction in a line for people"
+"$twire" page "$hidden" 2>err | grep -o '<\(title\|h1\)>[^<]*' >out
+has out '<title>twire: a\xe2\x80\xaeb
+<h1>a\xe2\x80\xaeb'
+judge "a mark of direction in the title of a page"
+sed 's/any/any ; byte c 0x01/' "$hidden" >odd
+mv odd "$hidden"
+"$twire" check "$hidden" --hints always >out 2>err
+grep 'no message names' err >first
+has first 'hint: a\xe2\x80\xaeb:2: no message names byte '"'c'"
+judge "a mark of direction in a hint with a line"
+rm "$hidden"
 long="a name with many words that is broken nowhere, as it could not be pasted then"
 "$twire" check plan --wave "$long" --hints always >out 2>err
-has err "hint: there is nothing to draw, so
+has err "hint: the plan is safe: there is nothing to draw, so
 hint: \"$long\"
 hint: was not written"
 judge "a name with blanks is broken nowhere"
+# Why there is nothing to draw: a pair that is safe, none of this number, a plan that is not accepted. (pairs 0 and 1, of which
+# the first is unsafe)
+stop=$tests/../examples/stop_meets_data.plan
+for it in "1:pair 1 is safe" "2:the plan has no pair 2"; do
+    "$twire" check "$stop" --wave w.vcd --pair "${it%%:*}" --hints always >out 2>err
+    tr '\n' ' ' <err | sed 's/ hint: / /g; s/ $//' >words
+    has words "hint: ${it#*:}: there is nothing to draw, so \"w.vcd\" was not written"
+    [[ ! -e w.vcd ]] || echo "there is a file" >>wrong
+    judge "nothing to draw: ${it#*:}"
+done
 "$twire" check plan $'\e[31m\u202e' >out 2>err
 head -n 1 err >first
 has first "error: unexpected argument '\x1b[31m\xe2\x80\xae' found"
@@ -463,7 +490,7 @@ if type -P script >/dev/null; then
     told "plan: $bytes bytes"
     has seen "${green}safe${plain}: 1 pairs
     where targets acknowledge, decided in the header: 1, later: 0,
-    at a read's end: 0; alike to the end: 0"
+    at a read's end: 0; may end together: 0"
     judge "how far an explained check is"
     slowly plan "'$twire' certify slow -o slow.cert"
     told "certificate written: $(wc -c <right.cert) bytes"

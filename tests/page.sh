@@ -128,6 +128,25 @@ for plan in examples/{restart_meets_data,stop_meets_data}.plan {lock,groups}.bri
         "$(grep -oE '\{"pair":[0-9]+,"kinds":[^}]*"group":[0-9]+\}' page.html | sed -E 's/.*"pair":([0-9]+),.*"group":([0-9]+)\}/\1 \2/')"
 done
 
+# What is offered to mend pairs is what check says, word for word: of each group, and of all of them.
+# plainly: what is offered in JSON, as words.
+plainly() {
+    sed -E -e 's/"(offers?|said|items|after)"://g' -e 's/\[\]//g' -e 's/[][{}]//g' -e 's/",*"/ /g' -e 's/"//g' | tr -s ' \n' ' ' |
+        sed 's/^ //; s/ $//'
+}
+offer='\{"said":"[^"]*","items":\[("[^"]*",?)*\],"after":"[^"]*"\}'
+for plan in examples/{restart_meets_data,stop_meets_data,restart_meets_stop,never_repairs}.plan {lock,groups}.brief; do
+    "$twire" page "$plan" -o page.html
+    "$twire" check --summary --most 1000 "$plan" >report
+    name=${plan##*/}
+    want "$name: what is offered for all" \
+        "$(sed '1,/^unsafe/d; /^safe/d; /^    where targets/,$d; /^    not checked/,$d' report | tr -s ' \n' ' ' | sed 's/^ //; s/ $//')" \
+        "$(grep -oE "\"offers\":\[($offer,?)*\]" page.html | plainly)"
+    want "$name: what is offered for each group" \
+        "$(sed '/^unsafe/,$d; /^safe/,$d' report | awk '/^    group /{on = 0} /^    to mend/{on = 1} on' | tr -s ' \n' ' ' | sed 's/^ //; s/ $//')" \
+        "$(grep -oE "\"offer\":$offer" page.html | plainly)"
+done
+
 # ---- refusals: nothing is written, and the old file stays
 
 echo old >old.html
@@ -288,6 +307,11 @@ want "a group in a browser" "Group 0, 32 pairs: bmc/page_* × host/entry, one go
 want "the bytes of its example" "bus         S 50 Wr A 00 A
 bmc/page_1  S 50 Wr A xxxxxxxx A xxxxxxxx  next: a data bit
 host/entry  S 50 Wr A xxxxxxxx A Sr        next: a repeated START" "$(sed -n '/<pre class="rows">/,/<\/pre>/p' dom | sed -e 's/.*<pre class="rows">//' -e 's/<\/pre>.*//')"
+want "what is offered in a browser" "to mend each: a bit before its slot, known in both and different; or the same shape from there on; or:
+never bmc/page host/entry ;
+(leaves 32 of 66 pairs unchecked)
+to mend each: a bit in slot 9..16, known in both and different" \
+    "$(grep -oE '<div class="offer">.*</div>' dom | grep -oE '<(p|pre)>[^<]*' | sed 's/<[^>]*>//' | head -n 4)"
 want "its open bits: eight of each, and one that meets the repeated START" 17 "$(grep -o 'class="open">x<' dom | wc -l)"
 want "the rows and columns of a family stand in a band" "colspan=\"32\"
 rowspan=\"32\"" "$(grep -oE '(colspan|rowspan)="32"' dom | sort -u)"

@@ -114,7 +114,7 @@ git commit -q -m "The bus"
 want "all that the script says" "accepted safe
 safe: 1 pairs
     where targets acknowledge, decided in the header: 1, later: 0,
-    at a read's end: 0; alike to the end: 0" "$(cd / && sh "$work/bus/checks.sh" 2>&1)"
+    at a read's end: 0; may end together: 0" "$(cd / && sh "$work/bus/checks.sh" 2>&1)"
 
 # ---- the mistakes
 

@@ -472,10 +472,18 @@ want('with a first one', [['unsafe', 1, 2, 8, 2, 11]], places(server.open(FIRST,
 want('of which it is a part', [['unsafe', 1, 1, 8, 1, 11]], places(server.told(SECOND)))
 THIRD = FIRST.replace('shared', 'third')
 want('another first one', [['P8', 1, 1, 17, 1, 20]], places(server.open(THIRD, 'brief 1\ncontroller third put ;\n')))
-want('to whose plan the file belongs', [], server.told(SECOND))
+# (the file is not told of again: it keeps the first one that it was told of with)
 want('the first one keeps its own', [['unsafe', 1, 2, 8, 2, 11]], places(server.change(FIRST, SHARED + '# none\n')))
+want('and its file', [['unsafe', 1, 1, 8, 1, 11]], places(server.told(SECOND)))
+want('the device of the file is that of its first one', [FIRST, 1],
+     [(found := server.at('definition', SECOND, 1, 20))['uri'], found['range']['start']['line']])
+server.notify('textDocument/didClose', {'textDocument': {'uri': FIRST}})
+want('without it', [], server.told(FIRST))
+want('the other first one', [['P8', 1, 1, 17, 1, 20]], places(server.told(THIRD)))
+want('to whose plan the file belongs then', [], server.told(SECOND))
+want('the first one again', [], [one for one in server.open(FIRST, SHARED) if one['code'] != 'unsafe'])
 server.notify('textDocument/didClose', {'textDocument': {'uri': THIRD}})
-want('without it', [], server.told(THIRD))
+want('without the other one', [], server.told(THIRD))
 want('the first one is told again', [['unsafe', 1, 2, 8, 2, 11]], places(server.told(FIRST)))
 want('with the file', [['unsafe', 1, 1, 8, 1, 11]], places(server.told(SECOND)))
 server.notify('textDocument/didClose', {'textDocument': {'uri': FIRST}})
@@ -483,11 +491,112 @@ want('without any first one', [], server.told(FIRST))
 want('the file alone again', [['P8', 1, 1, 18, 1, 24]], places(server.told(SECOND)))
 want('the end of a file alone', [0, []], server.stop())
 
+# a plan is no first one
+server = Server('--with', 'pch one.brief', folder='board').begin()
+server.open(FIRST, SHARED)
+want('a file before a plan', [['unsafe', 1, 1, 8, 1, 11]], places(server.told(SECOND)))
+PLAN_TEXT = '# alone\nplan 1\nmessage m write 1010000 stop else stop ;\ncontroller a m ;\n'
+want('a plan beside files', [], server.open(PLAN, PLAN_TEXT))
+want('what is wrong with a plan beside files', [['P8', 1, 3, 15, 3, 16]],
+     places(server.change(PLAN, PLAN_TEXT.replace('a m ;', 'a m n ;'))))
+server.change(PLAN, PLAN_TEXT)
+said_of = server.at('hover', PLAN, 2, 8)
+want('a message of a plan beside files', True, 'S 50 Wr A P' in said_of['contents']['value'])
+want('the first one keeps its file', [['unsafe', 1, 2, 8, 2, 11]], places(server.change(FIRST, SHARED + '# none\n')))
+want('which is told', [['unsafe', 1, 1, 8, 1, 11]], places(server.told(SECOND)))
+want('a first one that becomes a plan', [], server.change(FIRST, PLAN_TEXT))
+want('leaves its file alone', [['P8', 1, 1, 18, 1, 24]], places(server.told(SECOND)))
+want('the end with a plan', [0, []], server.stop())
+
+# files that give a plan by themselves, as where all of a board are named
+with open('board/own.brief', 'w', encoding='ascii') as file:
+    file.write(SHARED)
+OWN = FIRST.replace('shared', 'own')
+for order in ([OWN, SECOND], [SECOND, OWN]):
+    server = Server('--with', 'own.brief', '--with', 'pch one.brief', folder='board').begin()
+    for uri in order:
+        server.notify('textDocument/didOpen', {'textDocument': {'uri': uri, 'text': SHARED if uri == OWN else OTHER}})
+        want('all files are named: the first', [['unsafe', 1, 2, 8, 2, 11]], places(server.told(OWN)))
+        want('all files are named: the second', [['unsafe', 1, 1, 8, 1, 11]], places(server.told(SECOND)))
+    told = server.open(THIRD, 'brief 1\ndevice eeprom 0x51 ;\n')
+    want('another one beside all files', [['P7', 1, 0, 0, 0, 7]], places(told))
+    want('the file and its place', ['with own.brief:', OWN, [1, 7, 1, 13]],
+         [told[0]['message'][:15], told[0]['relatedInformation'][0]['location']['uri'],
+          spot(told[0]['relatedInformation'][0]['location']['range'])])
+    server.notify('textDocument/didChange', {'textDocument': {'uri': OWN, 'version': 2},
+                                             'contentChanges': [{'text': SHARED.replace('any', '0x01 0x02 ; #')}]})
+    want('the other one again', [['P7', 1, 0, 0, 0, 7]], places(server.told(THIRD)))
+    want('the first of all files, with the other one open', [], server.told(OWN))
+    want('the second of all files, with the other one open', [], server.told(SECOND))
+    want('the end of all files', [0, []], server.stop())
+
+# names that stand in several files, and families
+PAGES = 'brief 1\nmessage page write 0x50 any*01..012 ;\nmessage get write 0x50 any*2 read 0x50 1..4 ;\ncontroller bmc page get ;\n'
+MORE = 'brief 1\nmessage page_13 write 0x51 ;\nmessage get_2 write 0x52 any*2..2 ;\ncontroller pch page_13 page_12 page_14 page_02 get_2_2 get_3 page_1 ;\n'
+with open('board/more.brief', 'w', encoding='ascii') as file:
+    file.write(MORE)
+MORE_URI = FIRST.replace('shared', 'more')
+server = Server('--with', 'more.brief', folder='board').begin()
+server.open(FIRST, PAGES)
+server.told(MORE_URI)
+server.notify('textDocument/didOpen', {'textDocument': {'uri': MORE_URI, 'text': MORE}})
+server.told(FIRST)
+server.told(MORE_URI)
+
+
+def defined_at(name):
+    line = MORE.splitlines()[3]
+    found = server.at('definition', MORE_URI, 3, line.index(' ' + name + ' ') + 1)
+    return found and [found['uri'], found['range']['start']['line']]
+
+
+want('a name before a family, also in a later file', [MORE_URI, 1], defined_at('page_13'))
+want('the last one of a family', [FIRST, 1], defined_at('page_12'))
+want('the first one of a family', [FIRST, 1], defined_at('page_1'))
+want('one past the end of a family', None, defined_at('page_14'))
+want('a number with a zero before it', None, defined_at('page_02'))
+want('a family whose name ends in a number', [MORE_URI, 2], defined_at('get_2_2'))
+want('a message with a count is no family', None, defined_at('get_3'))
+want('the end of families', [0, []], server.stop())
+
+# a file that is opened by a link
+os.symlink('board', 'linked')
+LINKED = SECOND.replace('/board/', '/linked/')
+server = Server('--with', 'pch one.brief', folder='board').begin()
+server.open(FIRST, SHARED)
+want('a file by its own name', [['unsafe', 1, 1, 8, 1, 11]], places(server.told(SECOND)))
+want('and by a link: nothing by its own name', 'textDocument/publishDiagnostics',
+     (message := server.open(LINKED, OTHER))['method'])
+want('nothing by its own name', [SECOND, []], [message['params']['uri'], message['params']['diagnostics']])
+want('the first one of a link', [['unsafe', 1, 2, 8, 2, 11]], places(server.told(FIRST)))
+want('all by the link', [['unsafe', 1, 1, 8, 1, 11]], places(server.told(LINKED)))
+server.notify('textDocument/didClose', {'textDocument': {'uri': LINKED}})
+want('nothing by the link', [], server.told(LINKED))
+want('the first one of no link', [['unsafe', 1, 2, 8, 2, 11]], places(server.told(FIRST)))
+want('all by its own name', [['unsafe', 1, 1, 8, 1, 11]], places(server.told(SECOND)))
+want('the end of links', [0, []], server.stop())
+
+# files that cannot be read
 server = Server('--with', 'none.brief', folder='board').begin()
 told = server.open(FIRST, SHARED)
-want('a file that is not there', ['read', 1, 0, 0, 0, 7], places(told)[0])
+want('a file that is not there', [['read', 1, 0, 0, 0, 7]], places(told))
 want('its name', True, 'none.brief' in told[0]['message'])
 want('the end without the file', [0, []], server.stop())
+os.mkfifo('board/pipe.brief')
+server = Server('--with', 'none.brief', '--with', 'pch one.brief', '--with', 'pipe.brief', '--with', '.', folder='board').begin()
+# (what nobody sends, and a name that nothing has, may come of what is not read)
+LACKING = SHARED + 'message spare write eeprom ;\n'
+began = time.monotonic()
+told = server.open(FIRST, LACKING)
+want('a pipe is not waited for', True, time.monotonic() - began < 20)
+want('each file that cannot be read, and nothing that comes of it', [['read', 1, 0, 0, 0, 7]] * 3, places(told))
+want('which they are', ['none.brief', 'pipe.brief', '.'], [one['message'].split()[2] for one in told])
+want('why', ['it is no regular file'] * 2, [one['message'].split(': ')[1] for one in told[1:]])
+want('nothing of a file after one that cannot be read', [], server.told(SECOND))
+want('what is refused before them all the same', [['read', 1, 0, 0, 0, 7]] * 3 + [['P8', 1, 4, 13, 4, 16]],
+     places(server.change(FIRST, SHARED + 'controller x put ;\n')))
+want('nothing of the others', [], server.told(SECOND))
+want('the end without files', [0, []], server.stop())
 with subprocess.Popen([TWIRE, 'lsp', '--with', '-'], stdin=subprocess.DEVNULL, stdout=subprocess.PIPE,
                       stderr=subprocess.PIPE) as process:
     out, err = process.communicate()

@@ -63,6 +63,41 @@ local function run()
   want('the status of the server', 0, status)
 end
 
+-- A board in three files, all of which are named. The second one is opened first.
+local function board()
+  local files = vim.split(vim.env.BOARD, ' ')
+  local command, status = { vim.env.TWIRE, 'lsp' }, nil
+  for _, file in ipairs(files) do vim.list_extend(command, { '--with', file }) end
+  local client = vim.lsp.start_client({ name = 'twire', cmd = command, on_exit = function(code) status = code end })
+  vim.cmd('edit ' .. files[2])
+  vim.lsp.buf_attach_client(0, client)
+  vim.wait(20000, function() return (vim.lsp.get_client_by_id(client) or {}).initialized end, 20)
+  local at = ask('textDocument/definition', 1, 20)
+  want('a device of the first file', { vim.uri_from_fname(vim.fn.fnamemodify(files[1], ':p')), 1 }, { at.uri, at.range.start.line })
+  want('nothing is wrong with the file that was opened first', {}, shown())
+
+  vim.cmd('edit ' .. files[3])
+  vim.lsp.buf_attach_client(0, client)
+  vim.api.nvim_buf_set_lines(0, 1, 2, false, { 'message get write eeprom any*2 ;' })
+  want('an unsafe pair, at its second message', { { 'unsafe', 1, 8, 11 } }, shown_when(1))
+  vim.cmd('buffer ' .. files[2])
+  want('and at its first one', { { 'unsafe', 1, 8, 11 } }, shown_when(1))
+  vim.cmd('edit! ' .. files[1])
+  vim.lsp.buf_attach_client(0, client)
+  vim.api.nvim_buf_set_lines(0, 1, 2, false, { 'device eprom 0x50 ;' })
+  vim.cmd('buffer ' .. files[2])
+  vim.wait(20000, function() return #shown() == 1 and shown()[1][1] == 'P8' end, 20)
+  want('a name that the first file has no more', { { 'P8', 1, 18, 24 } }, shown())
+
+  vim.lsp.stop_client(client)
+  vim.wait(20000, function() return status ~= nil end, 20)
+  want('the status of the server of a board', 0, status)
+end
+
 local fine, why = pcall(run)
+if fine then
+  vim.cmd('set hidden | enew!')
+  fine, why = pcall(board)
+end
 if not fine then io.stdout:write('FAILED: ' .. tostring(why) .. '\n') end
 vim.cmd('qall!')

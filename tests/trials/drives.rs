@@ -40,12 +40,17 @@ pub fn try_drives(crew: &mut Crew, score: &mut Score, seed: u64, step: usize) ->
                 _ => generated::plan(&mut dice),
             };
             let plays = |plan: &Participants| generated::plays(plan, faults, &mut dice);
-            match with_plan(plan.as_bytes(), plays) {
-                Ok(plays) if !plays.drives.is_empty() => {
-                    compare(desk, &format!("{name}, number {number}"), &plan, &plays)
-                }
-                _ => Ok((Vec::new(), None)),
+            let Ok(mut plays) = with_plan(plan.as_bytes(), plays) else {
+                return Ok((Vec::new(), None));
+            };
+            let Some((_, place)) = plays.drives.first_mut() else {
+                return Ok((Vec::new(), None));
+            };
+            // (some give SDA itself as the line of a controller)
+            if faults > 1 && number % 5 == 0 {
+                "sda".clone_into(place);
             }
+            compare(desk, &format!("{name}, number {number}"), &plan, &plays)
         })?;
         println!("made up, {name}: {}", tried.len());
         for (kinds, disagreement) in tried {
@@ -149,11 +154,19 @@ fn plan_of(plan: &[u8]) -> String {
     String::from_utf8_lossy(plan).into_owned()
 }
 
-// What came before a refusal may stand there or not.
+// What came before a refusal may stand there or not, and its reason in words is not compared.
 fn with_report_of(said: Answer, refusal: &Option<DrivesRefusal>) -> Answer {
     match refusal {
-        Some(_) => Answer { out: String::new(), ..said },
+        Some(_) => Answer { out: String::new(), refusal: without_reason(&said.refusal), ..said },
         None => said,
+    }
+}
+
+// The object of a refusal without its last field, the reason, where that has words.
+fn without_reason(object: &str) -> String {
+    match object.split_once(",\"reason\":\"") {
+        Some((begin, words)) if words.len() > "\"}\n".len() => format!("{begin}}}\n"),
+        _ => object.to_owned(),
     }
 }
 

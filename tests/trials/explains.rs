@@ -4,7 +4,7 @@ use crate::json::Value;
 use crate::plain::bytes::{bytes_along, bytes_on, open_slots};
 use crate::plain::captures::{Mark, Transaction, Until};
 use crate::plain::decoded::{self, cuts_of, nearest};
-use crate::plain::explained::{decided, kept_apart, mends, unsent, Decided, Mends};
+use crate::plain::explained::{decided, kept_apart, offered, unsent, Decided, Mends};
 use crate::plain::found::{Checked, Fault, Played};
 use crate::plain::groups::Group;
 use crate::plain::partings::{has_shape, parting};
@@ -35,7 +35,7 @@ pub fn of_group(plan: &Participants, group: &Group, faults: &[Fault]) -> Value {
     let mut places = group.pairs.clone();
     places.sort_unstable();
     let faults: Vec<Fault> = places.iter().map(|place| faults[*place].clone()).collect();
-    let mends = mends(plan.items, &faults);
+    let mends = offered(plan.items, &faults);
     object(vec![
         ("parting", Value::Array(parting(&faults).into_iter().map(two).collect())),
         ("shape", Value::Bool(has_shape(&faults))),
@@ -59,7 +59,7 @@ pub fn of_plan(plan: &Participants, checked: &Checked, groups: usize, most: usiz
 }
 
 fn of_unsafe(plan: &Participants, faults: &[Fault], groups: usize, most: usize) -> Value {
-    let mends = mends(plan.items, faults);
+    let mends = offered(plan.items, faults);
     object(vec![
         ("explained", Value::of(groups.min(most))),
         ("groups", Value::of(groups)),

@@ -111,6 +111,9 @@ fn refusal(fields: &mut Fields) -> Result<String, String> {
     let signal = fields.maybe("signal", Value::into_text)?.map(|signal| format!(" {signal}"));
     let place = place(fields, &code)?;
     after_and_earlier(fields, &code)?;
+    // (without memory there are no words)
+    let reason = fields.maybe("reason", Value::into_text)?;
+    only_if(code == "memory" || reason.is_some_and(|words| !words.is_empty()), "a refusal has its reason in words")?;
     let [line, file, signal] = [line, file, signal].map(Option::unwrap_or_default);
     Ok(format!("refused {code}{line}{file}{signal}{place}"))
 }

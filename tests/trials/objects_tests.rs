@@ -67,10 +67,10 @@ fn unsafe_pairs_are_explained() {
              \"meet\":[\"data\",\"restart\"],\
              \"after\":\"10010000l00000001l\",\"explain\":{\"slot\":18,\"rule\":\"UM10204 3.1.8\",\
              \"bus\":\"S 48 Wr A 01 A\",\"bytes\":[\"S 48 Wr A 01 A 02\",\"S 48 Wr A 0000000x A Sr\"],\
-             \"open\":[[],[[16,16]]]}},\"explain\":{\"parting\":[],\"shape\":true,\"never\":[[\"a\",\"b\"]],\
-             \"unchecked\":1}}",
+             \"open\":[[],[[16,16]]]}},\"explain\":{\"parting\":[],\"shape\":true,\"never\":[],\
+             \"unchecked\":0}}",
             "{\"kind\":\"plan\",\"safe\":false,\"pairs\":1,\"unsafe_pairs\":1,\"explain\":{\"explained\":1,\
-             \"groups\":1,\"never\":[[\"a\",\"b\"]],\"unchecked\":1,\"interrupts\":[],\"unsent\":[],\"kept_apart\":0}}"
+             \"groups\":1,\"never\":[],\"unchecked\":0,\"interrupts\":[],\"unsent\":[],\"kept_apart\":0}}"
         ]
     );
     // The last acknowledge of one of two reads is open.
@@ -183,8 +183,8 @@ fn groups_are_mended() {
     assert_eq!(
         mends(three),
         [
-            "{\"parting\":[],\"shape\":true,\"never\":[[\"a\",\"b\"]],\"unchecked\":12}",
-            "{\"parting\":[[9,16]],\"shape\":true,\"never\":[[\"a\",\"b\"]],\"unchecked\":12}",
+            "{\"parting\":[[9,16]],\"shape\":true,\"never\":[],\"unchecked\":0}",
+            "{\"parting\":[],\"shape\":true,\"never\":[],\"unchecked\":0}",
         ]
     );
     // After a NACK of the first byte one repeats START and one ends: a bit after it mends no pair, and no shape after it.
@@ -192,7 +192,8 @@ fn groups_are_mended() {
         else again write 1010000 stop else stop else stop ;
         message n write 1010xxx xxxxxxxx xxxxxxxx xxxxxxxx stop else stop else stop else stop else stop ;
         controller a m ; controller b n ;";
-    let never = "\"never\":[[\"a\",\"b\"]],\"unchecked\":1}";
+    // (the plan has one pair, so no item is named)
+    let never = "\"never\":[],\"unchecked\":0}";
     assert_eq!(mends(nack), [format!("{{\"parting\":[[4,6],[9,16]],\"shape\":false,{never}")]);
     // The fault is after a NACK: what was acknowledged parts in the data.
     let after = "plan 1 message m write 101000x 00000001 stop else stop

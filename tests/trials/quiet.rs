@@ -34,11 +34,7 @@ fn try_case(desk: &mut Desk, case: &Case, quiet: Quiet) -> io::Result<(Option<Qu
     if said.answer == answer("not made\n") {
         return Ok((None, None));
     }
-    // (the end of a reader may take memory to say where the last token is refused)
-    let refusal = &case.wanted.refusal;
-    let may_take = quiet == Quiet::Dump && (refusal.starts_with("V2 ") || refusal.starts_with("V3 "));
-    let wanted = answer(if may_take && said.answer == answer("takes memory\n") { "takes memory\n" } else { "quiet\n" });
-    Ok((Some(quiet), Disagreement::of(case, "calls without memory", wanted, &said.answer, None)))
+    Ok((Some(quiet), Disagreement::of(case, "calls without memory", answer("quiet\n"), &said.answer, None)))
 }
 
 fn answer(line: &str) -> Answer {

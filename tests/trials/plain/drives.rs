@@ -78,6 +78,21 @@ impl Driven {
         })
     }
 
+    // Whether a line is released before the STOP, where SDA is LOW.
+    fn lets_stop_go(&self, line: usize) -> bool {
+        let mut slots = self.slots.iter().zip(&self.transaction.marks);
+        slots.any(|(slot, mark)| *mark == Mark::Stop && !slot[line])
+    }
+
+    // Whether SDA is LOW in a slot that controllers do not drive.
+    fn is_answered(&self) -> bool {
+        self.transaction.marks.split(|mark| *mark == Mark::Again).any(|frame| {
+            let is_read = frame.get(7) == Some(&Mark::Level(true));
+            let mut slots = frame.iter().enumerate();
+            slots.any(|(k, mark)| *mark == Mark::Level(false) && !is_of_controllers(k, is_read))
+        })
+    }
+
     // What each line does in the slots in which the bus has a level: whether the bus is HIGH, and whether the line pulls SDA.
     fn bits(&self, line: usize) -> impl Iterator<Item = (bool, bool)> + '_ {
         self.slots.iter().zip(&self.transaction.marks).filter_map(move |(slot, mark)| match mark {
@@ -123,7 +138,7 @@ fn follow(sender: &Sender, marks: &[Mark], pulls: &[bool]) -> Does {
 #[derive(Clone, Copy, Debug, PartialEq, Eq)]
 pub enum DrivesRefusal {
     Dump(DumpRefusal),
-    /// This line does in each slot what SDA does.
+    /// This line does in each slot what SDA does, that of a STOP too, and targets pulled SDA.
     IsSda(usize),
     /// This line pulls SDA in a slot in which it is HIGH.
     IsDenied(usize),
@@ -165,7 +180,11 @@ pub fn driven(dump: &[u8], lines: &Lines, pulls: Level) -> (Vec<Driven>, Option<
 // The first line that is SDA, or else the first that pulls it where it is HIGH.
 fn refusal_of(driven: &[Driven], lines: usize) -> Option<DrivesRefusal> {
     let bits = |line: &usize| -> Vec<(bool, bool)> { driven.iter().flat_map(|one| one.bits(*line)).collect() };
-    let is_sda = |line: &usize| !bits(line).is_empty() && bits(line).iter().all(|(bus, pulls)| bus != pulls);
+    let is_alike = |line: &usize| bits(line).iter().all(|(bus, pulls)| bus != pulls);
+    let is_held = |line: &usize| !driven.iter().any(|one| one.lets_stop_go(*line));
+    // (where no target pulls SDA a controller alone on the bus does the same)
+    let is_answered = driven.iter().any(Driven::is_answered);
+    let is_sda = |line: &usize| is_answered && is_alike(line) && is_held(line);
     let is_denied = |line: &usize| bits(line).contains(&(true, true));
     let same = (0..lines).find(is_sda).map(DrivesRefusal::IsSda);
     same.or_else(|| (0..lines).find(is_denied).map(DrivesRefusal::IsDenied))

@@ -65,6 +65,15 @@ pub fn mends(items: &Items, faults: &[Fault]) -> Mends {
     Mends { unchecked: pairs_of(items, &nevers), nevers, interrupts }
 }
 
+/// The same, as it is said: items after which nothing is left to check are not named.
+pub fn offered(items: &Items, faults: &[Fault]) -> Mends {
+    let found = mends(items, faults);
+    if found.unchecked < Participants::of(items).pairs().len() {
+        return found;
+    }
+    Mends { nevers: Vec::new(), unchecked: 0, ..found }
+}
+
 fn controllers(x: &Participant, y: &Participant) -> Option<(usize, usize)> {
     Some((x.controller?, y.controller?))
 }

@@ -3,6 +3,7 @@
 use super::found::Fault;
 use super::participants::Participants;
 use super::wires::Item;
+use std::cmp::Reverse;
 use std::collections::{BTreeMap, BTreeSet, HashMap};
 
 /// What is alike in a group.
@@ -28,7 +29,7 @@ pub struct Group {
     pub between: Vec<[String; 2]>,
 }
 
-/// The groups of these unsafe pairs of a plan, by the wires of their examples.
+/// The groups of these unsafe pairs of a plan: that of the most pairs first, and of several by the wires of their examples.
 pub fn groups_of(plan: &Participants, faults: &[Fault]) -> Vec<Group> {
     let mut order: Vec<usize> = (0..faults.len()).collect();
     order.sort_by_key(|place| faults[*place].clash.wire.len());
@@ -42,6 +43,7 @@ pub fn groups_of(plan: &Participants, faults: &[Fault]) -> Vec<Group> {
         }
         groups[number].pairs.push(place);
     }
+    groups.sort_by_key(|group| Reverse(group.pairs.len()));
     let parties: Vec<String> = plan.all.iter().map(|one| party(plan, &one.label)).collect();
     let called: HashMap<&str, usize> = plan.all.iter().enumerate().map(|(k, one)| (one.label.as_str(), k)).collect();
     for group in &mut groups {

@@ -202,6 +202,8 @@ enum Piece {
 struct Message<'a> {
     data: Data,
     sights: Vec<&'a Sight>,
+    // those that are told above it
+    told: Vec<&'a Sight>,
 }
 
 impl<'a> Message<'a> {
@@ -213,6 +215,11 @@ impl<'a> Message<'a> {
     // Who sends it: all its paths are of the same controllers.
     fn owners(&self) -> &BTreeSet<usize> {
         &self.sights[0].owners
+    }
+
+    // Whether something follows its first header where that is acknowledged.
+    fn goes_on(&self) -> bool {
+        self.sights.iter().any(|sight| sight.path.len() > 1 && !sight.path[0].is_nack)
     }
 
     fn parted(&self) -> (Stem, usize) {
@@ -322,7 +329,9 @@ impl<'a> Message<'a> {
         }
         headers.truncate(2);
         match headers[..] {
-            [(false, to, Some(register)), (true, from, _)] if to == from => return format!("read_{to:02x}_r{register:02x}"),
+            [(false, to, Some(register)), (true, from, _)] if to == from => {
+                return format!("read_{}", target(to, Some(register)));
+            }
             [(false, _, _), (false, _, _)] if is_family => headers[0].2 = None,
             _ => {}
         }
@@ -330,8 +339,7 @@ impl<'a> Message<'a> {
             second.2 = None;
         }
         let words = headers.iter().map(|(is_read, address, register)| {
-            let register = register.map_or(String::new(), |register| format!("_r{register:02x}"));
-            format!("{}_{address:02x}{register}", if *is_read { "read" } else { "write" })
+            format!("{}_{}", if *is_read { "read" } else { "write" }, target(*address, *register))
         });
         words.collect::<Vec<String>>().join("_")
     }
@@ -370,6 +378,15 @@ impl<'a> Message<'a> {
             lines("# seen", "#    ", &said.chain(first_few(words)).collect::<Vec<String>>())
         };
         kinds.into_iter().map(line).collect()
+    }
+}
+
+// An address with a register. The header of a ten-bit address has its first two bits, and the byte after it the others.
+fn target(address: u8, register: Option<u8>) -> String {
+    match register {
+        Some(low) if address >> 2 == 0b11110 => format!("{:x}{low:02x}", address & 0b11),
+        Some(register) => format!("{address:02x}_r{register:02x}"),
+        None => format!("{address:02x}"),
     }
 }
 
@@ -563,7 +580,7 @@ impl Item<'_, '_> {
             }
         }
         let words = all.iter().flat_map(|(word, acked, nacked)| {
-            [(!acked).then(|| format!("{word} A,")), (!nacked).then(|| format!("{word} NA,"))]
+            [(!acked).then(|| format!("{word} A")), (!nacked).then(|| format!("{word} NA"))]
         });
         words.flatten().collect()
     }
@@ -640,13 +657,40 @@ pub fn learned_of(transactions: &[Transaction], data: Data, before: Option<&Befo
         if let Some(message) = messages.iter_mut().find(|message| message.takes(sight)) {
             message.sights.push(sight);
         } else if messages.len() < room {
-            messages.push(Message { data, sights: vec![sight] });
+            messages.push(Message { data, sights: vec![sight], told: Vec::new() });
         } else {
             left += sight.times;
             put_odd(&mut odd, full, sight.times, sight.first);
         }
     }
-    Learned { brief: written(&said, &odd, &messages, before, shares), is_all: odd.is_empty(), left }
+    let alone = tell(&mut messages);
+    Learned { brief: written(&said, &alone, &odd, &messages, before, shares), is_all: odd.is_empty(), left }
+}
+
+// Shares out which message a path is told of. A header alone that was not acknowledged is told of one that ends there, or else of
+// none: these are the answer.
+fn tell<'a>(messages: &mut [Message<'a>]) -> Vec<&'a Sight> {
+    let is_poll = |sight: &&Sight| sight.path.len() == 1 && sight.path[0].is_nack;
+    let mut polls: Vec<&Sight> = Vec::new();
+    for message in messages.iter_mut() {
+        let goes_on = message.goes_on();
+        let (alone, told): (Vec<&Sight>, Vec<&Sight>) =
+            message.sights.iter().copied().partition(|sight| goes_on && is_poll(sight));
+        message.told = told;
+        polls.extend(alone);
+    }
+    let mut alone = Vec::new();
+    for poll in polls {
+        match messages.iter_mut().find(|message| !message.goes_on() && message.takes(poll)) {
+            Some(message) => {
+                message.sights.push(poll);
+                message.told.push(poll);
+            }
+            None => alone.push(poll),
+        }
+    }
+    alone.sort_by_key(|sight| sight.first);
+    alone
 }
 
 // What is said of all transactions that a STOP ended: how many they are, how many a brief explains, and
@@ -684,7 +728,14 @@ impl Said {
     }
 }
 
-fn written(said: &Said, odd: &[Odd], messages: &[Message], before: Option<&Before>, shares: &Shares) -> String {
+fn written(
+    said: &Said,
+    alone: &[&Sight],
+    odd: &[Odd],
+    messages: &[Message],
+    before: Option<&Before>,
+    shares: &Shares,
+) -> String {
     let items = items_of(messages);
     let mut brief = String::from("brief 1\n");
     let count: usize = items.iter().map(|item| item.most - item.least + 1).sum();
@@ -695,6 +746,7 @@ fn written(said: &Said, odd: &[Odd], messages: &[Message], before: Option<&Befor
         words.push(before.file.clone());
         brief += &lines("#", "#  ", &words);
     }
+    brief.extend(alone.iter().map(|sight| sight_lines("# header alone:", sight)));
     for Odd { reason, times, first } in odd {
         let mut words = vec![format!("{times},"), "first".to_owned(), "at".to_owned(), format!("{first}:")];
         words.extend(reason.to_string().split(' ').map(str::to_owned));
@@ -774,15 +826,25 @@ fn free_name(base: &str, is_taken: impl Fn(&String) -> bool) -> String {
 const TOLD: usize = 8;
 
 fn comments(item: &Item) -> String {
-    let mut sights: Vec<&Sight> = item.members.iter().flat_map(|message| message.sights.iter().copied()).collect();
+    let mut sights: Vec<&Sight> = item.members.iter().flat_map(|message| message.told.iter().copied()).collect();
     // no two paths were first seen at one time
     sights.sort_by_key(|sight| sight.first);
-    let mut text: String = sights.iter().take(TOLD).map(|sight| sight_lines(sight)).collect();
+    let mut text: String = sights.iter().take(TOLD).map(|sight| sight_lines("#", sight)).collect();
     if sights.len() > TOLD {
         text += &format!("# and {} others\n", sights.len() - TOLD);
     }
-    text += &lines("# never seen:", "#    ", &first_few(item.unseen()));
+    let unseen = with_commas(item.unseen());
+    if !unseen.is_empty() {
+        text += &lines("# never seen:", "#    ", &first_few(unseen));
+    }
     text + &item.members[0].alike()
+}
+
+// All but the last with a comma.
+fn with_commas(mut words: Vec<String>) -> Vec<String> {
+    let others = words.len().saturating_sub(1);
+    words.iter_mut().take(others).for_each(|word| word.push(','));
+    words
 }
 
 fn first_few(mut words: Vec<String>) -> Vec<String> {
@@ -793,7 +855,7 @@ fn first_few(mut words: Vec<String>) -> Vec<String> {
     words
 }
 
-fn sight_lines(sight: &Sight) -> String {
+fn sight_lines(begin: &str, sight: &Sight) -> String {
     let mut words = vec![sight.times.to_string()];
     words.extend(["times,".to_owned(), "first".to_owned(), "at".to_owned(), format!("{}:", sight.first)]);
     for (k, step) in sight.path.iter().enumerate() {
@@ -807,7 +869,7 @@ fn sight_lines(sight: &Sight) -> String {
         });
     }
     words.push("P".to_owned());
-    lines("#", "#    ", &words)
+    lines(begin, "#    ", &words)
 }
 
 // These words in lines of 80 columns, of which all but the first begin with the margin.
