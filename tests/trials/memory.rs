@@ -6,6 +6,7 @@ use crate::crew::Crew;
 use crate::deeds::{calls_of, Deed};
 use crate::desks::{Desk, Said};
 use crate::disagreements::{Disagreement, Score};
+use crate::json::{self, Value};
 use crate::plain::Answer;
 use crate::setups::{Refused, Setup};
 use std::io;
@@ -131,26 +132,46 @@ fn judge_ample(task: &Task<'_>, ample: &Said) -> Option<Disagreement> {
     Disagreement::of(task.case, "ample memory", wanted, &ample.answer, fault)
 }
 
-// The answer is the one with memory; or out of memory, where an allocation was refused, and then nothing is written. Places are
-// left out then.
+// The answer is the one with memory; or out of memory, where an allocation was refused, and then nothing is written. What is said
+// of a refusal beside its line may be left out then.
 fn judge(case: &Case, ample: &Answer, said: &Said) -> Option<Disagreement> {
     let found = &said.answer;
     let is_want = is_memory(&found.refusal) && found.status == 2 && found.out.is_empty();
-    if said.told.refused && (is_want || *found == without_place(ample)) {
+    if said.told.refused && (is_want || is_as_known(found, ample)) {
         return None;
     }
     Disagreement::of(case, "refused memory", ample.clone(), found, None)
 }
 
-// Where there is no memory for the place of a token of a dump, the object of its refusal has none; nor has the line the name of
-// the file, where there is none for that.
-fn without_place(ample: &Answer) -> Answer {
-    let refusal = match (ample.refusal.split_once(",\"byte\":"), ample.refusal.split_once(" of ")) {
-        (Some((before, after)), _) => format!("{before}{}", after.find('}').map_or("", |end| &after[end..])),
-        (None, Some((line, _))) => line.to_owned(),
-        (None, None) => ample.refusal.clone(),
+// What an object of a refusal has no more where there is no memory for it: the place of a token, and the reason in words.
+const LOST: [&str; 5] = ["byte", "column", "expected", "open", "reason"];
+
+// Whether this is the answer that is known, but for what is said of a refusal. The line has no name of a file where there is no
+// memory for that.
+fn is_as_known(found: &Answer, ample: &Answer) -> bool {
+    let line_of =
+        |refusal: &str| refusal.split_once(" of ").map_or_else(|| refusal.to_owned(), |(line, _)| line.to_owned());
+    let is_refusal = match (fields_of(&found.refusal), fields_of(&ample.refusal)) {
+        (Some(found), Some(ample)) => has_the_rest(&found, &ample),
+        _ => found.refusal == ample.refusal || found.refusal == line_of(&ample.refusal),
     };
-    Answer { refusal, ..ample.clone() }
+    is_refusal && found.status == ample.status && found.out == ample.out
+}
+
+// The fields of the object of a refusal.
+fn fields_of(refusal: &str) -> Option<Vec<(String, Value)>> {
+    let object = refusal.strip_prefix("on standard error: ")?.strip_suffix('\n')?;
+    match json::read(object) {
+        Ok(Value::Object(fields)) => Some(fields),
+        _ => None,
+    }
+}
+
+// Whether these are those fields, in their order, less some that may be lost.
+fn has_the_rest(found: &[(String, Value)], ample: &[(String, Value)]) -> bool {
+    let mut found = found.iter().peekable();
+    let is_there = ample.iter().all(|field| found.next_if_eq(&field).is_some() || LOST.contains(&field.0.as_str()));
+    is_there && found.next().is_none()
 }
 
 // What is to be so of all runs of a task.
