@@ -1,16 +1,18 @@
 //! Says what a certificate says of a plan, and does nothing else.
 //!
-//! What it writes is what `run_verify` of the crate `verifying` promises. Here stand its two arguments, how the files are
-//! opened that they name, and its status.
+//! What it writes is what `run_verify` of the crate `verifying` promises, and its exit status is that of this run: `verified` has
+//! both in its contract. Here stand besides its two arguments, and how the files are opened that they name.
 #![tactic(auto)]
 
+mod endings;
+
 use builds::{build_in, own_end};
-use run_parts::{Opened, RunError, Status, Watched};
+use endings::{Ending, verified};
+use run_parts::{Opened, RunError, Watched};
 use std::io::{self, ErrorKind};
 use std::process::ExitCode;
 use std::rt::{Env, Files};
 use std::{env, fs};
-use verifying::run_verify;
 
 const USAGE: &str = "usage: twire-verify PLAN CERT\n";
 
@@ -19,27 +21,38 @@ const VERSION: &str = "twire-verify 0.1.0";
 const STANDARD_INPUT: &str = "/dev/stdin";
 
 fn main(rt: HostRuntime) -> ExitCode {
-    ExitCode::from(match run(&rt) {
-        Ok(status) => status,
-        Err(error) => {
-            let _ = eprintln!(rt; "refused {error}");
-            2
-        }
-    })
+    let ending = run(&rt);
+    if let Some(error) = ending.refused {
+        let _ = eprintln!(rt; "refused {error}");
+    }
+    ExitCode::from(ending.code)
 }
 
-fn run<R: Files + Env + Input + Print + Eprint + AllocGlobal>(rt: &R) -> Result<u8, RunError> {
-    let words: Vec<String> = match env::args(rt) {
-        Ok(words) => words.collect(rt.alloc())?,
-        Err(error) if error.kind() == ErrorKind::OutOfMemory => return Err(RunError::NoMemory),
-        Err(_) => return Ok(refuse(rt)),
+fn run<R: Files + Env + Input + Print + Eprint + AllocGlobal>(rt: &R) -> Ending {
+    let words = match env::args(rt) {
+        Ok(words) => words.collect(rt.alloc()),
+        Err(error) if error.kind() == ErrorKind::OutOfMemory => {
+            return Ending::refused(RunError::NoMemory);
+        }
+        Err(_) => return misused(rt),
     };
-    let first = word_at(words.as_slice(), 1);
+    match words {
+        Ok(words) => run_words(rt, words),
+        Err(_) => Ending::refused(RunError::NoMemory),
+    }
+}
+
+fn run_words<R: Files + Input + Print + Eprint + AllocGlobal>(
+    rt: &R,
+    words: Vec<String>,
+) -> Ending {
+    let words = words.as_slice();
+    let first = word_at(words, 1);
     match words.len() {
         2 if first == "-h" || first == "--help" => show(rt, USAGE),
         2 if first == "--version" => show_version(rt),
-        3 => verify(rt, first, word_at(words.as_slice(), 2)),
-        _ => Ok(refuse(rt)),
+        3 => verify(rt, first, word_at(words, 2)),
+        _ => misused(rt),
     }
 }
 
@@ -51,26 +64,28 @@ fn word_at(words: &[String], place: usize) -> &str {
     }
 }
 
-fn show<R: Print>(rt: &R, text: &str) -> Result<u8, RunError> {
-    match print!(rt; "{text}") {
-        Ok(()) => Ok(0),
-        Err(_) => Err(RunError::Write),
-    }
+fn show<R: Print>(rt: &R, text: &str) -> Ending {
+    shown(print!(rt; "{text}"))
 }
 
 // The version, and what the build has written into the program's own file: a label.
-fn show_version<R: Files + Print + AllocGlobal>(rt: &R) -> Result<u8, RunError> {
+fn show_version<R: Files + Print + AllocGlobal>(rt: &R) -> Ending {
     let end = own_end(rt);
     let build = build_in(end.as_slice());
-    match print!(rt; "{VERSION} ({build})\n") {
-        Ok(()) => Ok(0),
-        Err(_) => Err(RunError::Write),
+    shown(print!(rt; "{VERSION} ({build})\n"))
+}
+
+fn shown(printed: io::Result<()>) -> Ending {
+    match printed {
+        Ok(()) => Ending::quietly(0),
+        Err(_) => Ending::refused(RunError::Write),
     }
 }
 
-fn refuse<R: Eprint>(rt: &R) -> u8 {
+// Says how the program is called.
+fn misused<R: Eprint>(rt: &R) -> Ending {
     let _ = eprint!(rt; "{USAGE}");
-    2
+    Ending::quietly(2)
 }
 
 // A path as /dev/fd/3 may come to name the first file once that is open, so that the second one is looked for before.
@@ -78,18 +93,16 @@ fn verify<R: Files + Input + Print + Eprint + AllocGlobal>(
     rt: &R,
     plan: &str,
     cert: &str,
-) -> Result<u8, RunError> {
+) -> Ending {
     if is_standard_input(plan) && is_standard_input(cert) {
-        return Ok(refuse(rt));
+        return misused(rt);
     }
-    find(rt, cert)?;
-    let mut plan = opened(rt, plan)?;
-    let mut cert = opened(rt, cert)?;
-    let mut out = Watched::new(io::writer(rt));
-    match run_verify(rt.alloc(), &mut plan, &mut cert, &mut out)? {
-        Status::Good => Ok(0),
-        Status::Bad => Ok(1),
-        Status::Refused => Ok(2),
+    match opened_both(rt, plan, cert) {
+        Ok((mut plan, mut cert)) => {
+            let mut out = Watched::new(io::writer(rt));
+            verified(rt.alloc(), &mut plan, &mut cert, &mut out)
+        }
+        Err(error) => Ending::refused(error),
     }
 }
 
@@ -98,6 +111,17 @@ fn is_standard_input(path: &str) -> bool {
 }
 
 type Source<F, S> = Opened<Watched<F>, Watched<S>>;
+
+fn opened_both<R: Files + Input>(
+    rt: &R,
+    plan: &str,
+    cert: &str,
+) -> Result<(Source<R::File, R::Reader>, Source<R::File, R::Reader>), RunError> {
+    find(rt, cert)?;
+    let plan = opened(rt, plan)?;
+    let cert = opened(rt, cert)?;
+    Ok((plan, cert))
+}
 
 fn opened<R: Files + Input>(rt: &R, path: &str) -> Result<Source<R::File, R::Reader>, RunError> {
     if is_standard_input(path) {
