@@ -1,5 +1,5 @@
 -- A text that is a plan text, or a brief, or neither.
-use Rattle.std.proofs.Common.{◌≡◌, ◌⊎◌, ℕ, List, true, false, inl, inr, ap, sym, subst, ◌∙◌, Result, Ok, Err, IfErr, IsErrAnd}
+use Rattle.std.proofs.Common.{◌≡◌, ◌⊎◌, ℕ, List, true, false, inl, inr, ap, sym, subst, ◌∙◌, Result, Ok, Err, IfErr, IfSome, IsErrAnd}
 use Rattle.plan_core.specs.Contents.{Contents}
 use Rattle.plan_text.specs.Places.{Refuses}
 use Rattle.plan_text.specs.Reader.{◌>>=◌}
@@ -10,7 +10,8 @@ use Rattle.brief_text.specs.Briefs.{Means, IsRefused, text_read, brief_read}
 use Rattle.brief_text.specs.Drafts.{Draft, no_items}
 use Rattle.brief_text.specs.Splitting.{plan_meant}
 use Rattle.given_plans.specs.Given.{IsNeither, no_plan, no_brief, no_head, RefusesGiven, RefusesFurther, is_version}
-use Rattle.given_plans.specs.declared.plans.NoPlan.{NoPlan}
+use Rattle.given_plans.specs.declared.plans.Halted.{Halted}
+use Rattle.given_plans.specs.declared.plans.RefusedText.{RefusedText}
 use Rattle.run_parts.specs.declared.errors.RunError.{RunError}
 use Rattle.run_parts.specs.RunErrors.{run_error}
 
@@ -45,6 +46,11 @@ refuses_further draft text e (inl same) = cc
 refuses_further draft text e (inr first) = first
 
 -- what holds of an error holds where the call answers that error
-pub on_no_plan : {X : Type 0} (r : Result X NoPlan) (error : RunError) (P : RunError → Type 0) → IsErrAnd r (λ e. e.error ≡ error) → P error → IfErr r (λ e. P e.error)
-on_no_plan (Ok x) error P h p = tt
-on_no_plan (Err e) error P h p = subst P (sym h) p
+pub on_halted : {X : Type 0} (r : Result X Halted) (error : RunError) (P : RunError → Type 0) → IsErrAnd r (λ e. (e.error ≡ error) × IfSome e.text (λ (it : RefusedText). ⊥)) → P error → IfErr r (λ e. P e.error)
+on_halted (Ok x) error P h p = tt
+on_halted (Err e) error P h p = subst P (sym h.0) p
+
+-- the same where the call answers that error alone
+pub if_error : {X : Type 0} (r : Result X Halted) (error : RunError) (P : RunError → Type 0) → IfErr r (λ e. e.error ≡ error) → P error → IfErr r (λ e. P e.error)
+if_error (Ok x) error P h p = tt
+if_error (Err e) error P h p = subst P (sym h) p

@@ -1,1 +1,2 @@
-pub mod GivenLemmas
+mod GivenLemmas
+mod SourceLemmas

@@ -3,7 +3,7 @@
 #![tactic(auto)]
 
 pub mod plans;
+pub mod sources;
 
-pub use plans::{
-    Further, GivenPlan, GivenText, NoPlan, RefusedText, find_further, find_given, given_by,
-};
+pub use plans::{GivenPlan, Halted, Provenance, Refusal, RefusedText, find_given};
+pub use sources::{find_among, find_in_briefs};

@@ -1,13 +1,13 @@
-// A plan that is given as a plan text, or as one brief or several.
+// A plan that is given as a plan text, or as a brief.
 
-ghost use Rattle.std.specs.Prelude.{◌≡◌, ◌⊎◌, true, IfOk, IfErr};
+ghost use Rattle.std.specs.Prelude.{◌≡◌, ◌⊎◌, true, [], ◌∷◌, ℕ, List, IfOk, IfErr, IfSome};
 ghost use Rattle.plan_core.specs.PlanContents.{plan_contents};
 ghost use Rattle.plan_text.specs.Refusals.{First};
 ghost use Rattle.brief_text.specs.Briefs.{Means};
 ghost use Rattle.brief_text.specs.Splitting.{plan_meant};
 ghost use Rattle.brief_text.specs.Together.{together};
-ghost use Rattle.run_parts.specs.Finding.{Finds};
-ghost use Rattle.given_plans.specs.Given.{GivesPlan, IsNeither, RefusesGiven, AddsBrief, RefusesFurther, is_version};
+ghost use Rattle.given_plans.specs.Given.{GivesPlan, IsNeither, RefusesGiven, is_version};
+ghost use Rattle.given_plans.specs.Sources.{bytes_of};
 ghost use Rattle.run_parts.specs.RunErrors.{run_error};
 ghost use Rattle.run_parts.specs.Runs.{ReadsText, HaltsAtText};
 ghost use Rattle.run_parts.specs.declared.errors.RunError.TheVariants.{NoMemory};
@@ -20,18 +20,29 @@ use run_parts::devices::reading::READS;
 use run_parts::{Input, RunError, read_within};
 use std::alloc::{AllocError, Global};
 
-/// A plan, and where its parts stand in the briefs that mean it. A plan text has none.
+/// What a plan was read from.
+pub struct Provenance {
+    /// Where its parts stand in the briefs that mean it. A plan text has none.
+    pub origins: Option<Origins>,
+    /// The texts, in the order in which they were read.
+    pub texts: Vec<Vec<u8>>,
+}
+
+// Written out, so that one call lets it go.
+impl Drop for Provenance {
+    fn drop(self) {
+        let Self {
+            origins: _,
+            texts: _,
+        } = self;
+    }
+}
+
+/// A plan, and what it was read from.
 #[derive(Drop)]
 pub struct GivenPlan {
     pub plan: Plan,
-    pub origins: Option<Origins>,
-}
-
-/// A plan, and the text that gives it.
-#[derive(Drop)]
-pub struct GivenText {
-    pub given: GivenPlan,
-    pub text: Vec<u8>,
+    pub provenance: Provenance,
 }
 
 /// A text that was refused, for people.
@@ -40,62 +51,79 @@ pub struct RefusedText {
     pub text: Vec<u8>,
     pub language: Language,
     pub place: Place,
-    /// Which of the briefs that give the plan it is, from 0 on.
-    pub file: u32,
+    /// The briefs before it, of those that give the plan.
+    pub before: Vec<Vec<u8>>,
 }
 
-/// Why there is no plan.
+impl RefusedText {
+    /// Which of the texts that give the plan it is, from 0 on.
+    pub fn file(&self) -> u32 {
+        u32::try_from(self.before.len()).unwrap_or(u32::MAX)
+    }
+}
+
+/// Why a run goes no further.
 #[derive(Drop)]
-pub struct NoPlan {
+pub struct Halted {
     pub error: RunError,
     /// The text that was refused, where one was.
     pub text: Option<RefusedText>,
 }
 
-// How a text is refused, as a plan or as a brief.
+/// How a text is refused, as a plan or as a brief.
 #[derive(Clone, Copy)]
-struct Refusal {
-    language: Language,
-    refused: Refused,
+pub struct Refusal {
+    pub language: Language,
+    pub refused: Refused,
 }
 
-impl NoPlan {
-    // The refusal of this text, which has this number among those that give the plan.
-    fn refused(text: Vec<u8>, file: u32, refusal: Refusal) -> NoPlan
-        ensures { result.error ≡ run_error refusal.refused.error }
+impl Halted {
+    /// The refusal of this text, after these.
+    pub fn refused(text: Vec<u8>, before: Vec<Vec<u8>>, refusal: Refusal) -> Halted
+        ensures error { result.error ≡ run_error refusal.refused.error }
+        ensures text { IfSome result.text (λ it. it.text ≡ text) }
+        ensures before { IfSome result.text (λ it. it.before ≡ before) }
     {
         let Refused { error, place } = refusal.refused;
-        NoPlan {
+        Halted {
             error: RunError::from(error),
             text: match place {
                 Some(place) => Some(RefusedText {
                     text,
                     language: refusal.language,
                     place,
-                    file,
+                    before,
                 }),
                 None => None,
             },
         }
     }
-}
 
-impl From<RunError> for NoPlan {
-    ghost from_gives = { λ error e. e.error ≡ error };
-
-    fn from(error: RunError) -> NoPlan {
-        NoPlan { error, text: None }
-    }
-}
-
-impl From<AllocError> for NoPlan {
-    ghost from_gives = { λ _ e. e.error ≡ NoMemory };
-
-    fn from(_error: AllocError) -> NoPlan {
-        NoPlan {
+    // An allocation failed.
+    pub(crate) fn memory() -> Halted
+        ensures error { result.error ≡ NoMemory }
+        ensures text { IfSome result.text (λ it. ⊥) }
+    {
+        Halted {
             error: RunError::NoMemory,
             text: None,
         }
+    }
+}
+
+impl From<RunError> for Halted {
+    ghost from_gives = { λ error e. (e.error ≡ error) × IfSome e.text (λ it. ⊥) };
+
+    fn from(error: RunError) -> Halted {
+        Halted { error, text: None }
+    }
+}
+
+impl From<AllocError> for Halted {
+    ghost from_gives = { λ _ e. (e.error ≡ NoMemory) × IfSome e.text (λ it. ⊥) };
+
+    fn from(_error: AllocError) -> Halted {
+        Halted::memory()
     }
 }
 
@@ -106,51 +134,51 @@ impl From<AllocError> for NoPlan {
 ///
 /// `Read` where the reader failed or gave no end, and `Plan` with the first refusal of the plan text or of the brief: P2 of the
 /// plan text where it begins as neither. `NoMemory` where an allocation fails.
-pub fn find_given<I: Input>(alloc: Global, text: &mut I) -> Result<GivenText, NoPlan>
-    ensures found { IfOk result (λ it.
-        Finds (ReadsText I.reader) GivesPlan text.old (plan_contents it.given.plan) text.new) }
+pub fn find_given<I: Input>(alloc: Global, text: &mut I) -> Result<GivenPlan, Halted>
+    ensures found { IfOk result (λ it. (read : List ℕ) × ReadsText I.reader text.old read text.new
+        × GivesPlan read (plan_contents it.plan) × (bytes_of it.provenance.texts.items ≡ read ∷ [])) }
     ensures stops { IfErr result (λ e. HaltsAtText I.reader RefusesGiven text.old e.error text.new) }
+    ensures text { IfErr result (λ e. IfSome e.text (λ it.
+        ReadsText I.reader text.old it.text.items text.new × (it.before.items ≡ []))) }
 {
     let text = read_within(alloc, text, READS)?;
     match plan_of(alloc, text.as_slice()) {
-        Ok(given) => Ok(GivenText { given, text }),
-        Err(refusal) => Err(NoPlan::refused(text, 0, refusal)),
+        Ok(meaning) => of_one_text(alloc, meaning, text),
+        Err(refusal) => Err(Halted::refused(text, Vec::new(alloc), refusal)),
     }
 }
 
-/// Briefs, and the text of the last one of them, in which the names of its items can be looked for.
-#[derive(Drop)]
-pub struct Further {
-    pub briefs: Briefs,
-    pub text: Vec<u8>,
+// What this text alone means.
+fn of_one_text(alloc: Global, meaning: Meaning, text: Vec<u8>) -> Result<GivenPlan, Halted>
+    ensures plan { IfOk result (λ it. it.plan ≡ meaning.plan) }
+    ensures texts { IfOk result (λ it. bytes_of it.provenance.texts.items ≡ text.items ∷ []) }
+    ensures error { IfErr result (λ e. e.error ≡ NoMemory) }
+    ensures no_text { IfErr result (λ e. IfSome e.text (λ it. ⊥)) }
+{
+    let mut texts = Vec::new(alloc);
+    match texts.push(text) {
+        Ok(()) => Ok(meaning.of(texts)),
+        Err(_) => Err(Halted::memory()),
+    }
 }
 
-/// The briefs, with a further one that the reader gives. It has this number among those that give the plan.
-///
-/// # Errors
-///
-/// `Read` where the reader failed or gave no end, and `Plan` with the first refusal of this brief after those before it.
-/// `NoMemory` where an allocation fails.
-pub fn find_further<I: Input>(
-    alloc: Global,
-    briefs: Briefs,
-    file: u32,
-    text: &mut I,
-) -> Result<Further, NoPlan>
-    ensures found { IfOk result (λ it.
-        Finds (ReadsText I.reader) (AddsBrief (together briefs)) text.old (together it.briefs) text.new) }
-    ensures stops { IfErr result (λ e.
-        HaltsAtText I.reader (RefusesFurther (together briefs)) text.old e.error text.new) }
-{
-    let text = read_within(alloc, text, READS)?;
-    match briefs.with_at(text.as_slice()) {
-        Ok(briefs) => Ok(Further { briefs, text }),
-        Err(refused) => {
-            let refusal = Refusal {
-                language: Language::Brief,
-                refused,
-            };
-            Err(NoPlan::refused(text, file, refusal))
+// A plan, and where its parts stand in the briefs that mean it.
+#[derive(Drop)]
+pub(crate) struct Meaning {
+    pub(crate) plan: Plan,
+    pub(crate) origins: Option<Origins>,
+}
+
+impl Meaning {
+    // With the texts that mean it.
+    pub(crate) fn of(self, texts: Vec<Vec<u8>>) -> GivenPlan
+        ensures plan { result.plan ≡ self.plan }
+        ensures texts { result.provenance.texts ≡ texts }
+    {
+        let Meaning { plan, origins } = self;
+        GivenPlan {
+            plan,
+            provenance: Provenance { origins, texts },
         }
     }
 }
@@ -160,23 +188,23 @@ pub fn find_further<I: Input>(
 /// # Errors
 ///
 /// `NoMemory` where an allocation fails.
-pub fn given_by(briefs: Briefs) -> Result<GivenPlan, AllocError>
+pub(crate) fn meant_together(briefs: Briefs) -> Result<Meaning, AllocError>
     ensures { IfOk result (λ it. plan_contents it.plan ≡ plan_meant (together briefs)) }
 {
     let origins = briefs.origins()?;
-    Ok(GivenPlan {
+    Ok(Meaning {
         plan: briefs.plan()?,
         origins: Some(origins),
     })
 }
 
-fn plan_of(alloc: Global, text: &[u8]) -> Result<GivenPlan, Refusal>
+fn plan_of(alloc: Global, text: &[u8]) -> Result<Meaning, Refusal>
     ensures given { IfOk result (λ it. GivesPlan text.now (plan_contents it.plan)) }
     ensures refused { IfErr result (λ e.
         (e.refused.error ≡ PlanError.NoMemory) ⊎ IsNeither text.now e.refused.error) }
 {
     match read_plan_at(alloc, text) {
-        Ok(plan) => Ok(GivenPlan {
+        Ok(plan) => Ok(Meaning {
             plan,
             origins: None,
         }),
@@ -189,7 +217,7 @@ fn plan_of(alloc: Global, text: &[u8]) -> Result<GivenPlan, Refusal>
 }
 
 // The plan that the text means as a brief, where as a plan text it is refused so.
-fn meant_by(alloc: Global, text: &[u8], head: Refused) -> Result<GivenPlan, Refusal>
+fn meant_by(alloc: Global, text: &[u8], head: Refused) -> Result<Meaning, Refusal>
     requires { is_version head.error ≡ true }
     ensures meant { IfOk result (λ it. Means text.now (plan_contents it.plan)) }
     ensures refused { First text.now head.error → IfErr result (λ e.
@@ -197,8 +225,8 @@ fn meant_by(alloc: Global, text: &[u8], head: Refused) -> Result<GivenPlan, Refu
 {
     let briefs = Briefs::new(alloc);
     match briefs.with_at(text) {
-        Ok(briefs) => match given_by(briefs) {
-            Ok(given) => Ok(given),
+        Ok(briefs) => match meant_together(briefs) {
+            Ok(meaning) => Ok(meaning),
             Err(_) => Err(Refusal {
                 language: Language::Brief,
                 refused: Refused::memory(),

@@ -5,9 +5,9 @@ use Rattle.plan_core.specs.PlanContents.{plan_contents}
 use Rattle.given_plans.proofs.GivenLemmas.{means_read, brief_refused, head_refused}
 use Rattle.given_plans.proofs.plans.meant_by.Goals as goal
 
-pub returns-in-Ok-given_by-clause-meant : goal.returns-in-Ok-given_by-clause-meant
-returns-in-Ok-given_by-clause-meant c =
-    means_read c.args.text.now (together c.new-briefs.result) (together c.in-Ok.briefs) (plan_contents c.in-Ok-given_by.given.plan) c.new-briefs.ensures c.in-Ok.ensures.read c.in-Ok-given_by.ensures
+pub returns-in-Ok-meant_together-clause-meant : goal.returns-in-Ok-meant_together-clause-meant
+returns-in-Ok-meant_together-clause-meant c =
+    means_read c.args.text.now (together c.new-briefs.result) (together c.in-Ok.briefs) (plan_contents c.in-Ok-meant_together.meaning.plan) c.new-briefs.ensures c.in-Ok.ensures.read c.in-Ok-meant_together.ensures
 
 pub returns-in-Err-clause-refused : goal.returns-in-Err-clause-refused
 returns-in-Err-clause-refused c =
