@@ -90,8 +90,8 @@ pub fn explain_capture<R: AllocGlobal + Threads + Sync, I: Input, J: Input, O: O
     capture: Capture<'_>,
     style: Style,
 ) -> Result<Ended, Halt> {
-    let GivenPlan { plan, origins } = plans.find(rt.alloc())?;
-    let words = plans.words(&plan, &origins);
+    let GivenPlan { plan, provenance } = plans.find(rt.alloc())?;
+    let words = plans.words(&plan, &provenance);
     refuse_unknown(rt.alloc(), words, capture.drives)?;
     let (told, hints) = capture_by(rt, words, vcd, out, capture, style)?;
     let recorded = Recorded::Bus(capture.bus.view.window, told.seen);
@@ -471,12 +471,12 @@ pub fn learn_with_names<I: Input, J: Input, O: Output>(
     out: &mut O,
     lesson: Lesson<'_>,
 ) -> Result<Ended, Halt> {
-    let GivenPlan { plan, origins } = briefs.find_in_briefs(alloc)?;
-    let Some(origins) = origins else {
+    let GivenPlan { plan, provenance } = briefs.find_in_briefs(alloc)?;
+    let Some(origins) = &provenance.origins else {
         return learn(alloc, vcd, out, lesson);
     };
     let file = briefs.files.of(0).unwrap_or("");
-    let before = BriefBefore::new(alloc, file, &plan, &origins)?;
+    let before = BriefBefore::new(alloc, file, &plan, origins)?;
     learn_after(alloc, vcd, out, lesson, Some(&before))
 }
 

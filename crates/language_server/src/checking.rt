@@ -50,29 +50,19 @@ pub(crate) fn texts_of<'a>(
     parts: &'a [Part],
     names: &'a [&'a str],
 ) -> Result<Texts<'a>, AllocError> {
-    let mut further = Vec::new(alloc);
-    for part in parts.iter().skip(1) {
-        if further.push(Watched::new(part.text.as_slice())).is_err() {
+    let mut readers = Vec::new(alloc);
+    for part in parts {
+        if readers.push(Watched::new(part.text.as_slice())).is_err() {
             return Err(AllocError);
         }
     }
-    let (text, name) = first_of(parts);
     Ok(Sources {
-        first: Watched::new(text),
-        further,
+        readers,
         files: BriefFiles {
-            first: name,
+            first: parts.first().map_or("", |part| part.name.as_str()),
             further: names,
         },
-        texts: Vec::new(alloc),
     })
-}
-
-fn first_of(parts: &[Part]) -> (&[u8], &str) {
-    match parts.first() {
-        Some(part) => (part.text.as_slice(), part.name.as_str()),
-        None => (&[], ""),
-    }
 }
 
 /// What is wrong with the texts that give a plan. Where some cannot be read that is what is refused before the first of them: all
@@ -134,17 +124,12 @@ fn wrong_in_plan<R: Threads + Sync>(
     given: GivenPlan,
     texts: &Texts<'_>,
 ) -> Result<Found, AllocError> {
-    let GivenPlan { plan, origins } = given;
+    let GivenPlan { plan, provenance } = given;
     let checked = checked(rt, alloc, plan)?;
-    let words = texts.words(&checked.plan, &origins);
-    let odd = oddities(alloc, &checked.plan, &origins, texts.texts.as_slice())?;
-    wrong_in_checked(
-        alloc,
-        &checked,
-        words,
-        odd.as_slice(),
-        texts.texts.as_slice(),
-    )
+    let words = texts.words(&checked.plan, &provenance);
+    let texts = provenance.texts.as_slice();
+    let odd = oddities(alloc, &checked.plan, &provenance.origins, texts)?;
+    wrong_in_checked(alloc, &checked, words, odd.as_slice(), texts)
 }
 
 /// The plan, and its faults.

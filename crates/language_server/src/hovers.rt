@@ -95,9 +95,9 @@ fn hover_in_plan<R: Threads + Sync>(
     texts: &Texts<'_>,
     name: &[u8],
 ) -> Result<Option<String>, AllocError> {
-    let GivenPlan { plan, origins } = given;
+    let GivenPlan { plan, provenance } = given;
     let checked = checked(rt, alloc, plan)?;
-    let words = texts.words(&checked.plan, &origins);
+    let words = texts.words(&checked.plan, &provenance);
     hover_on_named(alloc, &checked, words, name)
 }
 

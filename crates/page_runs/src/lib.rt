@@ -33,9 +33,9 @@ pub fn write_page_alone<R: AllocGlobal + Threads + Sync, I: Input, O: Output>(
     plans: &mut Sources<'_, I>,
     out: &mut O,
 ) -> Result<Ended, Halt> {
-    let GivenPlan { plan, origins } = plans.find(rt.alloc())?;
+    let GivenPlan { plan, provenance } = plans.find(rt.alloc())?;
     let checked = check_found(rt, rt.alloc(), plan, 1, &NoGate)?;
-    let words = plans.words(&checked.plan, &origins);
+    let words = plans.words(&checked.plan, &provenance);
     write_page(rt.alloc(), title, &checked, words, None, out)?;
     Ok(Ended::quietly(status_of(checked.faults.is_safe())))
 }
@@ -49,9 +49,9 @@ pub fn write_page_with<R: AllocGlobal + Threads + Sync, I: Input, J: Input, O: O
     out: &mut O,
     bus: Bus<'_>,
 ) -> Result<Ended, Halt> {
-    let GivenPlan { plan, origins } = plans.find(rt.alloc())?;
+    let GivenPlan { plan, provenance } = plans.find(rt.alloc())?;
     let checked = check_found(rt, rt.alloc(), plan, 1, &NoGate)?;
-    let words = plans.words(&checked.plan, &origins);
+    let words = plans.words(&checked.plan, &provenance);
     let mut written = Watched::new(Vec::new(rt.alloc()));
     let (recording, seen, rises) = recording_of(rt, words, vcd, &mut written, bus)?;
     let capture = written.into_inner();

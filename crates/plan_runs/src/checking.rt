@@ -1,17 +1,29 @@
 // Runs that say whether a plan is safe, whether a certificate is right, and who wins: each finds a value, and writes it in the
-// form that is wanted.
+// form that is wanted. The exact form is that of `given_runs`, by its call.
 
+ghost use Rattle.std.specs.Prelude.{◌≡◌, true, ℕ, List, IfOk, OnOk};
+ghost use Rattle.cert_check.specs.Accepts.{IsAnswer};
+ghost use Rattle.given_plans.specs.Sources.{DueFor, GiveThePlan, ReadsTexts, bytes_of};
+ghost use Rattle.given_runs.specs.Due.{AnsweredPlan, CheckedPlan};
+ghost use Rattle.given_runs.specs.Inputs.{DueForBoth, ReadsTextsAndOne};
+ghost use Rattle.plan_core.specs.Contents.{Contents};
 ghost use Rattle.plan_core.specs.PlanContents.{plan_contents};
+ghost use Rattle.plan_runs.specs.Statuses.{IsAnswered, JudgesIn, OfGivenPlan};
+ghost use Rattle.report.specs.Checks.{Judges};
+ghost use Rattle.run_parts.specs.Runs.{ReadsText, Reports};
+ghost use Rattle.run_parts.specs.declared.runs.Status.{Status};
 ghost use Rattle.verdicts.specs.Faults.{AreFaults, fault_list};
+ghost use Rattle.verifying.specs.Answers.{answer_status};
 
 use crate::drawings::draw_fault;
 use bus_rows::{Paint, called_by};
-use cert_check::{Answer, Judged, check_certificate_at};
+use cert_check::{Answer, Answered, Judged, check_certificate_at};
 use certificate::Refusal;
 use diagnostics::{Diagnostic, Messages, diagnose_check};
 use explain::{Detail, Mistake, explain_answer, explain_check, is_all_checked, mistake_of};
 use files::Comparing;
-use given_plans::GivenPlan;
+use given_plans::{GivenPlan, Provenance};
+use given_runs::{GivenAnswer, GivenCheck, check_given, find_answered, find_checked, verify_given};
 use growing_text::Text;
 use hints::{Found, Hints, on_certificate, on_checked, on_safe};
 use lint::{Oddity, oddities};
@@ -21,8 +33,8 @@ use plan_core::Plan;
 use plan_words::{PlanWords, sides_of};
 use remedies::{Reasons, count_groups, kept_apart, reasons_of};
 use report::{
-    Checked, Input, NoGate, Output, RunError, Status, answer_line, check_found, check_report,
-    read_within, status_of, status_of_answer, verify_found,
+    Checked, Gate, Input, NoGate, Output, RunError, Status, answer_line, check_report, read_within,
+    status_of, status_of_answer,
 };
 use run_ends::{Canvas, Ended, Extras, Format, Halt, Remark, Sources, Style};
 use run_parts::devices::reading::READS;
@@ -31,7 +43,6 @@ use std::alloc::{AllocError, Global};
 use std::rt::Files;
 use std::thread::Threads;
 use std::time::Clock;
-use verdicts::MOST_WORKERS;
 
 // So many unsafe pairs are seen without groups.
 const FEW: usize = 20;
@@ -49,7 +60,7 @@ pub struct Look<'a> {
 
 // ---- check
 
-/// Checks the plan that the reader gives. The canvas is for the waves, where they are wanted.
+/// Checks the plan that the readers give. The canvas is for the waves, where they are wanted.
 pub fn check<R: Files + Print + Eprint + Clock + AllocGlobal + Threads + Sync, I: Input, O: Output>(
     rt: &R,
     plans: &mut Sources<'_, I>,
@@ -57,38 +68,165 @@ pub fn check<R: Files + Print + Eprint + Clock + AllocGlobal + Threads + Sync, I
     look: Look<'_>,
     extras: Extras,
     canvas: Option<Canvas<'_, '_>>,
-) -> Result<Ended, Halt> {
-    if !(1..=MOST_WORKERS).contains(&look.workers) {
-        return Err(Halt::Run(RunError::Workers));
-    }
-    let alloc = rt.alloc();
-    let GivenPlan { plan, origins } = plans.find(alloc)?;
+) -> Result<Ended, Halt>
+    ensures status { IfOk result (λ it. OfGivenPlan I.reader (JudgesIn look.strict it.status)
+        plans.old.readers.items plans.new.readers.items) }
+{
     let gate = Comparing::new(rt, extras.watcher);
-    let checked = check_found(rt, alloc, plan, look.workers, &gate)?;
-    let words = plans.words(&checked.plan, &origins);
-    let texts = plans.texts.as_slice();
-    let odd = oddities(alloc, &checked.plan, &origins, texts)?;
-    let odd = odd.as_slice();
-    let status = match extras.format {
-        Format::Messages => write_messages(alloc, &checked, words, odd, look.strict, texts, out)?,
-        _ => tell_checked(
-            alloc,
-            &checked,
-            words,
-            odd,
-            out,
-            look.explain,
-            extras.style(),
-        )?,
+    let Ran {
+        found,
+        status,
+        remark,
+    } = if look.explain.is_none() && extras.is_exact() {
+        check_exactly(rt, plans, out, look.workers, &gate, extras)?
+    } else {
+        check_in_form(rt, plans, out, look, &gate, extras)?
     };
     if let Some(canvas) = canvas {
-        draw_fault(rt, &checked, look.pair, status, canvas)?;
+        draw_fault(rt, &found.checked, look.pair, status, canvas)?;
+    }
+    Ok(Ended {
+        status: judged(status, &found.checked.plan, look.strict),
+        remark,
+    })
+}
+
+// A check that was written: what it found, its status by the plan, and what is to be said to people.
+#[derive(Drop)]
+struct Ran {
+    found: GivenCheck,
+    status: Status,
+    remark: Remark,
+}
+
+// The exact report, by the run of `given_runs`.
+fn check_exactly<R: AllocGlobal + Threads + Sync, I: Input, O: Output, G: Gate + Sync>(
+    rt: &R,
+    plans: &mut Sources<'_, I>,
+    out: &mut O,
+    workers: u32,
+    gate: &G,
+    extras: Extras,
+) -> Result<Ran, Halt>
+    ensures report { IfOk result (λ it. Reports (ReadsTexts I.reader) (DueFor CheckedPlan) O.writer
+        plans.old.readers.items out.old it.status plans.new.readers.items out.new) }
+    ensures status { IfOk result (λ it. OfGivenPlan I.reader (Judges it.status)
+        plans.old.readers.items plans.new.readers.items) }
+{
+    let alloc = rt.alloc();
+    match check_given(rt, alloc, plans.readers.as_mut_slice(), out, workers, gate) {
+        Ok((found, status)) => {
+            let remark = remark_later(alloc, &found, plans, extras);
+            Ok(Ran {
+                found,
+                status,
+                remark,
+            })
+        }
+        Err(halted) => Err(plans.halt(halted)),
+    }
+}
+
+// What is to be said of a plan whose exact report was written. Where there is no memory for that, nothing is.
+fn remark_later<I: Input>(
+    alloc: Global,
+    found: &GivenCheck,
+    plans: &Sources<'_, I>,
+    extras: Extras,
+) -> Remark
+    requires { AreFaults (plan_contents found.now.checked.plan) (fault_list found.now.checked.faults) }
+{
+    if !extras.hints {
+        return Remark::Nothing;
+    }
+    let GivenCheck {
+        checked,
+        provenance,
+    } = found;
+    let words = plans.words(&checked.plan, provenance);
+    match odd_in(alloc, &checked.plan, provenance) {
+        Ok(odd) => Remark::hints(hints_on(alloc, checked, words, odd.as_slice(), false)),
+        Err(_) => Remark::Nothing,
+    }
+}
+
+fn odd_in<'a>(
+    alloc: Global,
+    plan: &'a Plan,
+    provenance: &'a Provenance,
+) -> Result<Vec<Oddity<'a>>, AllocError> {
+    oddities(
+        alloc,
+        plan,
+        &provenance.origins,
+        provenance.texts.as_slice(),
+    )
+}
+
+// The report in another form, which has the same status.
+fn check_in_form<R: AllocGlobal + Threads + Sync, I: Input, O: Output, G: Gate + Sync>(
+    rt: &R,
+    plans: &mut Sources<'_, I>,
+    out: &mut O,
+    look: Look<'_>,
+    gate: &G,
+    extras: Extras,
+) -> Result<Ran, Halt>
+    ensures status { IfOk result (λ it. OfGivenPlan I.reader (Judges it.status)
+        plans.old.readers.items plans.new.readers.items) }
+{
+    let alloc = rt.alloc();
+    match find_checked(rt, alloc, plans.readers.as_mut_slice(), look.workers, gate) {
+        Ok(found) => {
+            let status = status_of(found.checked.faults.is_safe());
+            let remark = write_in_form(alloc, &found, plans, out, look, extras)?;
+            Ok(Ran {
+                found,
+                status,
+                remark,
+            })
+        }
+        Err(halted) => Err(plans.halt(halted)),
+    }
+}
+
+// Writes what was found, and answers what is to be said to people.
+fn write_in_form<I: Input, O: Output>(
+    alloc: Global,
+    found: &GivenCheck,
+    plans: &Sources<'_, I>,
+    out: &mut O,
+    look: Look<'_>,
+    extras: Extras,
+) -> Result<Remark, Halt>
+    requires { AreFaults (plan_contents found.now.checked.plan) (fault_list found.now.checked.faults) }
+{
+    let GivenCheck {
+        checked,
+        provenance,
+    } = found;
+    let words = plans.words(&checked.plan, provenance);
+    let odd = odd_in(alloc, &checked.plan, provenance)?;
+    let odd = odd.as_slice();
+    match extras.format {
+        Format::Messages => {
+            let texts = provenance.texts.as_slice();
+            write_messages(alloc, checked, words, odd, look.strict, texts, out)?;
+        }
+        _ => {
+            tell_checked(
+                alloc,
+                checked,
+                words,
+                odd,
+                out,
+                look.explain,
+                extras.style(),
+            )?;
+        }
     }
     let is_explained = look.explain.is_some();
-    Ok(Ended {
-        status: judged(status, &checked.plan, look.strict),
-        remark: remark_on(alloc, &checked, words, odd, is_explained, extras),
-    })
+    Ok(remark_on(alloc, checked, words, odd, is_explained, extras))
 }
 
 // Writes what is wrong as compilers do.
@@ -126,7 +264,9 @@ fn message_lines(
 }
 
 // The status of a run with this status over a plan. One that is strict is good where all of the plan was looked at.
-fn judged(status: Status, plan: &Plan, strict: bool) -> Status {
+fn judged(status: Status, plan: &Plan, strict: bool) -> Status
+    ensures { (about : Contents) → Judges status about → JudgesIn strict result about }
+{
     match status {
         Status::Good if strict && !is_all_checked(plan) => Status::Bad,
         _ => status,
@@ -244,7 +384,7 @@ fn write_checked<O: Output>(
 
 // ---- verify
 
-/// Says what the certificate that the second reader gives says of the plan that the first reader gives. Where that is to be
+/// Says what the certificate that the second reader gives says of the plan that the first ones give. Where that is to be
 /// explained the certificate is kept, and else it is judged as it comes.
 pub fn verify<I: Input, J: Input, O: Output>(
     alloc: Global,
@@ -253,45 +393,141 @@ pub fn verify<I: Input, J: Input, O: Output>(
     out: &mut O,
     explain: bool,
     extras: Extras,
-) -> Result<Ended, Halt> {
-    let GivenPlan { plan, origins } = plans.find(alloc)?;
+) -> Result<Ended, Halt>
+    ensures status { IfOk result (λ it. IsAnswered I.reader J.reader
+        (plans.old.readers.items, cert.old) it.status (plans.new.readers.items, cert.new)) }
+{
     if explain {
-        return verify_kept(alloc, plans.words(&plan, &origins), cert, out, extras);
+        verify_kept(alloc, plans, cert, out, extras)
+    } else if extras.is_exact() {
+        verify_exactly(alloc, plans, cert, out, extras)
+    } else {
+        verify_in_form(alloc, plans, cert, out, extras)
     }
-    let answered = verify_found(alloc, plan, cert)?;
-    let words = plans.words(&answered.plan, &origins);
-    let refusal = answered.refusal.as_ref();
-    tell_verified(alloc, words, answered.answer, refusal, None, out, extras)
 }
 
-fn tell_verified<O: Output>(
+// The exact line, by the run of `given_runs`.
+fn verify_exactly<I: Input, J: Input, O: Output>(
     alloc: Global,
-    words: PlanWords<'_>,
-    answer: Answer,
-    refusal: Option<&Refusal>,
-    mistake: Option<Mistake>,
-    out: &mut O,
-    extras: Extras,
-) -> Result<Ended, Halt> {
-    let status = tell_answer(alloc, words, answer, refusal, mistake, out, extras)?;
-    Ok(Ended {
-        status,
-        remark: remark_on_answer(alloc, words, answer, refusal, extras),
-    })
-}
-
-fn verify_kept<J: Input, O: Output>(
-    alloc: Global,
-    words: PlanWords<'_>,
+    plans: &mut Sources<'_, I>,
     cert: &mut J,
     out: &mut O,
     extras: Extras,
-) -> Result<Ended, Halt> {
-    let plan = words.plan();
+) -> Result<Ended, Halt>
+    ensures report { IfOk result (λ it. Reports (ReadsTextsAndOne I.reader J.reader) (DueForBoth AnsweredPlan) O.writer
+        (plans.old.readers.items, cert.old) out.old it.status (plans.new.readers.items, cert.new) out.new) }
+    ensures status { IfOk result (λ it. IsAnswered I.reader J.reader
+        (plans.old.readers.items, cert.old) it.status (plans.new.readers.items, cert.new)) }
+{
+    match verify_given(alloc, plans.readers.as_mut_slice(), cert, out) {
+        Ok((found, status)) => {
+            let remark = remark_on_given(alloc, &found, plans, extras);
+            Ok(Ended { status, remark })
+        }
+        Err(halted) => Err(plans.halt(halted)),
+    }
+}
+
+// The answer in another form, which has the same status.
+fn verify_in_form<I: Input, J: Input, O: Output>(
+    alloc: Global,
+    plans: &mut Sources<'_, I>,
+    cert: &mut J,
+    out: &mut O,
+    extras: Extras,
+) -> Result<Ended, Halt>
+    ensures { IfOk result (λ it. IsAnswered I.reader J.reader
+        (plans.old.readers.items, cert.old) it.status (plans.new.readers.items, cert.new)) }
+{
+    match find_answered(alloc, plans.readers.as_mut_slice(), cert) {
+        Ok(found) => {
+            let status = tell_given(alloc, &found, plans, out, extras)?;
+            let remark = remark_on_given(alloc, &found, plans, extras);
+            Ok(Ended { status, remark })
+        }
+        Err(halted) => Err(plans.halt(halted)),
+    }
+}
+
+fn tell_given<I: Input, O: Output>(
+    alloc: Global,
+    found: &GivenAnswer,
+    plans: &Sources<'_, I>,
+    out: &mut O,
+    extras: Extras,
+) -> Result<Status, RunError>
+    ensures { IfOk result (λ it. it ≡ answer_status found.now.answered.answer) }
+{
+    let GivenAnswer {
+        answered: Answered {
+            plan,
+            answer,
+            refusal,
+        },
+        provenance,
+    } = found;
+    let words = plans.words(plan, provenance);
+    tell_answer(alloc, words, *answer, refusal.as_ref(), None, out, extras)
+}
+
+fn remark_on_given<I: Input>(
+    alloc: Global,
+    found: &GivenAnswer,
+    plans: &Sources<'_, I>,
+    extras: Extras,
+) -> Remark {
+    let GivenAnswer {
+        answered: Answered {
+            plan,
+            answer,
+            refusal,
+        },
+        provenance,
+    } = found;
+    remark_on_answer(
+        alloc,
+        plans.words(plan, provenance),
+        *answer,
+        refusal.as_ref(),
+        extras,
+    )
+}
+
+fn verify_kept<I: Input, J: Input, O: Output>(
+    alloc: Global,
+    plans: &mut Sources<'_, I>,
+    cert: &mut J,
+    out: &mut O,
+    extras: Extras,
+) -> Result<Ended, Halt>
+    ensures { IfOk result (λ it. IsAnswered I.reader J.reader
+        (plans.old.readers.items, cert.old) it.status (plans.new.readers.items, cert.new)) }
+{
+    let GivenPlan { plan, provenance } = plans.find(alloc)?;
     let cert = read_within(alloc, cert, READS)?;
-    let Judged { answer, refusal } = check_certificate_at(alloc, plan, cert.as_slice())?;
-    let mistake = mistake_of(alloc, plan, cert.as_slice(), answer)?;
-    tell_verified(alloc, words, answer, refusal.as_ref(), mistake, out, extras)
+    let words = plans.words(&plan, &provenance);
+    explain_kept(alloc, &plan, words, cert.as_slice(), out, extras)
+}
+
+// Says what this certificate says of the plan, and why, where it is wrong.
+fn explain_kept<O: Output>(
+    alloc: Global,
+    plan: &Plan,
+    words: PlanWords<'_>,
+    cert: &[u8],
+    out: &mut O,
+    extras: Extras,
+) -> Result<Ended, Halt>
+    ensures { IfOk result (λ it. (answer : Answer) × (it.status ≡ answer_status answer)
+        × IsAnswer (plan_contents plan.now) cert.now answer) }
+{
+    let Judged { answer, refusal } = check_certificate_at(alloc, plan, cert)?;
+    let mistake = mistake_of(alloc, plan, cert, answer)?;
+    let refusal = refusal.as_ref();
+    Ok(Ended {
+        status: tell_answer(alloc, words, answer, refusal, mistake, out, extras)?,
+        remark: remark_on_answer(alloc, words, answer, refusal, extras),
+    })
 }
 
 /// Writes the answer to a certificate of the plan of these words, which may be refused there, and what is wrong with
@@ -304,7 +540,9 @@ pub fn tell_answer<O: Output>(
     mistake: Option<Mistake>,
     out: &mut O,
     extras: Extras,
-) -> Result<Status, RunError> {
+) -> Result<Status, RunError>
+    ensures { IfOk result (λ it. it ≡ answer_status answer) }
+{
     let status = status_of_answer(answer);
     match extras.style() {
         Style::Objects => write_answer(alloc, words, answer, refusal, mistake, out)?,
@@ -336,19 +574,26 @@ pub fn remark_on_answer(
 
 // ---- order
 
-/// Says who wins arbitration in each pair of the plan that the reader gives, after a summary where that is to be explained.
+/// Says who wins arbitration in each pair of the plan that the readers give, after a summary where that is to be explained.
 pub fn order<R: AllocGlobal + Threads + Sync, I: Input, O: Output>(
     rt: &R,
     plans: &mut Sources<'_, I>,
     out: &mut O,
     explain: bool,
     style: Style,
-) -> Result<Ended, Halt> {
-    let GivenPlan { plan, origins } = plans.find(rt.alloc())?;
-    let checked = check_found(rt, rt.alloc(), plan, 1, &NoGate)?;
-    let words = plans.words(&checked.plan, &origins);
-    write_orders(rt.alloc(), words, &checked, out, explain, style)?;
-    Ok(Ended::quietly(status_of(checked.faults.is_safe())))
+) -> Result<Ended, Halt>
+    ensures status { IfOk result (λ it. OfGivenPlan I.reader (Judges it.status)
+        plans.old.readers.items plans.new.readers.items) }
+{
+    match find_checked(rt, rt.alloc(), plans.readers.as_mut_slice(), 1, &NoGate) {
+        Ok(found) => {
+            let status = status_of(found.checked.faults.is_safe());
+            let words = plans.words(&found.checked.plan, &found.provenance);
+            write_orders(rt.alloc(), words, &found.checked, out, explain, style)?;
+            Ok(Ended::quietly(status))
+        }
+        Err(halted) => Err(plans.halt(halted)),
+    }
 }
 
 fn write_orders<O: Output>(

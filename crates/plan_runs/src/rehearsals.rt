@@ -9,11 +9,10 @@ use bench_run::{NoGate, Outcome, Rehearsal, outcome_report, rehearse, status_of_
 use bus_bench::opening::MOST_SLOTS;
 use bus_rows::Paint;
 use explain::{explain_answer, explain_rehearsal, mistake_of};
-use given_plans::GivenPlan;
+use given_plans::{GivenPlan, Provenance};
 use hints::{Hints, on_no_answers, on_starters, unknown_starter};
 use message_tree::Item;
 use objects::write_rehearsal;
-use origins::Origins;
 use plan_core::Plan;
 use plan_words::PlanWords;
 use report::{Input, Output, RunError, read_within};
@@ -52,10 +51,20 @@ pub fn bench_alone<
     extras: Extras,
     canvas: Option<Canvas<'_, '_>>,
 ) -> Result<Ended, Halt> {
-    let GivenPlan { plan, origins } = plans.find(rt.alloc())?;
+    let GivenPlan { plan, provenance } = plans.find(rt.alloc())?;
     let cert = certificate_of(rt.alloc(), &plan)?;
     let cert = cert.as_slice();
-    rehearse_by(rt, plan, &origins, cert, plans, out, play, extras, canvas)
+    rehearse_by(
+        rt,
+        plan,
+        &provenance,
+        cert,
+        plans,
+        out,
+        play,
+        extras,
+        canvas,
+    )
 }
 
 // The certificate of a plan.
@@ -79,10 +88,20 @@ pub fn bench<
     extras: Extras,
     canvas: Option<Canvas<'_, '_>>,
 ) -> Result<Ended, Halt> {
-    let GivenPlan { plan, origins } = plans.find(rt.alloc())?;
+    let GivenPlan { plan, provenance } = plans.find(rt.alloc())?;
     let cert = read_within(rt.alloc(), cert, READS)?;
     let cert = cert.as_slice();
-    rehearse_by(rt, plan, &origins, cert, plans, out, play, extras, canvas)
+    rehearse_by(
+        rt,
+        plan,
+        &provenance,
+        cert,
+        plans,
+        out,
+        play,
+        extras,
+        canvas,
+    )
 }
 
 // Rehearses a plan with this certificate.
@@ -93,7 +112,7 @@ fn rehearse_by<
 >(
     rt: &R,
     plan: Plan,
-    origins: &Option<Origins>,
+    provenance: &Provenance,
     cert: &[u8],
     plans: &Sources<'_, I>,
     out: &mut O,
@@ -101,9 +120,9 @@ fn rehearse_by<
     extras: Extras,
     canvas: Option<Canvas<'_, '_>>,
 ) -> Result<Ended, Halt> {
-    let said = said_of(rt.alloc(), plans.words(&plan, origins), play, extras)?;
+    let said = said_of(rt.alloc(), plans.words(&plan, provenance), play, extras)?;
     let outcome = outcome_of(rt, plan, cert, play, said)?;
-    let words = plans.words(plan_of(&outcome), origins);
+    let words = plans.words(plan_of(&outcome), provenance);
     tell_outcome(rt, &outcome, words, cert, out, play, extras, canvas)
 }
 

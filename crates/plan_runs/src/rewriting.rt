@@ -1,16 +1,21 @@
-// Runs that write a text in another form.
+// Runs that write a text in another form. What is written of a plan is that of `given_runs`, by its calls.
 
-use given_plans::{NoPlan, RefusedText};
+ghost use Rattle.std.specs.Prelude.{IfOk};
+ghost use Rattle.given_plans.specs.Sources.{DueFor, DueForBriefs, ReadsTexts};
+ghost use Rattle.given_runs.specs.Due.{CertifiedPlan, PrintedPlan};
+ghost use Rattle.run_parts.specs.Devices.{by_parts};
+ghost use Rattle.run_parts.specs.Runs.{Reports};
+
+use given_runs::{
+    Formatted, Unabbreviated, brief_given, certify_given, expand_given, find_formatted, print_given,
+};
 use growing_text::{Text, push_shown};
 use hints::on_no_brief;
-use layout::{Unread, formatted};
-use plan_core::Plan;
-use plan_text::{Language, NoBrief, Refused, read_plan_at};
-use report::{Input, Output, RunError, Status, certify_found, read_within};
+use plan_text::NoBrief;
+use report::{Input, Output, RunError, Status};
 use run_ends::{Ended, Halt, Remark, Sources, Takes};
-use run_parts::devices::reading::READS;
 use run_parts::write_lines;
-use spellings::{brief_of, brief_word, print_found};
+use spellings::brief_word;
 use std::alloc::{AllocError, Global};
 
 /// A run that writes a text in another form.
@@ -40,96 +45,128 @@ impl Rewriting {
     ///
     /// # Errors
     ///
-    /// Those of the parts of `report`, in the same order, with the text that is refused, and with what is to be said of a plan
-    /// that has no brief.
+    /// Those of the runs of `given_runs`, with the text that is refused, and with what is to be said of a plan that has no brief.
     pub fn run<I: Input, O: Output>(
         self,
         alloc: Global,
         sources: &mut Sources<'_, I>,
         out: &mut O,
     ) -> Result<Ended, Halt> {
-        let status = match self {
-            Rewriting::Certify => certify_found(alloc, &sources.find(alloc)?.plan, out)?,
-            Rewriting::Print => print_found(alloc, &sources.find(alloc)?.plan, out)?,
-            Rewriting::Brief => write_brief(alloc, &mut sources.first, out)?,
-            Rewriting::Expand => print_found(alloc, &sources.find_in_briefs(alloc)?.plan, out)?,
-            Rewriting::Format(layout) => {
-                let file = sources.files.of(0).unwrap_or("");
-                return format(alloc, file, &mut sources.first, out, layout);
-            }
-        };
-        Ok(Ended {
-            status,
-            remark: self.remark(status),
-        })
-    }
-
-    fn remark(self, status: Status) -> Remark {
-        match (self, status) {
-            (Rewriting::Certify, Status::Bad) => Remark::Fault,
-            _ => Remark::Nothing,
+        match self {
+            Rewriting::Certify => certify(alloc, sources, out),
+            Rewriting::Print => print(alloc, sources, out),
+            Rewriting::Expand => expand(alloc, sources, out),
+            Rewriting::Brief => brief(alloc, sources, out),
+            Rewriting::Format(layout) => format(alloc, sources, out, layout),
         }
     }
 }
 
-// Writes a brief of the plan that the reader gives.
-fn write_brief<I: Input, O: Output>(
+fn certify<I: Input, O: Output>(
+    alloc: Global,
+    sources: &mut Sources<'_, I>,
+    out: &mut O,
+) -> Result<Ended, Halt>
+    ensures { IfOk result (λ it. Reports (ReadsTexts I.reader) (DueFor CertifiedPlan) (by_parts O.writer)
+        sources.old.readers.items out.old it.status sources.new.readers.items out.new) }
+{
+    match certify_given(alloc, sources.readers.as_mut_slice(), out) {
+        Ok(status) => Ok(Ended {
+            status,
+            remark: on_certificate(status),
+        }),
+        Err(halted) => Err(sources.halt(halted)),
+    }
+}
+
+// That what was written is the certificate of a fault.
+fn on_certificate(status: Status) -> Remark {
+    match status {
+        Status::Bad => Remark::Fault,
+        _ => Remark::Nothing,
+    }
+}
+
+fn print<I: Input, O: Output>(
+    alloc: Global,
+    sources: &mut Sources<'_, I>,
+    out: &mut O,
+) -> Result<Ended, Halt>
+    ensures { IfOk result (λ it. Reports (ReadsTexts I.reader) (DueFor PrintedPlan) O.writer
+        sources.old.readers.items out.old it.status sources.new.readers.items out.new) }
+{
+    match print_given(alloc, sources.readers.as_mut_slice(), out) {
+        Ok(status) => Ok(Ended::quietly(status)),
+        Err(halted) => Err(sources.halt(halted)),
+    }
+}
+
+fn expand<I: Input, O: Output>(
+    alloc: Global,
+    sources: &mut Sources<'_, I>,
+    out: &mut O,
+) -> Result<Ended, Halt>
+    ensures { IfOk result (λ it. Reports (ReadsTexts I.reader) (DueForBriefs PrintedPlan) O.writer
+        sources.old.readers.items out.old it.status sources.new.readers.items out.new) }
+{
+    match expand_given(alloc, sources.readers.as_mut_slice(), out) {
+        Ok(status) => Ok(Ended::quietly(status)),
+        Err(halted) => Err(Halt::of(halted, Takes::One)),
+    }
+}
+
+// Writes a brief of the plan text that the first reader gives.
+fn brief<I: Input, O: Output>(
+    alloc: Global,
+    sources: &mut Sources<'_, I>,
+    out: &mut O,
+) -> Result<Ended, Halt> {
+    match sources.readers.first_mut() {
+        Some(text) => brief_of_text(alloc, text, out),
+        None => Err(Halt::Run(RunError::Read)),
+    }
+}
+
+fn brief_of_text<I: Input, O: Output>(
     alloc: Global,
     text: &mut I,
     out: &mut O,
-) -> Result<Status, Halt> {
-    let text = read_within(alloc, text, READS)?;
-    match read_plan_at(alloc, text.as_slice()) {
-        Ok(plan) => write_brief_of(alloc, &plan, out),
-        Err(refused) => {
-            let none = refused_text(text, Language::Plan, refused);
-            Err(Halt::without_plan(none, Vec::new(alloc), Takes::One))
-        }
+) -> Result<Ended, Halt> {
+    match brief_given(alloc, text, out) {
+        Ok(status) => Ok(Ended::quietly(status)),
+        Err(Unabbreviated { halted, plan }) => match (halted.error, plan) {
+            (error @ RunError::Brief(NoBrief::Name), Some(plan)) => {
+                let hints = on_no_brief(alloc, brief_word(&plan))?;
+                Err(Halt::Said(error, hints))
+            }
+            _ => Err(Halt::of(halted, Takes::One)),
+        },
     }
 }
 
-fn refused_text(text: Vec<u8>, language: Language, refused: Refused) -> NoPlan {
-    let Refused { error, place } = refused;
-    let text = match place {
-        Some(place) => Some(RefusedText {
-            text,
-            language,
-            place,
-            file: 0,
-        }),
-        None => None,
-    };
-    NoPlan {
-        error: RunError::from(error),
-        text,
-    }
-}
-
-fn write_brief_of<O: Output>(alloc: Global, plan: &Plan, out: &mut O) -> Result<Status, Halt> {
-    match brief_of(alloc, plan) {
-        Ok(brief) => {
-            let status = write_lines(out, brief.as_slice(), Status::Good)?;
-            Ok(status)
-        }
-        Err(error @ NoBrief::Name) => {
-            let hints = on_no_brief(alloc, brief_word(plan))?;
-            Err(Halt::Said(RunError::from(error), hints))
-        }
-        Err(error) => Err(Halt::Run(RunError::from(error))),
-    }
-}
-
-// Lays out the text that the reader gives, of the file with this name.
+// Lays out the text that the first reader gives.
 fn format<I: Input, O: Output>(
+    alloc: Global,
+    sources: &mut Sources<'_, I>,
+    out: &mut O,
+    layout: Layout,
+) -> Result<Ended, Halt> {
+    let file = sources.files.of(0).unwrap_or("");
+    match sources.readers.first_mut() {
+        Some(text) => format_text(alloc, file, text, out, layout),
+        None => Err(Halt::Run(RunError::Read)),
+    }
+}
+
+fn format_text<I: Input, O: Output>(
     alloc: Global,
     file: &str,
     text: &mut I,
     out: &mut O,
     layout: Layout,
 ) -> Result<Ended, Halt> {
-    let text = read_within(alloc, text, READS)?;
-    match formatted(alloc, text.as_slice()) {
-        Ok(laid_out) => finish_layout(
+    match find_formatted(alloc, text) {
+        Ok(Formatted { text, laid_out }) => finish_layout(
             alloc,
             file,
             text.as_slice(),
@@ -137,10 +174,7 @@ fn format<I: Input, O: Output>(
             out,
             layout,
         ),
-        Err(Unread { language, refused }) => {
-            let none = refused_text(text, language, refused);
-            Err(Halt::without_plan(none, Vec::new(alloc), Takes::Either))
-        }
+        Err(halted) => Err(Halt::of(halted, Takes::Either)),
     }
 }
 

@@ -4,7 +4,7 @@ use crate::inputs::NamedSources;
 use capture_check::Rises;
 use diagnostics::{Diagnostic, diagnose_refusal};
 use dump_tokens::Window;
-use given_plans::{NoPlan, RefusedText};
+use given_plans::{Halted, RefusedText};
 use hints::{Earlier, Hints, RefusedIn, first_stand, missing_semicolon_at};
 use plan_text::PlanError;
 use refusal_objects::{Detail, EarlierAt, TextDetail};
@@ -48,11 +48,10 @@ pub enum Remark {
     Starters(Option<String>, Hints),
 }
 
-/// The text of a plan or of a brief that is refused, and those of the briefs before it.
+/// The text of a plan or of a brief that is refused, and what may stand in its place.
 #[derive(Drop)]
 pub struct RefusedSource {
     pub refused: RefusedText,
-    pub before: Vec<Vec<u8>>,
     pub takes: Takes,
 }
 
@@ -66,7 +65,7 @@ pub enum Takes {
 impl RefusedSource {
     /// The name of its file, where several give the plan.
     pub(crate) fn file<'a>(&self, named: NamedSources<'a>) -> Option<&'a str> {
-        named.path(self.refused.file)
+        named.path(self.refused.file())
     }
 
     /// The texts before it, with the names of their files.
@@ -77,7 +76,7 @@ impl RefusedSource {
     ) -> Result<Vec<Earlier<'a>>, AllocError> {
         let mut earlier = Vec::new(alloc);
         let mut number = 0u32;
-        for text in self.before.iter() {
+        for text in self.refused.before.iter() {
             if let Some(file) = named.path(number) {
                 earlier.push(Earlier {
                     text: text.as_slice(),
@@ -120,7 +119,7 @@ impl RefusedSource {
     ) -> Result<Diagnostic, AllocError> {
         let earlier = self.earlier(alloc, named)?;
         let refused = self.refused_in(error, self.file(named), earlier.as_slice());
-        diagnose_refusal(alloc, refused, self.refused.file)
+        diagnose_refusal(alloc, refused, self.refused.file())
     }
 
     // What is known of the refusal. Where there is no memory for what stands already, that is not told.
@@ -233,7 +232,7 @@ pub enum Halt {
     Run(RunError),
     /// The same of a run over a dump, with what is wrong where that is refused.
     Dump(RunError, Option<Wrong>),
-    /// There is no plan. The text is there where one was refused.
+    /// The same of a run over what gives a plan. The text is there where one was refused.
     Text(RunError, Option<RefusedSource>),
     /// Starters are refused: the label of the first one that the plan does not have, where that is why, and what is to
     /// be said to people.
@@ -249,15 +248,11 @@ pub enum Halt {
 }
 
 impl Halt {
-    /// There is no plan, where these briefs were read before, and this may stand in the place of the last text.
-    pub fn without_plan(none: NoPlan, before: Vec<Vec<u8>>, takes: Takes) -> Halt {
-        let NoPlan { error, text } = none;
+    /// A run goes no further, where this may stand in the place of the text that is refused.
+    pub fn of(halted: Halted, takes: Takes) -> Halt {
+        let Halted { error, text } = halted;
         let source = match text {
-            Some(refused) => Some(RefusedSource {
-                refused,
-                before,
-                takes,
-            }),
+            Some(refused) => Some(RefusedSource { refused, takes }),
             None => None,
         };
         Halt::Text(error, source)

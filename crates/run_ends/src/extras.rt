@@ -26,6 +26,11 @@ impl Extras {
         }
     }
 
+    /// Whether what a run finds is written as the exact lines, without colours.
+    pub fn is_exact(self) -> bool {
+        self.format == Format::Lines && !self.colors_out
+    }
+
     /// Whether somebody is told why a run was refused: people by hints, and whoever takes no lines by its words.
     pub fn says_why(self) -> bool {
         self.hints || self.format != Format::Lines

@@ -42,6 +42,22 @@ impl<'a> NamedSources<'a> {
         }
     }
 
+    // How many there are.
+    fn count(self) -> usize {
+        self.further.len().saturating_add(1)
+    }
+
+    // The one of this number, from 0 on.
+    fn at(self, number: usize) -> Named<'a> {
+        match number.checked_sub(1) {
+            None => self.first,
+            Some(after) => match self.further.get(after) {
+                Some(path) => self.further_one(path),
+                None => self.first,
+            },
+        }
+    }
+
     fn further_one(self, path: &'a str) -> Named<'a> {
         Named {
             argument: self.argument,
@@ -71,20 +87,17 @@ fn open_all<'a, 'n, R: Files + Input + Eprint + Clock + AllocGlobal>(
     ids: &mut Vec<FileId>,
     extras: Extras,
 ) -> Option<Sources<'n, Source<'a, R, R::File, R::Reader>>> {
-    let first = open(rt, named.first, ids, extras)?;
-    let mut further = Vec::new(rt.alloc());
-    for path in named.further {
-        let file = open(rt, named.further_one(path), ids, extras)?;
-        if further.push(file).is_err() {
+    let mut readers = Vec::new(rt.alloc());
+    for number in 0..named.count() {
+        let file = open(rt, named.at(number), ids, extras)?;
+        if readers.push(file).is_err() {
             refused(rt, RunError::NoMemory, Detail::Nothing, "", extras.voice());
             return None;
         }
     }
     Some(Sources {
-        first,
-        further,
+        readers,
         files: named.files(),
-        texts: Vec::new(rt.alloc()),
     })
 }
 
@@ -189,17 +202,17 @@ pub fn one_read<'a, R: Files + Clock + Eprint, S: io::Read + Drop>(
     named: NamedSources<'a>,
     sources: Sources<'_, Source<'_, R, R::File, S>>,
 ) -> Inputs<'a, Reread<R::File>> {
-    let Sources {
-        mut first,
-        mut further,
-        ..
-    } = sources;
-    let (last, error) = last_read(named, &mut first, further.as_mut_slice());
+    let Sources { mut readers, .. } = sources;
+    let (last, error) = last_read(named, readers.as_mut_slice());
+    readers.truncate(1);
     Inputs {
         last,
         error,
         path: named.first.path,
-        other: reread(first),
+        other: match readers.pop() {
+            Some(first) => reread(first),
+            None => None,
+        },
     }
 }
 
@@ -210,12 +223,8 @@ pub fn both_read<'a, R: Files + Clock + Eprint, S: io::Read + Drop>(
     second: Named<'a>,
     mut source: Source<'_, R, R::File, S>,
 ) -> Inputs<'a, Reread<R::File>> {
-    let Sources {
-        mut first,
-        mut further,
-        ..
-    } = sources;
-    let (last, error) = last_read(named, &mut first, further.as_mut_slice());
+    let Sources { mut readers, .. } = sources;
+    let (last, error) = last_read(named, readers.as_mut_slice());
     let (last, error) = if source.failed() {
         (second, reading_error(&mut source))
     } else {
@@ -232,13 +241,12 @@ pub fn both_read<'a, R: Files + Clock + Eprint, S: io::Read + Drop>(
 // Which of these texts was read last, as far as a run came, and why no further.
 fn last_read<'a, R: Clock + Eprint, F: io::Read, S: io::Read>(
     named: NamedSources<'a>,
-    first: &mut Source<'_, R, F, S>,
-    further: &mut [Source<'_, R, F, S>],
+    readers: &mut [Source<'_, R, F, S>],
 ) -> (Named<'a>, Option<io::Error>) {
-    let (mut last, mut error) = (named.first, reading_error(first));
-    for (path, text) in named.further.iter().zip(further.iter_mut()) {
+    let (mut last, mut error) = (named.first, None);
+    for (number, text) in readers.iter_mut().enumerate() {
         if text.failed() {
-            (last, error) = (named.further_one(path), reading_error(text));
+            (last, error) = (named.at(number), reading_error(text));
         }
     }
     (last, error)

@@ -47,7 +47,7 @@ fn text_message(
 ) -> Result<String, AllocError> {
     let diagnostic = source.diagnose(alloc, error, named)?;
     let mut messages = Messages::new(alloc, named.files());
-    for text in source.before.iter() {
+    for text in source.refused.before.iter() {
         messages.add(alloc, text.as_slice())?;
     }
     messages.add(alloc, source.refused.text.as_slice())?;

@@ -1,0 +1,3 @@
+mod DueLemmas
+mod RunLemmas
+mod TextLemmas

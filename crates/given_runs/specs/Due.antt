@@ -1,0 +1,53 @@
+-- The report that is due for a plan, however it was given, and the status of a run that writes it.
+use Rattle.std.specs.Prelude.{◌≡◌, ℕ, List, false}
+use Rattle.brief_text.specs.Briefs.{Means}
+use Rattle.brief_tokens.specs.Names.{has_brief_word}
+use Rattle.certificate.specs.Texts.{cert_text}
+use Rattle.cert_check.specs.Accepts.{IsAnswer}
+use Rattle.cert_check.specs.declared.answers.Answer.{Answer}
+use Rattle.pair_walk.specs.declared.walk_pair.Verdict.{Verdict}
+use Rattle.plan_core.specs.Contents.{Contents}
+use Rattle.plan_core.specs.Limits.{IsWithinLimits}
+use Rattle.plan_text.specs.Grammar.{Spells}
+use Rattle.report.specs.Checks.{Judges}
+use Rattle.report.specs.Lines.{check_lines}
+use Rattle.run_parts.specs.declared.runs.Status.{Status}
+use Rattle.run_parts.specs.declared.runs.Status.TheVariants.{Good}
+use Rattle.spellings.specs.Canonical.{plan_text}
+use Rattle.verdicts.specs.Certificates.{certificate_for}
+use Rattle.verdicts.specs.Verdicts.{AreVerdicts}
+use Rattle.verifying.specs.Answers.{answer_status, verify_line}
+
+-- check: the lines for the verdicts of the plan; the status judges of it
+pub record CheckedPlan (plan : Contents) (report : List ℕ) (status : Status) : Type 0 where
+  pub verdicts : List Verdict
+  pub right : AreVerdicts plan verdicts
+  pub lines : report ≡ check_lines plan verdicts
+  pub judged : Judges status plan
+
+-- certify: the text of the certificate for the verdicts of the plan, which is within the limits; the status judges of it
+pub record CertifiedPlan (plan : Contents) (report : List ℕ) (status : Status) : Type 0 where
+  pub limits : IsWithinLimits plan
+  pub verdicts : List Verdict
+  pub right : AreVerdicts plan verdicts
+  pub written : report ≡ cert_text (certificate_for verdicts)
+  pub judged : Judges status plan
+
+-- print and expand: the canonical spelling of the plan, which spells it
+pub record PrintedPlan (plan : Contents) (report : List ℕ) (status : Status) : Type 0 where
+  pub canonical : report ≡ plan_text plan
+  pub read_back : Spells report plan
+  pub good : status ≡ Good
+
+-- brief: a text that means the plan, none of whose names is a word of briefs
+pub record AbbreviatedPlan (plan : Contents) (report : List ℕ) (status : Status) : Type 0 where
+  pub sayable : has_brief_word plan ≡ false
+  pub meant : Means report plan
+  pub good : status ≡ Good
+
+-- verify: the line and the status of the answer that the certificate has for the plan
+pub record AnsweredPlan (plan : Contents) (cert report : List ℕ) (status : Status) : Type 0 where
+  pub answer : Answer
+  pub right : IsAnswer plan cert answer
+  pub line : report ≡ verify_line answer
+  pub ended : status ≡ answer_status answer

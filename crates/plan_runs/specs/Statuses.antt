@@ -1,0 +1,38 @@
+-- The status of a run over what gives a plan, whatever form its report has.
+use Rattle.std.specs.Prelude.{◌≡◌, ℕ, Bool, false, List}
+use Rattle.cert_check.specs.Accepts.{IsAnswer}
+use Rattle.cert_check.specs.declared.answers.Answer.{Answer}
+use Rattle.given_plans.specs.Sources.{GiveThePlan, ReadsTexts}
+use Rattle.plan_core.specs.Contents.{Contents}
+use Rattle.plan_core.specs.Faults.{IsSafe}
+use Rattle.run_parts.specs.Devices.{Reader}
+use Rattle.run_parts.specs.Runs.{ReadsText}
+use Rattle.run_parts.specs.declared.runs.Status.{Status}
+use Rattle.run_parts.specs.declared.runs.Status.TheVariants.{Good, Bad, Refused}
+use Rattle.verifying.specs.Answers.{answer_status}
+
+-- Good where the plan is safe for every lawful set; Bad where it is not, and in a strict run perhaps where it is
+abbrev pub JudgesIn : Bool → Status → Contents → Type 0
+JudgesIn strict Good plan = IsSafe plan
+JudgesIn strict Bad plan = strict ≡ false → IsSafe plan → ⊥
+JudgesIn strict Refused plan = ⊥
+
+-- the readers gave texts, each to its end, and the plan that these give is such
+pub record OfGivenPlan {D : Type 0} (reader : Reader D) (IsSuch : Contents → Type 0) (befores nows : List D) : Type 0 where
+  pub texts : List (List ℕ)
+  pub read : ReadsTexts reader befores texts nows
+  pub plan : Contents
+  pub given : GiveThePlan texts plan
+  pub holds : IsSuch plan
+
+-- the readers gave what gives a plan, and a certificate; the status is that of the answer to it
+pub record IsAnswered {D E : Type 0} (first : Reader D) (second : Reader E) (before : List D × E) (status : Status) (now : List D × E) : Type 0 where
+  pub texts : List (List ℕ)
+  pub cert : List ℕ
+  pub read : ReadsTexts first before.0 texts now.0
+  pub cert_read : ReadsText second before.1 cert now.1
+  pub plan : Contents
+  pub given : GiveThePlan texts plan
+  pub answer : Answer
+  pub right : IsAnswer plan cert answer
+  pub ended : status ≡ answer_status answer
