@@ -1,5 +1,11 @@
 // Runs over the dump of a recorded bus: each hands what the dump shows to the form that is wanted.
 
+ghost use Rattle.std.specs.Prelude.{IfOk};
+ghost use Rattle.given_runs.specs.Due.{CapturedPlan};
+ghost use Rattle.given_runs.specs.Inputs.{DueForBoth, ReadsTextsAndOne};
+ghost use Rattle.run_parts.specs.Runs.{Reports};
+ghost use Rattle.vcd_read.specs.Views.{asked};
+
 use crate::driven::{
     decode_driven, driving_of, judging_of, open_driven, refuse_no_names, refuse_others,
     refuse_unknown,
@@ -10,14 +16,13 @@ use decoding::Explaining;
 use drives::Driving;
 use dump_objects::{CaptureObjects, DecodeObjects, write_signals};
 use dump_tokens::{Bus, BusLines, Drives, Limits, Quiet, Window};
-use given_plans::GivenPlan;
+use given_plans::{GivenPlan, Halted};
+use given_runs::{GivenCapture, GivenLive, capture_given, live_given};
 use hints::Hints;
 use lessons::{BriefBefore, Learned, Likeness, Sights, brief_of};
 use plan_core::Plan;
 use plan_words::PlanWords;
-use report::{
-    CaptureCounts, CaptureReport, Input, Output, RunError, Status, Telling, live_capture,
-};
+use report::{CaptureReport, Input, Output, RunError, Status, Telling};
 use run_ends::{
     Canvas, Ended, Halt, Recorded, Remark, Sources, Style, halted, open_dump, write_wave,
 };
@@ -28,6 +33,7 @@ use std::rt::Files;
 use std::thread::Threads;
 use std::time::Clock;
 use transaction_lines::{CaptureLines, DecodeLines, Layout, Seen, Selection};
+use vcd_read::{Probe, Wrong};
 use waves::wave_of_recording;
 
 /// A capture that is asked for.
@@ -90,39 +96,130 @@ pub fn explain_capture<R: AllocGlobal + Threads + Sync, I: Input, J: Input, O: O
     capture: Capture<'_>,
     style: Style,
 ) -> Result<Ended, Halt> {
-    let GivenPlan { plan, provenance } = plans.find(rt.alloc())?;
-    let words = plans.words(&plan, &provenance);
-    refuse_unknown(rt.alloc(), words, capture.drives)?;
-    let (told, hints) = capture_by(rt, words, vcd, out, capture, style)?;
-    let recorded = Recorded::Bus(capture.bus.view.window, told.seen);
-    Ok(Ended {
-        status: told.status,
-        remark: Remark::Recording(recorded, told.rises, hints),
-    })
+    let is_exact = capture.is_exact() && matches!(style, Style::Lines(Paint::Plain));
+    if !is_exact || capture.reads_ahead() {
+        return capture_in_form(rt, plans, vcd, out, capture, style);
+    }
+    let BusLines {
+        scl,
+        sda,
+        min_pulse,
+        ..
+    } = capture.bus.lines;
+    let least = Quiet::of(min_pulse, None).least;
+    let window = capture.bus.view.window;
+    if capture.live {
+        capture_live(rt, plans, vcd, out, scl, sda, least, window)
+    } else {
+        capture_exactly(rt, plans, vcd, out, scl, sda, least, window)
+    }
 }
 
-fn capture_by<R: AllocGlobal + Threads + Sync, J: Input, O: Output>(
+// The exact report, by the run of `given_runs`.
+fn capture_exactly<R: AllocGlobal + Threads + Sync, I: Input, J: Input, O: Output>(
     rt: &R,
-    words: PlanWords<'_>,
+    plans: &mut Sources<'_, I>,
+    vcd: &mut J,
+    out: &mut O,
+    scl: Probe<'_>,
+    sda: Probe<'_>,
+    least: u64,
+    window: Window,
+) -> Result<Ended, Halt>
+    ensures { IfOk result (λ it. Reports (ReadsTextsAndOne I.reader J.reader)
+        (DueForBoth (CapturedPlan least (asked scl.entry) (asked sda.entry))) O.writer
+        (plans.old.readers.items, vcd.old) out.old it.status (plans.new.readers.items, vcd.new) out.new) }
+{
+    let alloc = rt.alloc();
+    let mut wrong = None;
+    let readers = plans.readers.as_mut_slice();
+    match capture_given(rt, alloc, readers, vcd, out, scl, sda, least, &mut wrong) {
+        Ok(
+            GivenCapture {
+                captured,
+                rises,
+                ..
+            },
+        ) => {
+            let seen = Recorded::Bus(window, seen_in(&captured));
+            Ok(Ended {
+                status: captured.status,
+                remark: Remark::recording(alloc, seen, rises),
+            })
+        }
+        Err(halted) => Err(halt_at(plans, halted, wrong)),
+    }
+}
+
+fn seen_in(captured: &CaptureReport) -> Seen {
+    Seen {
+        transactions: captured.transactions,
+        stopped: captured.stopped,
+        unexplained: captured.unexplained,
+    }
+}
+
+// A run over a plan and a dump goes no further, with what is wrong with the dump, where that is refused.
+fn halt_at<I: Input>(plans: &Sources<'_, I>, halted: Halted, wrong: Option<Wrong>) -> Halt {
+    match halted.error {
+        error @ RunError::Vcd(_) => Halt::Dump(error, wrong),
+        _ => plans.halt(halted),
+    }
+}
+
+// The same lines by the live run of `given_runs`: what has ended is written before the dump is read on.
+fn capture_live<R: AllocGlobal + Threads + Sync, I: Input, J: Input, O: Output>(
+    rt: &R,
+    plans: &mut Sources<'_, I>,
+    vcd: &mut J,
+    out: &mut O,
+    scl: Probe<'_>,
+    sda: Probe<'_>,
+    least: u64,
+    window: Window,
+) -> Result<Ended, Halt> {
+    let alloc = rt.alloc();
+    let mut wrong = None;
+    let readers = plans.readers.as_mut_slice();
+    match live_given(rt, alloc, readers, vcd, out, scl, sda, least, &mut wrong) {
+        Ok(GivenLive { counts, .. }) => {
+            let seen = Seen {
+                transactions: counts.transactions,
+                stopped: counts.stopped,
+                unexplained: counts.unexplained,
+            };
+            Ok(Ended {
+                status: counts.status,
+                remark: Remark::recording(alloc, Recorded::Bus(window, seen), counts.rises),
+            })
+        }
+        Err(halted) => Err(halt_at(plans, halted, wrong)),
+    }
+}
+
+// The report in another form, or by definitions that are read ahead.
+fn capture_in_form<R: AllocGlobal + Threads + Sync, I: Input, J: Input, O: Output>(
+    rt: &R,
+    plans: &mut Sources<'_, I>,
     vcd: &mut J,
     out: &mut O,
     capture: Capture<'_>,
     style: Style,
-) -> Result<(Told, Hints), Halt> {
-    let plan = words.plan();
-    let is_exact = capture.is_exact() && matches!(style, Style::Lines(Paint::Plain));
-    if is_exact && !capture.reads_ahead() {
-        let told = if capture.live {
-            live_lines(rt, plan, vcd, out, capture.bus.lines)?
-        } else {
-            exact_capture(rt, plan, vcd, out, capture.bus.lines)?
-        };
-        return Ok((told, Hints::new(rt.alloc())));
-    }
+) -> Result<Ended, Halt> {
+    let GivenPlan { plan, provenance } = plans.find(rt.alloc())?;
+    let words = plans.words(&plan, &provenance);
+    refuse_unknown(rt.alloc(), words, capture.drives)?;
     let mut dump = open_driven(rt.alloc(), vcd, capture.bus, capture.drives)?;
     let (told, hints) = capture_open(rt, words, &mut dump, out, capture, style)?;
     match told {
-        Ok(told) => Ok((told, hints)),
+        Ok(told) => Ok(Ended {
+            status: told.status,
+            remark: Remark::Recording(
+                Recorded::Bus(capture.bus.view.window, told.seen),
+                told.rises,
+                hints,
+            ),
+        }),
         Err(error) => Err(halted(dump, error)),
     }
 }
@@ -147,81 +244,7 @@ fn capture_open<R: AllocGlobal + Threads + Sync, J: Input, O: Output>(
     Ok((told, hints))
 }
 
-// The exact lines, by a proved run over the reader itself: what has ended is written before the dump is read on.
-fn live_lines<R: AllocGlobal + Threads + Sync, J: Input, O: Output>(
-    rt: &R,
-    plan: &Plan,
-    vcd: &mut J,
-    out: &mut O,
-    lines: BusLines<'_>,
-) -> Result<Told, Halt> {
-    let least = Quiet::of(lines.min_pulse, None).least;
-    let mut wrong = None;
-    let told = live_capture(
-        rt,
-        rt.alloc(),
-        plan,
-        vcd,
-        out,
-        lines.scl,
-        lines.sda,
-        least,
-        &mut wrong,
-    );
-    match told {
-        Ok(counts) => Ok(told_by(counts)),
-        Err(error) => Err(Halt::Dump(error, wrong)),
-    }
-}
-
-fn told_by(counts: CaptureCounts) -> Told {
-    let seen = Seen {
-        transactions: counts.transactions,
-        stopped: counts.stopped,
-        unexplained: counts.unexplained,
-    };
-    Told {
-        status: counts.status,
-        seen,
-        rises: counts.rises,
-    }
-}
-
-// The exact report, of proved parts over the reader itself, which is written when it is whole.
-fn exact_capture<R: AllocGlobal + Threads + Sync, J: Input, O: Output>(
-    rt: &R,
-    plan: &Plan,
-    vcd: &mut J,
-    out: &mut O,
-    lines: BusLines<'_>,
-) -> Result<Told, Halt> {
-    let alloc = rt.alloc();
-    let least = Quiet::of(lines.min_pulse, None).least;
-    let mut wrong = None;
-    let mut explaining = Explaining {
-        rt,
-        alloc,
-        plan,
-        sink: Telling::new(alloc),
-    };
-    let ended = decoding::decode(
-        alloc,
-        vcd,
-        lines.scl,
-        lines.sda,
-        least,
-        &mut explaining,
-        &mut wrong,
-    );
-    let ending = match ended {
-        Ok(ending) => ending,
-        Err(error) => return Err(Halt::Dump(error, wrong)),
-    };
-    let Explaining { sink, .. } = explaining;
-    Ok(write_exactly(sink, ending.rises, out)?)
-}
-
-// The same of a dump whose definitions were read ahead.
+// The exact report of a dump whose definitions were read ahead.
 fn exact_dump<R: AllocGlobal + Threads + Sync, J: Input, O: Output>(
     rt: &R,
     plan: &Plan,

@@ -100,6 +100,9 @@ struct Part<F> {
 }
 
 impl<'a, 'i, R: Files + Print + Eprint + Clock + AllocGlobal> Sheet<'a, 'i, R> {
+    ghost use Rattle.std.specs.Prelude.{◌≡◌, IfOk, Ok};
+    ghost use Rattle.std.specs.Io.{WritesAtMost};
+
     /// Nothing has been written yet.
     pub fn new(
         rt: &'a R,
@@ -131,7 +134,9 @@ impl<'a, 'i, R: Files + Print + Eprint + Clock + AllocGlobal> Sheet<'a, 'i, R> {
 
     /// Gives the file its name, once the run has ended with its report, and answers how the run ends
     /// by that. After a run that has not, nothing is left of it. A file that was read is not replaced, unless it is to be.
-    pub fn settle(&mut self, ended: Result<Status, RunError>) -> Result<Status, RunError> {
+    pub fn settle(&mut self, ended: Result<Status, RunError>) -> Result<Status, RunError>
+        ensures { IfOk result (λ status. ended ≡ Ok status) }
+    {
         let settled = match self.form {
             Form::File(_) | Form::InPlace(_) => self.settle_file(ended.is_ok()),
             Form::Plain => Ok(()),
@@ -153,7 +158,9 @@ impl<'a, 'i, R: Files + Print + Eprint + Clock + AllocGlobal> Sheet<'a, 'i, R> {
     }
 
     // Where an allocation failed for a file, that is why the run ended.
-    fn named(&self, ended: Result<Status, RunError>) -> Result<Status, RunError> {
+    fn named(&self, ended: Result<Status, RunError>) -> Result<Status, RunError>
+        ensures { IfOk result (λ status. ended ≡ Ok status) }
+    {
         match (self.form, &self.error, ended) {
             (Form::File(_) | Form::InPlace(_), Some(error), Err(RunError::Write))
                 if error.kind() == ErrorKind::OutOfMemory => { Err(RunError::NoMemory) }

@@ -1,6 +1,11 @@
 -- What is due for a plan, by what its finders and writers say.
-use Rattle.std.proofs.Common.{◌≡◌, ◌∙◌, ◌⊎◌, inl, inr, ℕ, zero, suc, List, [], ◌∷◌, Some, refl, sym, subst}
-use Rattle.given_runs.specs.Due.{CheckedPlan, CertifiedPlan, PrintedPlan}
+use Rattle.std.proofs.Common.{◌≡◌, ◌∙◌, ◌⊎◌, inl, inr, ℕ, zero, suc, List, [], ◌∷◌, Some, refl, sym, subst, ap}
+use Rattle.given_runs.specs.Due.{CheckedPlan, CertifiedPlan, OrderedPlan, PrintedPlan}
+use Rattle.order.specs.Lines.{order_lines}
+use Rattle.order.specs.Orders.{IsOrder}
+use Rattle.order.specs.declared.orders.Order.{Order}
+use Rattle.order.specs.declared.totals.Total.{Total}
+use Rattle.plan_core.specs.Pairs.{pairs_of}
 use Rattle.given_runs.specs.Written.{Wrote, StopsWriting}
 use Rattle.plan_core.specs.Contents.{Contents}
 use Rattle.plan_core.specs.Limits.{IsWithinLimits}
@@ -86,3 +91,15 @@ module _ {D : Type 0} (plan : Contents) (limits : IsWithinLimits plan) (writer :
 
 pub printed_plan : (plan : Contents) (status : Status) → IsWithinLimits plan → status ≡ Good → PrintedPlan plan (plan_text plan) status
 printed_plan plan status limits good = record { canonical = refl; read_back = spelled plan limits; good = good }
+
+-- ---- who wins
+
+pub ordered_plan : (plan : Contents) (order : Order) (status : Status) (report bytes : List ℕ) → IsOrder plan order → Judges status plan → bytes ≡ report → report ≡ order_lines plan order.pairs.items order.ways.items order.totals.items → OrderedPlan plan bytes status
+ordered_plan plan order status report bytes it judged whole same = record {
+  lines = record {
+    ways = order.ways.items;
+    right = it.ways;
+    lines = whole ∙ (same ∙ (ap (λ (ps : List (ℕ × ℕ)). order_lines plan ps order.ways.items order.totals.items) it.pairs ∙ ap (λ (ts : List Total). order_lines plan (pairs_of plan) order.ways.items ts) it.totals));
+  };
+  judged = judged;
+}

@@ -1,3 +1,4 @@
+mod CaptureLemmas
 mod DueLemmas
 mod RunLemmas
 mod TextLemmas

@@ -5,15 +5,18 @@ use Rattle.brief_tokens.specs.Names.{has_brief_word}
 use Rattle.certificate.specs.Texts.{cert_text}
 use Rattle.cert_check.specs.Accepts.{IsAnswer}
 use Rattle.cert_check.specs.declared.answers.Answer.{Answer}
+use Rattle.order.specs.Orders as orders
 use Rattle.pair_walk.specs.declared.walk_pair.Verdict.{Verdict}
 use Rattle.plan_core.specs.Contents.{Contents}
 use Rattle.plan_core.specs.Limits.{IsWithinLimits}
 use Rattle.plan_text.specs.Grammar.{Spells}
+use Rattle.report.specs.Captures.{CaptureOf}
 use Rattle.report.specs.Checks.{Judges}
 use Rattle.report.specs.Lines.{check_lines}
 use Rattle.run_parts.specs.declared.runs.Status.{Status}
 use Rattle.run_parts.specs.declared.runs.Status.TheVariants.{Good}
 use Rattle.spellings.specs.Canonical.{plan_text}
+use Rattle.vcd_read.specs.Probes.{Finder}
 use Rattle.verdicts.specs.Certificates.{certificate_for}
 use Rattle.verdicts.specs.Verdicts.{AreVerdicts}
 use Rattle.verifying.specs.Answers.{answer_status, verify_line}
@@ -33,6 +36,11 @@ pub record CertifiedPlan (plan : Contents) (report : List ℕ) (status : Status)
   pub written : report ≡ cert_text (certificate_for verdicts)
   pub judged : Judges status plan
 
+-- order: the lines for who wins each pair; the status judges of the plan
+pub record OrderedPlan (plan : Contents) (report : List ℕ) (status : Status) : Type 0 where
+  pub lines : orders.OrderedPlan plan report
+  pub judged : Judges status plan
+
 -- print and expand: the canonical spelling of the plan, which spells it
 pub record PrintedPlan (plan : Contents) (report : List ℕ) (status : Status) : Type 0 where
   pub canonical : report ≡ plan_text plan
@@ -44,6 +52,10 @@ pub record AbbreviatedPlan (plan : Contents) (report : List ℕ) (status : Statu
   pub sayable : has_brief_word plan ≡ false
   pub meant : Means report plan
   pub good : status ≡ Good
+
+-- capture: the lines of the dump under the plan, without levels that last less than this time
+abbrev pub CapturedPlan : ℕ → Finder → Finder → Contents → List ℕ → List ℕ → Status → Type 0
+CapturedPlan least scl sda plan dump report status = CaptureOf least scl sda plan dump report status
 
 -- verify: the line and the status of the answer that the certificate has for the plan
 pub record AnsweredPlan (plan : Contents) (cert report : List ℕ) (status : Status) : Type 0 where

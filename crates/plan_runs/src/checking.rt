@@ -4,7 +4,7 @@
 ghost use Rattle.std.specs.Prelude.{◌≡◌, true, ℕ, List, IfOk, OnOk};
 ghost use Rattle.cert_check.specs.Accepts.{IsAnswer};
 ghost use Rattle.given_plans.specs.Sources.{DueFor, GiveThePlan, ReadsTexts, bytes_of};
-ghost use Rattle.given_runs.specs.Due.{AnsweredPlan, CheckedPlan};
+ghost use Rattle.given_runs.specs.Due.{AnsweredPlan, CheckedPlan, OrderedPlan};
 ghost use Rattle.given_runs.specs.Inputs.{DueForBoth, ReadsTextsAndOne};
 ghost use Rattle.plan_core.specs.Contents.{Contents};
 ghost use Rattle.plan_core.specs.PlanContents.{plan_contents};
@@ -23,17 +23,20 @@ use diagnostics::{Diagnostic, Messages, diagnose_check};
 use explain::{Detail, Mistake, explain_answer, explain_check, is_all_checked, mistake_of};
 use files::Comparing;
 use given_plans::{GivenPlan, Provenance};
-use given_runs::{GivenAnswer, GivenCheck, check_given, find_answered, find_checked, verify_given};
+use given_runs::{
+    GivenAnswer, GivenCheck, GivenOrder, check_given, find_answered, find_checked, find_ordered,
+    order_given, verify_given,
+};
 use growing_text::Text;
 use hints::{Found, Hints, on_certificate, on_checked, on_safe};
 use lint::{Oddity, oddities};
 use objects::{write_answer, write_check, write_order, write_scores};
-use order::{Called, Order, order_of, order_report, order_summary, scores_of};
+use order::{Called, Order, order_report, order_summary, scores_of};
 use plan_core::Plan;
 use plan_words::{PlanWords, sides_of};
 use remedies::{Reasons, count_groups, kept_apart, reasons_of};
 use report::{
-    Checked, Gate, Input, NoGate, Output, RunError, Status, answer_line, check_report, read_within,
+    Checked, Gate, Input, Output, RunError, Status, answer_line, check_report, read_within,
     status_of, status_of_answer,
 };
 use run_ends::{Canvas, Ended, Extras, Format, Halt, Remark, Sources, Style};
@@ -580,16 +583,46 @@ pub fn order<R: AllocGlobal + Threads + Sync, I: Input, O: Output>(
     plans: &mut Sources<'_, I>,
     out: &mut O,
     explain: bool,
+    extras: Extras,
+) -> Result<Ended, Halt> {
+    if !explain && extras.is_exact() {
+        order_exactly(rt, plans, out)
+    } else {
+        order_in_form(rt, plans, out, explain, extras.style())
+    }
+}
+
+// The exact report, by the run of `given_runs`.
+fn order_exactly<R: AllocGlobal + Threads + Sync, I: Input, O: Output>(
+    rt: &R,
+    plans: &mut Sources<'_, I>,
+    out: &mut O,
+) -> Result<Ended, Halt>
+    ensures { IfOk result (λ it. Reports (ReadsTexts I.reader) (DueFor OrderedPlan) O.writer
+        plans.old.readers.items out.old it.status plans.new.readers.items out.new) }
+{
+    match order_given(rt, rt.alloc(), plans.readers.as_mut_slice(), out) {
+        Ok(status) => Ok(Ended::quietly(status)),
+        Err(halted) => Err(plans.halt(halted)),
+    }
+}
+
+// The report in another form, which has the same status.
+fn order_in_form<R: AllocGlobal + Threads + Sync, I: Input, O: Output>(
+    rt: &R,
+    plans: &mut Sources<'_, I>,
+    out: &mut O,
+    explain: bool,
     style: Style,
 ) -> Result<Ended, Halt>
-    ensures status { IfOk result (λ it. OfGivenPlan I.reader (Judges it.status)
+    ensures { IfOk result (λ it. OfGivenPlan I.reader (Judges it.status)
         plans.old.readers.items plans.new.readers.items) }
 {
-    match find_checked(rt, rt.alloc(), plans.readers.as_mut_slice(), 1, &NoGate) {
-        Ok(found) => {
+    match find_ordered(rt, rt.alloc(), plans.readers.as_mut_slice()) {
+        Ok(GivenOrder { found, order }) => {
             let status = status_of(found.checked.faults.is_safe());
             let words = plans.words(&found.checked.plan, &found.provenance);
-            write_orders(rt.alloc(), words, &found.checked, out, explain, style)?;
+            write_orders(rt.alloc(), words, &order, out, explain, style)?;
             Ok(Ended::quietly(status))
         }
         Err(halted) => Err(plans.halt(halted)),
@@ -599,16 +632,15 @@ pub fn order<R: AllocGlobal + Threads + Sync, I: Input, O: Output>(
 fn write_orders<O: Output>(
     alloc: Global,
     words: PlanWords<'_>,
-    checked: &Checked,
+    order: &Order,
     out: &mut O,
     explain: bool,
     style: Style,
 ) -> Result<(), RunError> {
-    let order = order_of(alloc, &checked.plan, &checked.faults)?;
     if explain {
-        write_summary(alloc, words, &order, out, style)?;
+        write_summary(alloc, words, order, out, style)?;
     }
-    write_ordered(alloc, words, &order, out, style)
+    write_ordered(alloc, words, order, out, style)
 }
 
 // How the pairs of each two controllers end, in the words of people.

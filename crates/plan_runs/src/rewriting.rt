@@ -121,18 +121,7 @@ fn brief<I: Input, O: Output>(
     sources: &mut Sources<'_, I>,
     out: &mut O,
 ) -> Result<Ended, Halt> {
-    match sources.readers.first_mut() {
-        Some(text) => brief_of_text(alloc, text, out),
-        None => Err(Halt::Run(RunError::Read)),
-    }
-}
-
-fn brief_of_text<I: Input, O: Output>(
-    alloc: Global,
-    text: &mut I,
-    out: &mut O,
-) -> Result<Ended, Halt> {
-    match brief_given(alloc, text, out) {
+    match brief_given(alloc, sources.first()?, out) {
         Ok(status) => Ok(Ended::quietly(status)),
         Err(Unabbreviated { halted, plan }) => match (halted.error, plan) {
             (error @ RunError::Brief(NoBrief::Name), Some(plan)) => {
@@ -152,20 +141,7 @@ fn format<I: Input, O: Output>(
     layout: Layout,
 ) -> Result<Ended, Halt> {
     let file = sources.files.of(0).unwrap_or("");
-    match sources.readers.first_mut() {
-        Some(text) => format_text(alloc, file, text, out, layout),
-        None => Err(Halt::Run(RunError::Read)),
-    }
-}
-
-fn format_text<I: Input, O: Output>(
-    alloc: Global,
-    file: &str,
-    text: &mut I,
-    out: &mut O,
-    layout: Layout,
-) -> Result<Ended, Halt> {
-    match find_formatted(alloc, text) {
+    match find_formatted(alloc, sources.first()?) {
         Ok(Formatted { text, laid_out }) => finish_layout(
             alloc,
             file,

@@ -143,7 +143,7 @@ pub fn refuse<R: Eprint + AllocGlobal, F: Read + Seek + Drop>(
     read: Inputs<'_, F>,
     closing: Closing<'_>,
     extras: Extras,
-) -> u8 {
+) {
     let last = Last {
         file: read.last.path,
         path: read.path,
@@ -162,11 +162,10 @@ pub fn refuse<R: Eprint + AllocGlobal, F: Read + Seek + Drop>(
         Some(reason) => reason,
         None => made(alloc, reason_of(alloc, hints)),
     };
-    let status = tell(rt, error, last, &closing, reason.as_str(), extras);
+    tell(rt, error, last, &closing, reason.as_str(), extras);
     if extras.hints {
         say_these(rt, hints, voice_of(error, closing.voice));
     }
-    status
 }
 
 // The hints that a run has itself, or else those that were found.
@@ -192,7 +191,7 @@ fn tell<R: Eprint + AllocGlobal>(
     closing: &Closing<'_>,
     reason: &str,
     extras: Extras,
-) -> u8 {
+) {
     let remark = &closing.remark;
     let detail = match error {
         RunError::Read => Detail::File(last.file),
@@ -288,7 +287,7 @@ fn advise_on_report<R: Eprint + AllocGlobal, F: Read + Seek + Drop>(
 }
 
 /// The refusal of a time with a unit, of which a dump does not say what it counts, and its status.
-pub fn no_timescale<R: Clock + Eprint + AllocGlobal>(rt: &R, extras: Extras) -> u8 {
+pub fn no_timescale<R: Clock + Eprint + AllocGlobal>(rt: &R, extras: Extras) {
     extras.watcher.clear(rt);
     let alloc = rt.alloc();
     let hints = match on_no_timescale(alloc) {
@@ -300,7 +299,6 @@ pub fn no_timescale<R: Clock + Eprint + AllocGlobal>(rt: &R, extras: Extras) -> 
     if extras.hints {
         say_these(rt, &hints, extras.voice().uncolored());
     }
-    2
 }
 
 /// The refusal of a line that was to be what this controller pulls, and its status.
@@ -309,14 +307,13 @@ pub fn no_drive<R: Clock + Eprint + AllocGlobal>(
     controller: &str,
     hints: Hints,
     extras: Extras,
-) -> u8 {
+) {
     extras.watcher.clear(rt);
     let reason = made(rt.alloc(), reason_of(rt.alloc(), &hints));
     refused_drive(rt, controller, reason.as_str(), extras.voice());
     if extras.hints {
         say_these(rt, &hints, extras.voice().uncolored());
     }
-    2
 }
 
 // A command, files, an option and a file, to be given once more with other options.

@@ -22,7 +22,7 @@ pub(crate) fn refused_at<R: Eprint + AllocGlobal>(
     dump: &str,
     detail: Detail<'_>,
     reason: &str,
-) -> u8 {
+) {
     let alloc = rt.alloc();
     let message = match (error, remark) {
         (RunError::Plan(error), Remark::Text(source)) => text_message(alloc, error, source, named),
@@ -33,7 +33,6 @@ pub(crate) fn refused_at<R: Eprint + AllocGlobal>(
         Ok(message) => {
             let message = message.as_str();
             let _ = eprint!(rt; "{message}");
-            2
         }
         Err(_) => refused(rt, RunError::NoMemory, Detail::Nothing, "", Voice::Messages),
     }

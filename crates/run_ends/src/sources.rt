@@ -10,7 +10,7 @@ use given_plans::{GivenPlan, Halted, Provenance, find_among, find_in_briefs};
 use lexer::{Letters, Lexeme, Lexer, Symbol};
 use plan_core::Plan;
 use plan_words::{BriefFiles, PlanWords};
-use report::Input;
+use report::{Input, RunError};
 use std::alloc::Global;
 
 /// The text that a run is over, or the briefs that give its plan, one after another.
@@ -59,6 +59,18 @@ impl<'a, I: Input> Sources<'a, I> {
         match find_in_briefs(alloc, self.readers.as_mut_slice()) {
             Ok(given) => Ok(given),
             Err(halted) => Err(Halt::of(halted, Takes::One)),
+        }
+    }
+
+    /// The first reader: a run over one text has no other.
+    ///
+    /// # Errors
+    ///
+    /// `Read` where there is none.
+    pub fn first(&mut self) -> Result<&mut I, Halt> {
+        match self.readers.first_mut() {
+            Some(first) => Ok(first),
+            None => Err(Halt::Run(RunError::Read)),
         }
     }
 

@@ -39,7 +39,7 @@ pub fn refused<R: Eprint + AllocGlobal>(
     detail: Detail<'_>,
     reason: &str,
     voice: Voice,
-) -> u8 {
+) {
     match (voice, detail) {
         (Voice::Objects, _) => {
             say_refusal(rt, refusal_object(rt.alloc(), error, detail, reason));
@@ -59,7 +59,6 @@ pub fn refused<R: Eprint + AllocGlobal>(
         ) => say_refused_file(rt, error, file),
         _ => say_refused(rt, error),
     }
-    2
 }
 
 // Where standard error takes nothing the status is all that is left.

@@ -2,14 +2,14 @@
 
 use crate::tasks::{Over, OverBoth, Task, task_of};
 use crate::versions::version_of;
-use closings::{FilesWritten, finish};
+use closings::{Errand, FilesWritten, finish};
 use command_words::{Asked, Format, Manner, Request, When, read_words};
 use files::{FilesRead, Form, Sheet, Watcher, is_standard_input};
 use growing_text::visible;
 use hints::Named;
 use language_server::serve;
 use refusal_objects::Detail;
-use report::{RunError, Status, Watched};
+use report::{RunError, Watched};
 use run_ends::{
     Extras, Format as Written, NamedSources, Voice, both_read, one_read, open_both, open_sources,
     refused,
@@ -38,7 +38,10 @@ pub fn run<R: Files + Env + Input + Print + Eprint + AllocGlobal + Threads + Wai
     match run_words(rt, terminals) {
         Ok(status) => status,
         // (before it is known whether objects are wanted)
-        Err(error) => refused(rt, error, Detail::Nothing, "", Voice::Plain),
+        Err(error) => {
+            refused(rt, error, Detail::Nothing, "", Voice::Plain);
+            2
+        }
     }
 }
 
@@ -206,16 +209,13 @@ fn run_over<'a, R: Files + Input + Print + Eprint + AllocGlobal + Threads + Wait
         wave: over.wave(),
     };
     let read = one_read(named, sources);
-    finish(
-        rt,
-        read,
-        out.into_inner(),
-        ended,
+    let errand = Errand {
         named,
         files,
-        over.about(path),
+        about: over.about(path),
         extras,
-    )
+    };
+    finish(rt, read, out.into_inner(), ended, errand)
 }
 
 // The same over a second text too.
@@ -252,16 +252,13 @@ fn run_over_both<
         wave: over.wave(),
     };
     let read = both_read(named, sources, other, another);
-    finish(
-        rt,
-        read,
-        out.into_inner(),
-        ended,
+    let errand = Errand {
         named,
         files,
-        over.about(named, other.path),
+        about: over.about(named, other.path),
         extras,
-    )
+    };
+    finish(rt, read, out.into_inner(), ended, errand)
 }
 
 // Serves the editor that has started the program, and answers the status.
@@ -272,11 +269,7 @@ fn serve_editor<R: Files + Env + Input + Print + Eprint + AllocGlobal + Threads 
     let nothing = FilesRead { ids: &[] };
     let mut out = Watched::new(Sheet::new(rt, Form::Plain, nothing, Watcher::nobody(false)));
     let status = serve(rt, &mut Watched::new(rt.reader()), &mut out, further)?;
-    Ok(match status {
-        Status::Good => 0,
-        Status::Bad => 1,
-        Status::Refused => 2,
-    })
+    Ok(status.code())
 }
 
 // Prints the help or the version that was asked for. Whoever has read enough of it, as `head` has, may close the pipe.

@@ -290,18 +290,18 @@ impl<'a> Over<'a> {
         let canvas = canvas_of(self.wave(), extras, read);
         match self {
             Over::Check(look) => check(rt, sources, out, look, extras, canvas),
-            Over::Order { explain } => order(rt, sources, out, explain, extras.style()),
+            Over::Order { explain } => order(rt, sources, out, explain, extras),
             Over::Page => write_page_alone(rt, path, sources, out),
             Over::Rewrite(rewriting) => rewriting.run(rt.alloc(), sources, out),
             Over::Bench(play) => bench_alone(rt, sources, out, play, extras, canvas),
             Over::Decode { bus, live, .. } => {
                 let style = extras.style();
-                decode(rt, &mut sources.first, out, bus, live, style, canvas)
+                decode(rt, sources.first()?, out, bus, live, style, canvas)
             }
             Over::Signals(limits) => {
-                list_signals(rt.alloc(), &mut sources.first, out, limits, extras.style())
+                list_signals(rt.alloc(), sources.first()?, out, limits, extras.style())
             }
-            Over::Learn(lesson) => learn(rt.alloc(), &mut sources.first, out, lesson),
+            Over::Learn(lesson) => learn(rt.alloc(), sources.first()?, out, lesson),
         }
     }
 

@@ -1,0 +1,205 @@
+// The runs that explain a capture.
+
+ghost use Rattle.std.specs.Prelude.{◌≡◌, ℕ, List, string_bytes, IfOk, IfErr, OnOk, IfSome};
+ghost use Rattle.decoding.specs.Dumps.{HaltsAtDump};
+ghost use Rattle.given_plans.specs.Sources.{GiveThePlan, HaltsAtTexts, ReadsTexts, ReadsUpTo, bytes_of};
+ghost use Rattle.given_runs.specs.Due.{CapturedPlan};
+ghost use Rattle.given_runs.specs.Inputs.{DueForBoth, HaltsAtEither, ReadsTextsAndOne};
+ghost use Rattle.given_runs.specs.Written.{StopsCapturing, Wrote};
+ghost use Rattle.plan_core.specs.PlanContents.{plan_contents};
+ghost use Rattle.report.specs.Captures.{CaptureOf};
+ghost use Rattle.report.specs.LiveCaptures.{TellsLive};
+ghost use Rattle.run_parts.specs.Runs.{ReadsText, Reports, Stops};
+ghost use Rattle.run_parts.specs.Writing.{WritesAll, WritingStops};
+ghost use Rattle.vcd_read.specs.Views.{asked};
+
+use capture_check::Rises;
+use decoding::{Explaining, decode};
+use given_plans::{GivenPlan, Halted, find_among};
+use plan_core::Plan;
+use report::{CaptureCounts, CaptureReport, Telling, live_capture};
+use run_parts::{Input, Output, RunError, write_lines};
+use std::alloc::Global;
+use std::thread::Threads;
+use vcd_read::{Probe, Wrong};
+
+/// A plan that is given, and what a run says of a capture by it.
+#[derive(Drop)]
+pub struct GivenCapture {
+    pub given: GivenPlan,
+    pub captured: CaptureReport,
+    /// How often SCL has risen.
+    pub rises: Rises,
+}
+
+/// Explains the capture that the second reader gives, a value change dump, by the plan that the first ones give, and writes the
+/// lines of that: the exact report of `capture`, as `report::run_capture_of` does for one plan text. Where the dump is refused,
+/// `wrong` then has what is wrong, as far as there was memory for it.
+///
+/// # Errors
+///
+/// `Read` where a reader failed or gave no end, `Plan` with the first refusal of a text, before the second reader is called, `Vcd`
+/// with the first refusal of the dump, and `Write` where the writer failed or took no bytes. `NoMemory` where an allocation fails.
+/// Only after `Write` has a part of the report been written: its first bytes. After every other error the writer was not called.
+pub fn capture_given<R: Threads + Sync, I: Input, J: Input, O: Output>(
+    rt: &R,
+    alloc: Global,
+    readers: &mut [I],
+    vcd: &mut J,
+    out: &mut O,
+    scl: Probe<'_>,
+    sda: Probe<'_>,
+    least: u64,
+    wrong: &mut Option<Wrong>,
+) -> Result<GivenCapture, Halted>
+    ensures report { IfOk result (λ it.
+        Reports (ReadsTextsAndOne I.reader J.reader) (DueForBoth (CapturedPlan least (asked scl.entry) (asked sda.entry))) O.writer
+        (readers.old, vcd.old) out.old it.captured.status (readers.new, vcd.new) out.new) }
+    ensures stops { IfErr result (λ e.
+        Stops (ReadsTextsAndOne I.reader J.reader) (DueForBoth (CapturedPlan least (asked scl.entry) (asked sda.entry))) O.writer
+        (HaltsAtEither I.reader J.reader (λ plan. HaltsAtDump J.reader (asked scl.entry) (asked sda.entry)))
+        (readers.old, vcd.old) out.old e.error (readers.new, vcd.new) out.new) }
+    ensures text { IfErr result (λ e. IfSome e.text (λ it.
+        ReadsUpTo I.reader readers.old (bytes_of it.before.items) it.text.items readers.new)) }
+{
+    match find_among(alloc, readers) {
+        Ok(given) => capture_plan(rt, alloc, given, vcd, out, scl, sda, least, wrong),
+        Err(halted) => Err(halted),
+    }
+}
+
+// The same of a plan that was found.
+fn capture_plan<R: Threads + Sync, J: Input, O: Output>(
+    rt: &R,
+    alloc: Global,
+    given: GivenPlan,
+    vcd: &mut J,
+    out: &mut O,
+    scl: Probe<'_>,
+    sda: Probe<'_>,
+    least: u64,
+    wrong: &mut Option<Wrong>,
+) -> Result<GivenCapture, Halted>
+    ensures wrote { IfOk result (λ it. (dump : List ℕ) × ReadsText J.reader vcd.old dump vcd.new
+        × Wrote (CapturedPlan least (asked scl.entry) (asked sda.entry) (plan_contents given.plan) dump) O.writer
+        out.old it.captured.status out.new) }
+    ensures stops { IfErr result (λ e. StopsCapturing least (asked scl.entry) (asked sda.entry)
+        (plan_contents given.plan) J.reader O.writer (vcd.old, out.old) e.error (vcd.new, out.new)) }
+    ensures no_text { IfErr result (λ e. IfSome e.text (λ it. ⊥)) }
+{
+    match read_capture(rt, alloc, &given.plan, vcd, scl, sda, least, wrong) {
+        Ok((captured, rises)) => write_capture(given, captured, rises, out),
+        Err(error) => Err(Halted::from(error)),
+    }
+}
+
+// Writes this report.
+fn write_capture<O: Output>(
+    given: GivenPlan,
+    captured: CaptureReport,
+    rises: Rises,
+    out: &mut O,
+) -> Result<GivenCapture, Halted>
+    ensures status { IfOk result (λ it. it.captured.status ≡ captured.status) }
+    ensures written { OnOk result (WritesAll O.writer out.old (string_bytes captured.report) out.new) }
+    ensures stops { IfErr result (λ e. WritingStops O.writer out.old (string_bytes captured.report) e.error out.new) }
+    ensures no_text { IfErr result (λ e. IfSome e.text (λ it. ⊥)) }
+{
+    match write_lines(out, captured.report.as_bytes(), captured.status) {
+        Ok(_) => Ok(GivenCapture {
+            given,
+            captured,
+            rises,
+        }),
+        Err(error) => Err(Halted::from(error)),
+    }
+}
+
+// The report of the dump that a reader gives, the status of a run with that report, and how often SCL has risen.
+fn read_capture<R: Threads + Sync, J: Input>(
+    rt: &R,
+    alloc: Global,
+    plan: &Plan,
+    vcd: &mut J,
+    scl: Probe<'_>,
+    sda: Probe<'_>,
+    least: u64,
+    wrong: &mut Option<Wrong>,
+) -> Result<(CaptureReport, Rises), RunError>
+    ensures all { IfOk result (λ it. (dump : List ℕ) × ReadsText J.reader vcd.old dump vcd.new
+        × CaptureOf least (asked scl.entry) (asked sda.entry) (plan_contents plan.now) dump (string_bytes it.0.report) it.0.status) }
+    ensures stops { IfErr result (λ error. HaltsAtDump J.reader (asked scl.entry) (asked sda.entry) vcd.old error vcd.new) }
+{
+    let mut explaining = Explaining {
+        rt,
+        alloc,
+        plan,
+        sink: Telling::new(alloc),
+    };
+    let ending = decode(alloc, vcd, scl, sda, least, &mut explaining, wrong)?;
+    let telling = explaining.sink;
+    let captured = telling.finish()?;
+    Ok((captured, ending.rises))
+}
+
+/// A plan that is given, and what a run has told of a capture by it while it read that.
+#[derive(Drop)]
+pub struct GivenLive {
+    pub given: GivenPlan,
+    pub counts: CaptureCounts,
+}
+
+/// The same lines while the dump is read, as `report::live_capture` writes them.
+///
+/// # Errors
+///
+/// Those of `capture_given`. What was written by then stays.
+pub fn live_given<R: Threads + Sync, I: Input, J: Input, O: Output>(
+    rt: &R,
+    alloc: Global,
+    readers: &mut [I],
+    vcd: &mut J,
+    out: &mut O,
+    scl: Probe<'_>,
+    sda: Probe<'_>,
+    least: u64,
+    wrong: &mut Option<Wrong>,
+) -> Result<GivenLive, Halted>
+    ensures read { IfOk result (λ it.
+        ReadsTexts I.reader readers.old (bytes_of it.given.provenance.texts.items) readers.new) }
+    ensures given { IfOk result (λ it.
+        GiveThePlan (bytes_of it.given.provenance.texts.items) (plan_contents it.given.plan)) }
+    ensures report { IfOk result (λ it.
+        TellsLive least (asked scl.entry) (asked sda.entry) (plan_contents it.given.plan) J.reader O.writer
+        vcd.old out.old it.counts vcd.new out.new) }
+    ensures text { IfErr result (λ e. IfSome e.text (λ it.
+        ReadsUpTo I.reader readers.old (bytes_of it.before.items) it.text.items readers.new)) }
+{
+    match find_among(alloc, readers) {
+        Ok(given) => tell_live(rt, alloc, given, vcd, out, scl, sda, least, wrong),
+        Err(halted) => Err(halted),
+    }
+}
+
+fn tell_live<R: Threads + Sync, J: Input, O: Output>(
+    rt: &R,
+    alloc: Global,
+    given: GivenPlan,
+    vcd: &mut J,
+    out: &mut O,
+    scl: Probe<'_>,
+    sda: Probe<'_>,
+    least: u64,
+    wrong: &mut Option<Wrong>,
+) -> Result<GivenLive, Halted>
+    ensures given { IfOk result (λ it. it.given ≡ given) }
+    ensures report { IfOk result (λ it.
+        TellsLive least (asked scl.entry) (asked sda.entry) (plan_contents given.plan) J.reader O.writer
+        vcd.old out.old it.counts vcd.new out.new) }
+    ensures no_text { IfErr result (λ e. IfSome e.text (λ it. ⊥)) }
+{
+    match live_capture(rt, alloc, &given.plan, vcd, out, scl, sda, least, wrong) {
+        Ok(counts) => Ok(GivenLive { given, counts }),
+        Err(error) => Err(Halted::from(error)),
+    }
+}
