@@ -1,7 +1,15 @@
 // Who wins in each pair.
 
+ghost use Rattle.std.specs.Prelude.{◌≡◌, length, drop, IfOk};
+ghost use Rattle.order.specs.Listed.{is_first};
+ghost use Rattle.order.specs.Orders.{IsOrder};
+ghost use Rattle.order.specs.Ways.{AreWaysOf};
+ghost use Rattle.plan_core.specs.Pairs.{pairs_of};
+ghost use Rattle.plan_core.specs.PlanContents.{plan_contents};
+ghost use Rattle.verdicts.specs.Faults.{AreFaults, fault_list};
+
 use crate::known::Known;
-use crate::totals::{Total, Totals};
+use crate::totals::{Total, totals_of};
 use arbitration::{Outcomes, laid_out};
 use plan_core::Plan;
 use std::alloc::{AllocError, Global};
@@ -35,33 +43,56 @@ impl Drop for Order {
 /// # Errors
 ///
 /// Where an allocation fails.
-pub fn order_of(alloc: Global, plan: &Plan, faults: &Faults) -> Result<Order, AllocError> {
-    let laid = laid_out(alloc, plan)?;
-    let mut known = Known::new(alloc, plan)?;
-    let mut totals = Totals::new(alloc, plan.participants())?;
-    let mut pairs = Vec::with_capacity(alloc, plan.pair_count() as usize)?;
-    let mut ways = Vec::with_capacity(alloc, plan.pair_count() as usize)?;
-    let mut met = 0usize;
-    for i in 0..plan.pair_count() {
-        let (x, y) = plan.pair(i);
-        pairs.push((x, y))?;
-        if is_next(faults, met, i) {
-            met = met.saturating_add(1);
-            ways.push(None)?;
-        } else {
-            let outcomes = known.of(plan, &laid, x, y);
-            totals.count(x, y, outcomes);
-            ways.push(outcomes)?;
-        }
-    }
+pub fn order_of(alloc: Global, plan: &Plan, faults: &Faults) -> Result<Order, AllocError>
+    ensures { IfOk result (λ order. AreFaults (plan_contents plan.now) (fault_list faults.now) →
+        IsOrder (plan_contents plan.now) order) }
+{
+    let pairs = pairs_in(alloc, plan)?;
+    let ways = ways_in(alloc, plan, faults)?;
+    let totals = totals_of(alloc, plan.participants(), &pairs, &ways)?;
     Ok(Order {
         pairs,
         ways,
-        totals: totals.into_all(),
+        totals,
     })
 }
 
+// The pairs of the plan.
+fn pairs_in(alloc: Global, plan: &Plan) -> Result<Vec<(u32, u32)>, AllocError>
+    ensures { IfOk result (λ pairs. pairs.items ≡ pairs_of (plan_contents plan.now)) }
+{
+    let mut pairs = Vec::with_capacity(alloc, plan.pair_count() as usize)?;
+    for i in 0..plan.pair_count() {
+        pairs.push(plan.pair(i))?;
+    }
+    Ok(pairs)
+}
+
+// How the pairs of the plan may end, which has these faults.
+fn ways_in(alloc: Global, plan: &Plan, faults: &Faults) -> Result<Vec<Option<Outcomes>>, AllocError>
+    ensures whole { IfOk result (λ ways. length ways.items ≡ length (pairs_of (plan_contents plan.now))) }
+    ensures each { IfOk result (λ ways. AreFaults (plan_contents plan.now) (fault_list faults.now) →
+        AreWaysOf (plan_contents plan.now) ways.items) }
+{
+    let laid = laid_out(alloc, plan)?;
+    let mut known = Known::new(alloc, plan)?;
+    let mut ways = Vec::with_capacity(alloc, plan.pair_count() as usize)?;
+    let mut met = 0usize;
+    for i in 0..plan.pair_count() {
+        if is_next(faults, met, i) {
+            met += 1;
+            ways.push(None)?;
+        } else {
+            let (x, y) = plan.pair(i);
+            ways.push(Some(known.of(plan, &laid, x, y)))?;
+        }
+    }
+    Ok(ways)
+}
+
 // Whether this pair is the next one of those that are not safe.
-fn is_next(faults: &Faults, met: usize, pair: u32) -> bool {
+fn is_next(faults: &Faults, met: usize, pair: u32) -> bool
+    ensures { result ≡ is_first (drop met (fault_list faults.now)) pair }
+{
     met < faults.len() && faults.get(met).0 == pair
 }

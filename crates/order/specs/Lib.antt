@@ -1,0 +1,9 @@
+pub mod Ways
+pub mod Totals
+pub mod Lines
+pub mod Orders
+pub mod Counting
+pub mod Known
+pub mod Labels
+pub mod Listed
+pub mod WayParts
