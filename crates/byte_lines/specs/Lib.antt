@@ -2,3 +2,4 @@ pub mod Bytes
 pub mod Lines
 pub mod Views
 pub mod Decoded
+pub mod Writing

@@ -8,7 +8,9 @@ mod bytes;
 pub mod lines;
 pub mod runs;
 pub mod telling;
+pub mod writing;
 
 pub use lines::{push_count, push_transaction};
 pub use runs::decoded_report;
 pub use telling::{ByteReport, ByteTelling};
+pub use writing::{ByteCounts, ByteWriting};

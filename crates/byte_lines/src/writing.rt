@@ -1,0 +1,96 @@
+// The sink that writes lines as they come.
+
+use crate::lines::push_count;
+use crate::telling::ByteTelling;
+use capture_check::Transaction;
+use decoding::TransactionSink;
+use run_parts::{Output, RunError, write_report};
+use std::alloc::Global;
+
+// How many bytes are kept before they are written.
+const BLOCK: usize = 65_536;
+
+/// What `decode` says of a dump, beside its lines.
+#[derive(Clone, Copy)]
+pub struct ByteCounts {
+    /// How many transactions there are.
+    pub transactions: u64,
+    /// How many of them a STOP ended.
+    pub stopped: u64,
+}
+
+/// Writes the lines of transactions as they come, and counts them.
+#[derive(Drop)]
+pub struct ByteWriting<'a, O> {
+    pub(crate) out: &'a mut O,
+    // the lines that have not been written, and the counts
+    pub(crate) telling: ByteTelling,
+    // whether no line is kept after a call
+    pub(crate) live: bool,
+}
+
+impl<'a, O: Output> ByteWriting<'a, O> {
+    ghost use Rattle.std.specs.Prelude.{◌≡◌, ◌⊎◌, [], ◌++◌, OnOk, IfErr, string_bytes};
+    ghost use Rattle.byte_lines.specs.Lines.{count_line};
+    ghost use Rattle.run_parts.specs.Writing.{WritesAll, WritingStops};
+
+    /// Nothing has been written. Where it is live, the lines of all that has ended are written before the dump is read on,
+    /// and else in blocks.
+    pub fn new(alloc: Global, live: bool, out: &'a mut O) -> ByteWriting<'a, O>
+        ensures lines { string_bytes result.telling.lines ≡ [] }
+        ensures stopped { result.telling.stopped ≡ 0 }
+    {
+        ByteWriting {
+            out,
+            telling: ByteTelling::new(alloc),
+            live,
+        }
+    }
+
+    // Writes the lines that are kept.
+    fn write(&mut self) -> Result<(), RunError>
+        ensures same_writer { self.new.out.ghost_name ≡ self.old.out.ghost_name }
+        ensures written { OnOk result (
+            WritesAll O.writer self.old.out.now (string_bytes self.old.telling.lines) self.new.out.now) }
+        ensures lines { OnOk result (string_bytes self.new.telling.lines ≡ []) }
+        ensures stopped { self.new.telling.stopped ≡ self.old.telling.stopped }
+        ensures live { self.new.live ≡ self.old.live }
+        ensures stops { IfErr result (λ error.
+            WritingStops O.writer self.old.out.now (string_bytes self.old.telling.lines) error self.new.out.now) }
+    {
+        write_report(&mut *self.out, self.telling.lines.as_bytes())?;
+        self.telling.lines.clear();
+        Ok(())
+    }
+
+    /// Writes the lines that are left, and answers what all of them tell.
+    ///
+    /// # Errors
+    ///
+    /// `Write` where the writer failed or took no bytes, and `NoMemory` where an allocation fails.
+    pub fn finish(&mut self) -> Result<ByteCounts, RunError>
+        ensures written { OnOk result (WritesAll O.writer self.old.out.now
+            (string_bytes self.old.telling.lines ++ count_line self.old.telling.stopped) self.new.out.now) }
+    {
+        push_count(&mut self.telling.lines, self.telling.stopped)?;
+        self.write()?;
+        Ok(ByteCounts {
+            transactions: self.telling.transactions,
+            stopped: self.telling.stopped,
+        })
+    }
+}
+
+impl<O: Output> TransactionSink for ByteWriting<'_, O> {
+    ghost use Rattle.byte_lines.specs.Writing.{writing_sink};
+
+    ghost sink = { writing_sink O.writer };
+
+    fn take(&mut self, transactions: &[Transaction]) -> Result<(), RunError> {
+        self.telling.take(transactions)?;
+        if self.live || BLOCK <= self.telling.lines.len() {
+            self.write()?;
+        }
+        Ok(())
+    }
+}
