@@ -11,6 +11,7 @@ use crate::driven::{
     refuse_unknown,
 };
 use bus_rows::Paint;
+use byte_lines::{ByteCounts, ByteWriting};
 use capture_check::Rises;
 use decoding::Explaining;
 use drives::Driving;
@@ -381,6 +382,9 @@ pub fn decode<R: Files + Print + Eprint + Clock + AllocGlobal, J: Input, O: Outp
     };
     let told = match style {
         Style::Objects => decode_objects(alloc, &mut dump, out, selection, live, &mut tap),
+        Style::Lines(_) if bus.view.is_whole() => {
+            exact_bytes(alloc, &mut dump, out, selection, live, &mut tap)
+        }
         Style::Lines(_) => decode_lines(alloc, &mut dump, out, selection, live, &mut tap),
     };
     let least = dump.quiet().least;
@@ -432,6 +436,33 @@ fn draw_recording<R: Files + Print + Eprint + Clock + AllocGlobal>(
     write_wave(rt, wave.as_str(), status, canvas)
 }
 
+// The exact lines, by a sink whose contract says what they are.
+fn exact_bytes<J: Input, O: Output>(
+    alloc: Global,
+    dump: &mut Dump<'_, '_, J>,
+    out: &mut O,
+    mut selection: Selection,
+    live: bool,
+    tap: &mut Option<Recorder>,
+) -> Result<(Selection, Rises), RunError> {
+    let mut lines = ByteWriting::new(alloc, live, out);
+    let ending = match tap {
+        Some(tap) => dump.decode_with(alloc, &mut lines, tap)?,
+        None => dump.decode(alloc, &mut lines)?,
+    };
+    let ByteCounts {
+        transactions,
+        stopped,
+    } = lines.finish()?;
+    selection.seen = Seen {
+        transactions,
+        stopped,
+        unexplained: 0,
+    };
+    Ok((selection, ending.rises))
+}
+
+// Lines in which times, or what is told, are others.
 fn decode_lines<J: Input, O: Output>(
     alloc: Global,
     dump: &mut Dump<'_, '_, J>,

@@ -1,5 +1,5 @@
 -- What lines that are written as they come say, once the writer has them.
-use Rattle.std.proofs.Common.{◌≡◌, zero, suc, string_bytes, ◌≤◌, ◌⊎◌, inl, inr, ℕ, ◌+◌, List, [], ◌∷◌, ◌++◌, Ok, ap, sym, ◌∙◌, subst, refl, append_assoc, append-nil, arith}
+use Rattle.std.proofs.Common.{◌≡◌, zero, suc, string_bytes, ◌≤◌, ◌⊎◌, inl, inr, ℕ, ◌+◌, List, [], ◌∷◌, ◌++◌, length, length-append, Ok, ap, sym, ◌∙◌, subst, refl, append_assoc, append-nil, arith}
 use Rattle.plan_core.specs.Contents.{Contents}
 use Rattle.plan_core.specs.PlanContents.{plan_contents}
 use Rattle.vcd_read.specs.declared.samples.Sample.{Sample}
@@ -92,6 +92,7 @@ module _ {R O : Type 0} (writer : Writer O) where
     pub told : Tells (under start) ts tally
     pub stopped : now.sink.stopped ≡ start.sink.stopped + tally.stopped
     pub unexplained : now.sink.unexplained ≡ start.sink.unexplained + tally.unexplained
+    pub transactions : now.sink.transactions ≡ start.sink.transactions + length ts
     pub written : (rest : List ℕ) → IsLeft writer start.sink.out.now (tally.lines ++ rest) rest now.sink.out.now
 
   module _ (start : Explaining R (Live O)) where
@@ -110,6 +111,7 @@ module _ {R O : Type 0} (writer : Writer O) where
           told = tells_more (under start) ts so_far.tally so_far.told more b.block (block_under ts more before b.block so_far b.told);
           stopped = omega (arith, so_far.stopped, b.stopped);
           unexplained = omega (arith, so_far.unexplained, b.unexplained);
+          transactions = omega (arith, so_far.transactions, b.transactions, length-append ts more);
           written = λ rest. subst (λ (all : List ℕ). IsLeft writer s all rest now.sink.out.now) (sym (append_assoc so_far.tally.lines b.block.lines rest))
               (part_written writer s (so_far.tally.lines ++ (b.block.lines ++ rest)) rest b.block.lines before.sink.out.now now.sink.out.now (so_far.written (b.block.lines ++ rest)) b.written);
         }
@@ -122,6 +124,7 @@ module _ {R O : Type 0} (writer : Writer O) where
       told = no_transaction;
       stopped = omega arith;
       unexplained = omega arith;
+      transactions = omega arith;
       written = λ rest. all_left writer start.sink.out.now rest;
     }
     written_by _ now (next_call {ts} {more} {before} taken call) = next_written ts more before now (written_by ts before taken) call
@@ -223,8 +226,8 @@ module _ {R O : Type 0} (writer : Writer O) where
         (r.0 ∙ w.same_writer, at_last text samples ts more now e last told read given split w r.1)
 
     -- the dump was read to its end, and only the last line is left
-    pub tells_all : (now : E) (told : Explaining R (Live O)) (it : Telling) → start.sink.stopped ≡ 0 → start.sink.unexplained ≡ 0 → it.stopped ≡ told.sink.stopped → it.unexplained ≡ told.sink.unexplained → string_bytes it.lines ≡ [] → DecodesAll sink start least scl sda second before now told → (told.sink.out.ghost_name ≡ start.sink.out.ghost_name) × HasTold least scl sda (under start) second writer before start.sink.out.now it now told.sink.out.now
-    tells_all now told it none_stopped none_unexplained same_stopped same_unexplained empty all =
+    pub tells_all : (now : E) (told : Explaining R (Live O)) (it : Telling) → start.sink.stopped ≡ 0 → start.sink.unexplained ≡ 0 → start.sink.transactions ≡ 0 → it.transactions ≡ told.sink.transactions → it.stopped ≡ told.sink.stopped → it.unexplained ≡ told.sink.unexplained → string_bytes it.lines ≡ [] → DecodesAll sink start least scl sda second before now told → (told.sink.out.ghost_name ≡ start.sink.out.ghost_name) × HasTold least scl sda (under start) second writer before start.sink.out.now it now told.sink.out.now
+    tells_all now told it none_stopped none_unexplained none_told same_told same_stopped same_unexplained empty all =
         let w = written_by start (quiet_transactions least all.decodes.samples) told all.decodes.taken in (
           w.same_writer,
           record {
@@ -238,6 +241,7 @@ module _ {R O : Type 0} (writer : Writer O) where
             no_lines = empty;
             stopped = omega (arith, w.stopped, none_stopped, same_stopped);
             unexplained = omega (arith, w.unexplained, none_unexplained, same_unexplained);
+            transactions = omega (arith, w.transactions, none_told, same_told);
             written = w.written;
           },
         )
@@ -262,14 +266,15 @@ module _ (least : ℕ) (scl sda : Finder) (plan : Contents) {E O : Type 0} (seco
   abbrev whole : (status : Status) → Explained status (tally_of told) → CaptureOf least scl sda plan h.dump (capture_report h.tally) status
   whole status right = record { samples = h.samples; read = h.given; tally = h.tally; told = h.told; lines = refl; judged = explained_same status (tally_of told) h.tally h.unexplained right }
 
-  pub ends_live : (it : CaptureCounts) (bytes : List ℕ) (end : O) → Explained it.status (tally_of told) → it.stopped ≡ told.stopped → it.unexplained ≡ told.unexplained → bytes ≡ capture_report (tally_of told) → WritesAll writer middle bytes end → TellsLive least scl sda plan second writer before start it now end
-  ends_live it bytes end right same_stopped same_unexplained same written = record {
+  pub ends_live : (it : CaptureCounts) (bytes : List ℕ) (end : O) → Explained it.status (tally_of told) → it.transactions ≡ told.transactions → it.stopped ≡ told.stopped → it.unexplained ≡ told.unexplained → bytes ≡ capture_report (tally_of told) → WritesAll writer middle bytes end → TellsLive least scl sda plan second writer before start it now end
+  ends_live it bytes end right same_told same_stopped same_unexplained same written = record {
     dump = h.dump;
     read = h.read;
     report = capture_report h.tally;
     capture = whole it.status right;
     stopped = same_stopped ∙ h.stopped;
     unexplained = same_unexplained ∙ h.unexplained;
+    transactions = same_told ∙ h.transactions;
     written = none_left writer start (capture_report h.tally) end (part_written writer start (capture_report h.tally) [] bytes middle end (last_left bytes same) written);
   }
 

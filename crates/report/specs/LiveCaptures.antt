@@ -1,5 +1,5 @@
 -- What a run has written that tells of a dump while it reads it.
-use Rattle.std.specs.Prelude.{◌≡◌, ℕ, ◌≤◌, List, ◌++◌, Ok}
+use Rattle.std.specs.Prelude.{◌≡◌, ℕ, ◌≤◌, List, ◌++◌, length, Ok}
 use Rattle.std.specs.Io.KnownBytes.{Appends}
 use Rattle.plan_core.specs.Contents.{Contents}
 use Rattle.vcd_read.specs.declared.samples.Sample.{Sample}
@@ -54,6 +54,7 @@ module _ (least : ℕ) (scl sda : Finder) (plan : Contents) where
       pub capture : CaptureOf least scl sda plan dump report it.status
       pub stopped : it.stopped ≡ capture.tally.stopped
       pub unexplained : it.unexplained ≡ capture.tally.unexplained
+      pub transactions : it.transactions ≡ length (quiet_transactions least capture.samples)
       pub written : WritesAll (by_parts writer) start report end
 
     -- Why the report is not whole, and what was written up to then.

@@ -1,5 +1,5 @@
 -- What lines that are written as they come stand for. Only private contracts and proofs use this.
-use Rattle.std.specs.Prelude.{◌≡◌, ◌⊎◌, ℕ, ◌+◌, List, [], ◌++◌, Ok, string_bytes}
+use Rattle.std.specs.Prelude.{◌≡◌, ◌⊎◌, ℕ, ◌+◌, List, [], ◌++◌, length, Ok, string_bytes}
 use Rattle.plan_core.specs.Contents.{Contents}
 use Rattle.vcd_read.specs.declared.samples.Sample.{Sample}
 use Rattle.vcd_read.specs.Dumps.{samples_of}
@@ -27,6 +27,7 @@ module _ {O : Type 0} (writer : Writer O) (plan : Contents) (before : Live O) (t
     pub written : WritesAll writer before.out.now block.lines after.out.now
     pub stopped : after.stopped ≡ before.stopped + block.stopped
     pub unexplained : after.unexplained ≡ before.unexplained + block.unexplained
+    pub transactions : after.transactions ≡ before.transactions + length ts
 
   -- the writer failed at the lines of these transactions
   pub record FailsAtBlock (error : RunError) (after : Live O) : Type 0 where
@@ -61,4 +62,5 @@ module _ (least : ℕ) (scl sda : Finder) (plan : Contents) {E O : Type 0} (seco
     pub no_lines : string_bytes it.lines ≡ []
     pub stopped : it.stopped ≡ tally.stopped
     pub unexplained : it.unexplained ≡ tally.unexplained
+    pub transactions : it.transactions ≡ length (quiet_transactions least samples)
     pub written : (rest : List ℕ) → IsLeft writer start (tally.lines ++ rest) rest end

@@ -38,10 +38,11 @@ impl<O: Output> ExplainedSink for Live<'_, O> {
     ) -> Result<(), RunError> {
         let mut block = Telling::new(alloc);
         block.take(alloc, plan, transactions, explainers)?;
+        let told = more(self.transactions, transactions.len() as u64)?;
         let stopped = more(self.stopped, block.stopped)?;
         let unexplained = more(self.unexplained, block.unexplained)?;
         write_report(&mut *self.out, block.lines.as_bytes())?;
-        self.transactions = self.transactions.saturating_add(block.transactions);
+        self.transactions = told;
         self.stopped = stopped;
         self.unexplained = unexplained;
         Ok(())

@@ -120,6 +120,7 @@ impl Telling {
     pub fn finish(self) -> Result<CaptureReport, AllocError>
         ensures report { IfOk result (λ it. string_bytes it.report ≡ capture_report (tally_of self)) }
         ensures status { IfOk result (λ it. Explained it.status (tally_of self)) }
+        ensures transactions { IfOk result (λ it. it.transactions ≡ self.transactions) }
         ensures stopped { IfOk result (λ it. it.stopped ≡ (tally_of self).stopped) }
         ensures unexplained { IfOk result (λ it. it.unexplained ≡ (tally_of self).unexplained) }
     {

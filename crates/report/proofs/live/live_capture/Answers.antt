@@ -43,4 +43,4 @@ returns-in_err-write_report-clause-front g c =
 pub returns-clause-report : goal.returns-clause-report
 returns-clause-report g c =
     ends_live c.args.least (asked c.args.scl) (asked c.args.sda) (plan_contents c.args.plan.now) g.J.Input.reader g.O.Output.writer c.args.vcd.now c.args.out.now c.in_ok-told.told c.tell.new.vcd c.tell.new.out c.in_ok-told.ensures.all
-    _ c.as_bytes.result.now c.write_report.new.writer c.in_ok-last.ensures.status c.in_ok-last.ensures.stopped c.in_ok-last.ensures.unexplained (c.as_bytes.ensures.value ∙ c.in_ok-last.ensures.report) c.in_ok-write_report.ensures.all
+    _ c.as_bytes.result.now c.write_report.new.writer c.in_ok-last.ensures.status c.in_ok-last.ensures.transactions c.in_ok-last.ensures.stopped c.in_ok-last.ensures.unexplained (c.as_bytes.ensures.value ∙ c.in_ok-last.ensures.report) c.in_ok-write_report.ensures.all

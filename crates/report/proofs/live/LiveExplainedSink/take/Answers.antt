@@ -1,4 +1,6 @@
-use Rattle.std.proofs.Common.{inr, List, [], ℕ, refl, subst}
+use Rattle.std.proofs.Common.{inr, ◌+◌, List, [], ℕ, refl, ap, sym, ◌∙◌, subst}
+use Rattle.std.proofs.lemmas.List.{length-map}
+use Rattle.capture_check.specs.Views.{recorded}
 use Rattle.plan_core.specs.PlanContents.{plan_contents}
 use Rattle.report.specs.CaptureViews.{tally_of}
 use Rattle.run_parts.specs.Writing.{WritesAll, WritingStops}
@@ -25,4 +27,5 @@ returns-clause-taken g c = record {
   written = subst (λ (bytes : List ℕ). WritesAll g.O.Output.writer c.args.self.now.out.now bytes c.write_report.new.writer) c.as_bytes.ensures.value c.in_ok-write_report.ensures.all;
   stopped = c.in_ok-stopped.ensures;
   unexplained = c.in_ok-unexplained.ensures;
+  transactions = c.in_ok-told.ensures ∙ ap (λ n. c.args.self.now.transactions + n) (sym (length-map c.args.transactions.now recorded));
 }
