@@ -1,0 +1,15 @@
+pub mod Membership
+pub mod JoinedNames
+pub mod EntryNames
+pub mod PlanWords
+pub mod BriefWords
+pub mod SameMeanings
+pub mod SeveralLemmas
+pub mod SoundDrafts
+pub mod PartLemmas
+pub mod DraftParts
+pub mod MeantLimits
+pub mod Families
+pub mod SoundItems
+pub mod SoundReading
+pub mod MeantLemmas

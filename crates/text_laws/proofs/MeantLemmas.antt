@@ -1,0 +1,40 @@
+-- What is meant by drafts that were read.
+use Rattle.std.proofs.Common.{◌≡◌, ℕ, ◌+◌, true, false, List, [], ◌∷◌, ap, sym, subst}
+use Rattle.std.specs.Prelude.{Result, Contains}
+use Rattle.std.specs.List.{count_by}
+use Rattle.plan_core.specs.Contents.{Contents}
+use Rattle.plan_core.specs.Limits.{IsWithinLimits}
+use Rattle.plan_text.specs.declared.errors.PlanError.{PlanError}
+use Rattle.brief_text.specs.Briefs.{texts_read, in_text, then_read, Means, AllMean}
+use Rattle.brief_text.specs.Drafts.{Draft, no_items}
+use Rattle.brief_text.specs.Splitting.{parts, parts_of}
+use Rattle.brief_text.proofs.SaidLemmas.{text_again, meant_said}
+use Rattle.text_laws.specs.Adding.{NoneIsRefused}
+use Rattle.text_laws.specs.Sendings.{sends, lists}
+use Rattle.text_laws.specs.Several.{WasRead}
+use Rattle.text_laws.proofs.DraftParts.{parts_once, parts_only}
+use Rattle.text_laws.proofs.MeantLimits.{parts_added, meant_within}
+use Rattle.text_laws.proofs.Membership.{in_contained, holds_in, not_holds}
+use Rattle.text_laws.proofs.SeveralLemmas.{all_read}
+use Rattle.text_laws.proofs.SoundReading.{read_sound}
+
+pub one_within : (text : List ℕ) (plan : Contents) → Means text plan → IsWithinLimits plan
+one_within text plan means =
+    let said = meant_said text plan means in
+    let read = ap (λ (r : Result Draft PlanError). then_read (in_text 0 r) (λ more. texts_read (0 + 1) more [])) (text_again text no_items said.0 said.1) in
+    subst IsWithinLimits (sym said.2) (meant_within said.0 (read_sound said.0 (text ∷ [], read)))
+
+pub all_within : (texts : List (List ℕ)) (plan : Contents) → AllMean texts plan → IsWithinLimits plan
+all_within texts plan means =
+    let read = all_read texts plan means in
+    subst IsWithinLimits (sym read.2) (meant_within read.0 (read_sound read.0 (texts, read.1)))
+
+pub all_added : (draft : Draft) → WasRead draft → NoneIsRefused draft.plan (parts draft)
+all_added draft read = (parts_added draft (read_sound draft read)).0
+
+module _ (draft : Draft) (controller : List ℕ × List (List ℕ)) (message : List ℕ) (read : WasRead draft) (at : Contains draft.controllers controller) where
+  pub in_one_part : lists controller message ≡ true → count_by (sends message) (parts_of draft controller) ≡ 1
+  in_one_part listed = parts_once draft (read_sound draft read) controller (in_contained draft.controllers controller at) message (holds_in message controller.1 listed)
+
+  pub in_no_part : lists controller message ≡ false → count_by (sends message) (parts_of draft controller) ≡ 0
+  in_no_part foreign = parts_only draft (read_sound draft read) controller (in_contained draft.controllers controller at) message (not_holds message controller.1 foreign)

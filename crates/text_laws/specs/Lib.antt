@@ -1,0 +1,3 @@
+pub mod Several
+pub mod Sendings
+pub mod Adding
