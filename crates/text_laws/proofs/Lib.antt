@@ -13,3 +13,6 @@ pub mod Families
 pub mod SoundItems
 pub mod SoundReading
 pub mod MeantLemmas
+pub mod Places
+pub mod MeantPlans
+pub mod ApartLemmas

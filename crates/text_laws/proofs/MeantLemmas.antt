@@ -7,11 +7,14 @@ use Rattle.plan_core.specs.Limits.{IsWithinLimits}
 use Rattle.plan_text.specs.declared.errors.PlanError.{PlanError}
 use Rattle.brief_text.specs.Briefs.{texts_read, in_text, then_read, Means, AllMean}
 use Rattle.brief_text.specs.Drafts.{Draft, no_items}
-use Rattle.brief_text.specs.Splitting.{parts, parts_of}
+use Rattle.brief_text.specs.Splitting.{parts, parts_of, plan_meant}
 use Rattle.brief_text.proofs.SaidLemmas.{text_again, meant_said}
+use Rattle.plan_core.specs.Participants.{apart}
 use Rattle.text_laws.specs.Adding.{NoneIsRefused}
+use Rattle.text_laws.specs.Covering.{Sent, told_apart, SendsFor}
 use Rattle.text_laws.specs.Sendings.{sends, lists}
 use Rattle.text_laws.specs.Several.{WasRead}
+use Rattle.text_laws.proofs.ApartLemmas.{apart_told}
 use Rattle.text_laws.proofs.DraftParts.{parts_once, parts_only}
 use Rattle.text_laws.proofs.MeantLimits.{parts_added, meant_within}
 use Rattle.text_laws.proofs.Membership.{in_contained, holds_in, not_holds}
@@ -38,3 +41,6 @@ module _ (draft : Draft) (controller : List ℕ × List (List ℕ)) (message : L
 
   pub in_no_part : lists controller message ≡ false → count_by (sends message) (parts_of draft controller) ≡ 0
   in_no_part foreign = parts_only draft (read_sound draft read) controller (in_contained draft.controllers controller at) message (not_holds message controller.1 foreign)
+
+pub told_of_read : (draft : Draft) (p q : ℕ) (x y : Sent) → WasRead draft → SendsFor draft p x → SendsFor draft q y → apart (plan_meant draft) p q ≡ told_apart draft x y
+told_of_read draft p q x y read first second = apart_told draft (read_sound draft read) p q x y first second

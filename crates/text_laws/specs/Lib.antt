@@ -1,3 +1,4 @@
 pub mod Several
 pub mod Sendings
 pub mod Adding
+pub mod Covering
