@@ -201,7 +201,7 @@ module _ (draft : Draft) (sound : Sound draft) where
   unfolding plan_meant
   plan_controllers = pairs_controllers (pairs_apart draft) base ∙ base_controllers
 
-  plan_messages : (plan_meant draft).messages ≡ messages
+  pub plan_messages : (plan_meant draft).messages ≡ messages
   unfolding plan_meant
   plan_messages = pairs_messages (pairs_apart draft) base ∙ base_messages
 
@@ -237,8 +237,8 @@ module _ (draft : Draft) (sound : Sound draft) where
     pub among_parts : In x.part (parts draft)
     among_parts = slice_in (parts draft) x.c x.part x.is_part
 
-    inside : In sent.message x.part.messages
-    inside =
+    pub named_inside : In sent.message x.part.messages × (number_of sent.message messages ≡ Some x.k)
+    named_inside =
         let sending = sending_at (plan_meant draft) p x.c x.k x.participant in
         let at = ap (λ (cs : List (List ℕ × List ℕ)). slice_get cs x.c) (sym plan_controllers) ∙ sending.at in
         let f = slice_from_map (entry messages) (parts draft) x.c sending.entry at in
@@ -250,7 +250,10 @@ module _ (draft : Draft) (sound : Sound draft) where
         let here = slice_map (λ (e : List ℕ × FrameTree). e.0) messages x.k (sent.message, x.frame) (ap (λ (ms : List (List ℕ × FrameTree)). slice_get ms x.k) (sym plan_messages) ∙ x.is_message) in
         let both : some_name n.0 ≡ some_name sent.message = sym named ∙ here in
         let name : n.0 ≡ sent.message = cc in
-        subst (λ (m : List ℕ). In m x.part.messages) name n.1
+        (subst (λ (m : List ℕ). In m x.part.messages) name n.1, ap (λ (m : List ℕ). number_of m messages) (sym name) ∙ n.2)
+
+    inside : In sent.message x.part.messages
+    inside = named_inside.0
 
     pub means : (s : Side) → (s.label ≡ None) ⊎ In s draft.labels → side_means draft s x.part ≡ side_covers draft s sent
     means s known =

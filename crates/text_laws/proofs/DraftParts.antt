@@ -43,7 +43,7 @@ module _ (draft : Draft) (sound : Sound draft) where
       by (Some r) None e f i j = inr (inl (single b j))
       by (Some r) (Some s) e f i j = inr (inr (sound.families.one m a b r s e f i j))
 
-  labels_within : (controller : List ℕ) (s : Side) → In s (labels_of draft controller) → In s draft.labels × (s.controller ≡ controller)
+  pub labels_within : (controller : List ℕ) (s : Side) → In s (labels_of draft controller) → In s draft.labels × (s.controller ≡ controller)
   labels_within controller s h = let f = from_filter (λ (side : Side). bytes_eq side.controller controller) draft.labels s h in (f.0, same-bytes_eq s.controller controller f.1)
 
   pub several : (controller : List ℕ) → Several draft (labels_of draft controller)

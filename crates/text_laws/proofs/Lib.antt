@@ -16,3 +16,4 @@ pub mod MeantLemmas
 pub mod Places
 pub mod MeantPlans
 pub mod ApartLemmas
+pub mod SenderLemmas

@@ -1,5 +1,5 @@
 -- What is meant by drafts that were read.
-use Rattle.std.proofs.Common.{◌≡◌, ℕ, ◌+◌, true, false, List, [], ◌∷◌, ap, sym, subst}
+use Rattle.std.proofs.Common.{◌≡◌, ℕ, ◌+◌, true, false, List, [], ◌∷◌, ap, sym, subst, Some, slice_get}
 use Rattle.std.specs.Prelude.{Result, Contains}
 use Rattle.std.specs.List.{count_by}
 use Rattle.plan_core.specs.Contents.{Contents}
@@ -9,15 +9,17 @@ use Rattle.brief_text.specs.Briefs.{texts_read, in_text, then_read, Means, AllMe
 use Rattle.brief_text.specs.Drafts.{Draft, no_items}
 use Rattle.brief_text.specs.Splitting.{parts, parts_of, plan_meant}
 use Rattle.brief_text.proofs.SaidLemmas.{text_again, meant_said}
-use Rattle.plan_core.specs.Participants.{apart}
+use Rattle.plan_core.specs.Participants.{apart, participants_of}
+use Rattle.plan_core.specs.declared.plans.Participant.TheVariants.{Sending}
 use Rattle.text_laws.specs.Adding.{NoneIsRefused}
-use Rattle.text_laws.specs.Covering.{Sent, told_apart, SendsFor}
+use Rattle.text_laws.specs.Covering.{Sent, sent_by, told_apart, SendsFor}
 use Rattle.text_laws.specs.Sendings.{sends, lists}
 use Rattle.text_laws.specs.Several.{WasRead}
 use Rattle.text_laws.proofs.ApartLemmas.{apart_told}
 use Rattle.text_laws.proofs.DraftParts.{parts_once, parts_only}
 use Rattle.text_laws.proofs.MeantLimits.{parts_added, meant_within}
-use Rattle.text_laws.proofs.Membership.{in_contained, holds_in, not_holds}
+use Rattle.text_laws.proofs.Membership.{in_contained, holds_in, not_holds, contained_in, in_holds}
+use Rattle.text_laws.proofs.SenderLemmas.{somebody, listed_by, each_sending, one_participant}
 use Rattle.text_laws.proofs.SeveralLemmas.{all_read}
 use Rattle.text_laws.proofs.SoundReading.{read_sound}
 
@@ -44,3 +46,18 @@ module _ (draft : Draft) (controller : List ℕ × List (List ℕ)) (message : L
 
 pub told_of_read : (draft : Draft) (p q : ℕ) (x y : Sent) → WasRead draft → SendsFor draft p x → SendsFor draft q y → apart (plan_meant draft) p q ≡ told_apart draft x y
 told_of_read draft p q x y read first second = apart_told draft (read_sound draft read) p q x y first second
+
+module _ (draft : Draft) (read : WasRead draft) where
+  pub somebody_sends : (controller : List ℕ × List (List ℕ)) (message : List ℕ) → Contains draft.controllers controller → lists controller message ≡ true → (p : ℕ) × SendsFor draft p (sent_by controller message)
+  somebody_sends controller message at listed = somebody draft (read_sound draft read) controller (in_contained draft.controllers controller at) message (holds_in message controller.1 listed)
+
+  pub nobody_else : (p q : ℕ) (x : Sent) → SendsFor draft p x → SendsFor draft q x → p ≡ q
+  nobody_else p q x first second = one_participant draft (read_sound draft read) p q x first second
+
+  pub all_listed : (p : ℕ) (x : Sent) → SendsFor draft p x → (controller : List ℕ × List (List ℕ)) × Contains draft.controllers controller × (controller.0 ≡ x.controller) × (lists controller x.message ≡ true)
+  all_listed p x sends =
+      let c = listed_by draft (read_sound draft read) p x sends in
+      (c.0, contained_in draft.controllers c.0 c.1, c.2, in_holds x.message c.0.1 c.3)
+
+  pub all_send : (p c k : ℕ) → slice_get (participants_of (plan_meant draft)) p ≡ Some (Sending c k) → (x : Sent) × SendsFor draft p x
+  all_send p c k at = each_sending draft (read_sound draft read) p c k at

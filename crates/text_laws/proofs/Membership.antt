@@ -123,6 +123,11 @@ module _ {A : Type 0} where
       at (y ∷ ys) zero h e = inl (sym e)
       at (y ∷ ys) (suc k) h e = inr (at ys k (omega arith) e)
 
+  pub contained_in : (xs : List A) (x : A) → In x xs → Contains xs x
+  contained_in [] x h = absurd h
+  contained_in (y ∷ xs) x (inl e) = (0, omega arith, sym e)
+  contained_in (y ∷ xs) x (inr h) = let r = contained_in xs x h in (suc r.0, omega (arith, r.1), r.2)
+
 module _ {A B : Type 0} where
   pub in_map : (f : A → B) (xs : List A) (x : A) → In x xs → In (f x) (map f xs)
   in_map f [] x h = absurd h

@@ -14,6 +14,9 @@ pub record Sent : Type 0 where
   pub controller : List ℕ
   pub message : List ℕ
 
+abbrev pub sent_by : List ℕ × List (List ℕ) → List ℕ → Sent
+sent_by controller message = record { controller = controller.0; message = message }
+
 -- without a label it covers all messages of the controller, and a label those that it stands for
 abbrev pub label_covers : Draft → Option (List ℕ) → List ℕ → Bool
 label_covers draft None message = true

@@ -1,15 +1,16 @@
 // What briefs mean, beside what they say.
 
-ghost use Rattle.std.specs.Prelude.{◌≡◌, ℕ, true, false, List, Contains};
+ghost use Rattle.std.specs.Prelude.{◌≡◌, ℕ, true, false, List, Some, slice_get, Contains};
 ghost use Rattle.std.specs.List.{count_by};
 ghost use Rattle.brief_text.specs.Briefs.{Means, AllMean};
 ghost use Rattle.brief_text.specs.Drafts.{Draft};
 ghost use Rattle.brief_text.specs.Splitting.{parts_of, parts, plan_meant};
 ghost use Rattle.plan_core.specs.Contents.{Contents};
 ghost use Rattle.plan_core.specs.Limits.{IsWithinLimits};
-ghost use Rattle.plan_core.specs.Participants.{apart};
+ghost use Rattle.plan_core.specs.Participants.{apart, participants_of};
+ghost use Rattle.plan_core.specs.declared.plans.Participant.TheVariants.{Sending};
 ghost use Rattle.text_laws.specs.Adding.{NoneIsRefused};
-ghost use Rattle.text_laws.specs.Covering.{Sent, told_apart, SendsFor};
+ghost use Rattle.text_laws.specs.Covering.{Sent, sent_by, told_apart, SendsFor};
 ghost use Rattle.text_laws.specs.Sendings.{sends, lists};
 ghost use Rattle.text_laws.specs.Several.{WasRead};
 
@@ -30,6 +31,21 @@ pub fn each_message_is_in_one_part()
     ensures no_other { (draft : Draft) (controller : List ℕ × List (List ℕ)) (message : List ℕ)
         → WasRead draft → Contains draft.controllers controller
         → lists controller message ≡ false → count_by (sends message) (parts_of draft controller) ≡ 0 }
+{}
+
+/// The participants of the plan that are no interrupts are the messages that controllers list, each once: one sends it for its
+/// controller, and none sends another.
+pub fn each_listed_message_has_one_participant()
+    ensures somebody { (draft : Draft) (controller : List ℕ × List (List ℕ)) (message : List ℕ)
+        → WasRead draft → Contains draft.controllers controller → lists controller message ≡ true
+        → (p : ℕ) × SendsFor draft p (sent_by controller message) }
+    ensures nobody_else { (draft : Draft) (p q : ℕ) (x : Sent)
+        → WasRead draft → SendsFor draft p x → SendsFor draft q x → p ≡ q }
+    ensures listed { (draft : Draft) (p : ℕ) (x : Sent) → WasRead draft → SendsFor draft p x
+        → (controller : List ℕ × List (List ℕ)) × Contains draft.controllers controller
+        × (controller.0 ≡ x.controller) × (lists controller x.message ≡ true) }
+    ensures each { (draft : Draft) (p c k : ℕ) → WasRead draft
+        → slice_get (participants_of (plan_meant draft)) p ≡ Some (Sending c k) → (x : Sent) × SendsFor draft p x }
 {}
 
 /// Two participants that send messages of controllers never start together exactly where one controller of the briefs sends
