@@ -1,13 +1,14 @@
 -- What is meant by drafts that were read.
-use Rattle.std.proofs.Common.{◌≡◌, ℕ, ◌+◌, true, false, List, [], ◌∷◌, ap, sym, subst, Some, slice_get}
+use Rattle.std.proofs.Common.{◌≡◌, ℕ, ◌+◌, true, false, List, [], ◌∷◌, ap, sym, subst, Some, slice_get, map}
 use Rattle.std.specs.Prelude.{Result, Contains}
 use Rattle.std.specs.List.{count_by}
+use Rattle.std.specs.Map.{keys_of}
 use Rattle.plan_core.specs.Contents.{Contents}
 use Rattle.plan_core.specs.Limits.{IsWithinLimits}
 use Rattle.plan_text.specs.declared.errors.PlanError.{PlanError}
 use Rattle.brief_text.specs.Briefs.{texts_read, in_text, then_read, Means, AllMean}
 use Rattle.brief_text.specs.Drafts.{Draft, no_items}
-use Rattle.brief_text.specs.Splitting.{parts, parts_of, plan_meant}
+use Rattle.brief_text.specs.Splitting.{part_name, parts, parts_of, plan_meant}
 use Rattle.brief_text.proofs.SaidLemmas.{text_again, meant_said}
 use Rattle.plan_core.specs.Participants.{apart, participants_of}
 use Rattle.plan_core.specs.declared.plans.Participant.TheVariants.{Sending}
@@ -15,7 +16,7 @@ use Rattle.text_laws.specs.Adding.{NoneIsRefused}
 use Rattle.text_laws.specs.Covering.{Sent, sent_by, told_apart, SendsFor}
 use Rattle.text_laws.specs.Sendings.{sends, lists}
 use Rattle.text_laws.specs.Several.{WasRead}
-use Rattle.text_laws.proofs.ApartLemmas.{apart_told}
+use Rattle.text_laws.proofs.ApartLemmas.{apart_told, plan_keys}
 use Rattle.text_laws.proofs.DraftParts.{parts_once, parts_only}
 use Rattle.text_laws.proofs.MeantLimits.{parts_added, meant_within}
 use Rattle.text_laws.proofs.Membership.{in_contained, holds_in, not_holds, contained_in, in_holds}
@@ -61,3 +62,6 @@ module _ (draft : Draft) (read : WasRead draft) where
 
   pub all_send : (p c k : ℕ) → slice_get (participants_of (plan_meant draft)) p ≡ Some (Sending c k) → (x : Sent) × SendsFor draft p x
   all_send p c k at = each_sending draft (read_sound draft read) p c k at
+
+  pub controllers_are : keys_of (plan_meant draft).controllers ≡ map part_name (parts draft)
+  controllers_are = plan_keys draft (read_sound draft read)

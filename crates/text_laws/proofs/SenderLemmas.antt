@@ -116,20 +116,21 @@ module _ (draft : Draft) (sound : Sound draft) where
       let place = in_slice (parts draft) found.0 (in_flat (parts_of draft) draft.controllers c found.0 at found.1) in
       let number = message_number m ((sound.controllers.listed c at).known m h) in
       let sending = has_sending (plan_meant draft) place.0 number.0 (entry draft.plan.messages found.0)
-          (ap (λ (cs : List (List ℕ × List ℕ)). slice_get cs place.0) (plan_controllers draft sound) ∙ slice_map (entry draft.plan.messages) (parts draft) place.0 found.0 place.1)
-          (in_numbers draft.plan.messages found.0.messages m number.0 (holds_in m found.0.messages found.2) number.1) in
-      let message = slice_from_map (λ (e : List ℕ × FrameTree). e.0) draft.plan.messages number.0 m (number_key m draft.plan.messages number.0 number.1) in
-      (sending.0,
-      record {
-        c = place.0;
-        k = number.0;
-        participant = sending.1;
-        part = found.0;
-        is_part = place.1;
-        owner = owner_is c at found.0 found.1;
-        frame = message.0.1;
-        is_message = ap (λ (ms : List (List ℕ × FrameTree)). slice_get ms number.0) (plan_messages draft sound) ∙ message.1 ∙ ap (λ (n : List ℕ). Some (n, message.0.1)) (sym message.2);
-      })
+      (ap (λ (cs : List (List ℕ × List ℕ)). slice_get cs place.0) (plan_controllers draft sound) ∙ slice_map (entry draft.plan.messages) (parts draft) place.0 found.0 place.1)
+      (in_numbers draft.plan.messages found.0.messages m number.0 (holds_in m found.0.messages found.2) number.1) in
+      let message = slice_from_map (λ (e : List ℕ × FrameTree). e.0) draft.plan.messages number.0 m (number_key m draft.plan.messages number.0 number.1) in (
+        sending.0,
+        record {
+          c = place.0;
+          k = number.0;
+          participant = sending.1;
+          part = found.0;
+          is_part = place.1;
+          owner = owner_is c at found.0 found.1;
+          frame = message.0.1;
+          is_message = ap (λ (ms : List (List ℕ × FrameTree)). slice_get ms number.0) (plan_messages draft sound) ∙ message.1 ∙ ap (λ (n : List ℕ). Some (n, message.0.1)) (sym message.2);
+        },
+      )
     where
       some_one : count_by (sends m) (parts_of draft c) ≡ 1 → list_any (sends m) (parts_of draft c) ≡ true
       some_one one = by (true_or_false (list_any (sends m) (parts_of draft c)))
@@ -150,18 +151,19 @@ module _ (draft : Draft) (sound : Sound draft) where
       let sending = sending_at (plan_meant draft) p c k at in
       let f = slice_from_map (entry draft.plan.messages) (parts draft) c sending.entry (ap (λ (cs : List (List ℕ × List ℕ)). slice_get cs c) (sym (plan_controllers draft sound)) ∙ sending.at) in
       let n = from_numbers draft.plan.messages f.0.messages k (subst (λ (e : List ℕ × List ℕ). In k e.1) f.2 sending.sends) in
-      let message = slice_from_map (λ (e : List ℕ × FrameTree). e.0) draft.plan.messages k n.0 (number_key n.0 draft.plan.messages k n.2) in
-      (record { controller = f.0.side.controller; message = n.0 },
-      record {
-        c = c;
-        k = k;
-        participant = at;
-        part = f.0;
-        is_part = f.1;
-        owner = refl;
-        frame = message.0.1;
-        is_message = ap (λ (ms : List (List ℕ × FrameTree)). slice_get ms k) (plan_messages draft sound) ∙ message.1 ∙ ap (λ (name : List ℕ). Some (name, message.0.1)) (sym message.2);
-      })
+      let message = slice_from_map (λ (e : List ℕ × FrameTree). e.0) draft.plan.messages k n.0 (number_key n.0 draft.plan.messages k n.2) in (
+        record { controller = f.0.side.controller; message = n.0 },
+        record {
+          c = c;
+          k = k;
+          participant = at;
+          part = f.0;
+          is_part = f.1;
+          owner = refl;
+          frame = message.0.1;
+          is_message = ap (λ (ms : List (List ℕ × FrameTree)). slice_get ms k) (plan_messages draft sound) ∙ message.1 ∙ ap (λ (name : List ℕ). Some (name, message.0.1)) (sym message.2);
+        },
+      )
 
   -- two that send one message for one controller are one
   module _ (p q : ℕ) (x : Sent) (s : SendsFor draft p x) (t : SendsFor draft q x) where

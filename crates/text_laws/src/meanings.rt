@@ -1,10 +1,11 @@
 // What briefs mean, beside what they say.
 
-ghost use Rattle.std.specs.Prelude.{◌≡◌, ℕ, true, false, List, Some, slice_get, Contains};
+ghost use Rattle.std.specs.Prelude.{◌≡◌, ℕ, true, false, List, Some, map, slice_get, Contains};
 ghost use Rattle.std.specs.List.{count_by};
+ghost use Rattle.std.specs.Map.{keys_of};
 ghost use Rattle.brief_text.specs.Briefs.{Means, AllMean};
 ghost use Rattle.brief_text.specs.Drafts.{Draft};
-ghost use Rattle.brief_text.specs.Splitting.{parts_of, parts, plan_meant};
+ghost use Rattle.brief_text.specs.Splitting.{part_name, parts_of, parts, plan_meant};
 ghost use Rattle.plan_core.specs.Contents.{Contents};
 ghost use Rattle.plan_core.specs.Limits.{IsWithinLimits};
 ghost use Rattle.plan_core.specs.Participants.{apart, participants_of};
@@ -33,8 +34,8 @@ pub fn each_message_is_in_one_part()
         → lists controller message ≡ false → count_by (sends message) (parts_of draft controller) ≡ 0 }
 {}
 
-/// The participants of the plan that are no interrupts are the messages that controllers list, each once: one sends it for its
-/// controller, and none sends another.
+/// The controllers of the plan are the parts of those of the briefs. Its participants that are no interrupts are the messages
+/// that controllers list, each once: one sends it for its controller, and none sends another.
 pub fn each_listed_message_has_one_participant()
     ensures somebody { (draft : Draft) (controller : List ℕ × List (List ℕ)) (message : List ℕ)
         → WasRead draft → Contains draft.controllers controller → lists controller message ≡ true
@@ -44,6 +45,8 @@ pub fn each_listed_message_has_one_participant()
     ensures listed { (draft : Draft) (p : ℕ) (x : Sent) → WasRead draft → SendsFor draft p x
         → (controller : List ℕ × List (List ℕ)) × Contains draft.controllers controller
         × (controller.0 ≡ x.controller) × (lists controller x.message ≡ true) }
+    ensures controllers { (draft : Draft) → WasRead draft
+        → keys_of (plan_meant draft).controllers ≡ map part_name (parts draft) }
     ensures each { (draft : Draft) (p c k : ℕ) → WasRead draft
         → slice_get (participants_of (plan_meant draft)) p ≡ Some (Sending c k) → (x : Sent) × SendsFor draft p x }
 {}

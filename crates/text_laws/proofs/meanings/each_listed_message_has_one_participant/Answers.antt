@@ -1,4 +1,4 @@
-use Rattle.text_laws.proofs.MeantLemmas.{somebody_sends, nobody_else, all_listed, all_send}
+use Rattle.text_laws.proofs.MeantLemmas.{somebody_sends, nobody_else, all_listed, all_send, controllers_are}
 use Rattle.text_laws.proofs.meanings.each_listed_message_has_one_participant.Goals as goal
 
 pub returns-clause-somebody : goal.returns-clause-somebody
@@ -12,3 +12,6 @@ returns-clause-listed c = λ draft p x read sends. all_listed draft read p x sen
 
 pub returns-clause-each : goal.returns-clause-each
 returns-clause-each c = λ draft p c k read at. all_send draft read p c k at
+
+pub returns-clause-controllers : goal.returns-clause-controllers
+returns-clause-controllers c = controllers_are
