@@ -10,7 +10,9 @@ use Rattle.brief_tokens.specs.declared.symbols.Keyword.TheVariants as keywords
 use Rattle.brief_tokens.specs.declared.symbols.Sign.TheVariants as signs
 use Rattle.brief_tokens.specs.Tokens.{Token, keyword, word, sign, Tokens, next, last, told, tokens_from, tokens_of}
 use Rattle.layout.specs.SameWords.{without_lines, SameWords}
-use Rattle.lexer.specs.Lexemes.{Lexemes, Ending, text_end, briefs, lexemes_of}
+use Rattle.lexer.specs.Lexemes.{Lexemes, Ending, text_end, stray, foreign, briefs, lexemes_of}
+use Rattle.plan_text.specs.declared.errors.PlanError.{PlanError}
+use Rattle.plan_text.specs.declared.errors.PlanError.TheVariants as errors
 use Rattle.lexer.specs.Lexemes as lexemes
 use Rattle.message_tree.specs.declared.bits.Address.{Address}
 use Rattle.message_tree.specs.declared.bits.Pattern.{Pattern}
@@ -21,12 +23,20 @@ abbrev pub bare : Tokens → Tokens
 bare (next token line rest) = next token 0 (bare rest)
 bare (last ending line) = last ending 0
 
--- a phrase stands in all tokens that differ in their lines alone
+-- the refusal of what the tokens end with
+abbrev pub end_of : Tokens → Option PlanError
+end_of (next token line rest) = end_of rest
+end_of (last text_end line) = None
+end_of (last stray line) = Some (errors.Unexpected line)
+end_of (last foreign line) = Some (errors.NotAscii line)
+
+-- a phrase stands in all tokens that differ in their lines alone, and what follows it ends as all does
 record Respects (phrase : Phrase) : Type 0 where
   over : (from to other : Tokens) → phrase from to → bare from ≡ bare other → (there : Tokens) × (bare to ≡ bare there) × phrase other there
+  ends : (from to : Tokens) → phrase from to → end_of from ≡ end_of to
 
 one_respects : (token : Token) → Respects (one token)
-one_respects token = record { over = over }
+one_respects token = record { over = over; ends = λ from to s. ap end_of s.1 }
   where
     over : (from to other : Tokens) → one token from to → bare from ≡ bare other → (there : Tokens) × (bare to ≡ bare there) × one token other there
     over from to (next t line rest) s same =
@@ -38,7 +48,7 @@ one_respects token = record { over = over }
         absurd cc
 
 nothing_respects : Respects nothing
-nothing_respects = record { over = λ from to other s same. (other, ap bare s ∙ same, refl) }
+nothing_respects = record { over = λ from to other s same. (other, ap bare s ∙ same, refl); ends = λ from to s. ap end_of (sym s) }
 
 then_respects : {p q : Phrase} → Respects p → Respects q → Respects (p ▸ q)
 then_respects first second = record {
@@ -46,11 +56,16 @@ then_respects first second = record {
       let a = first.over from s.0 other s.1 same in
       let b = second.over s.0 to a.0 s.2 a.1 in
       (b.0, b.1, (a.0, a.2, b.2));
+  ends = λ from to s. first.ends from s.0 s.1 ∙ second.ends s.0 to s.2;
 }
 
 or_respects : {p q : Phrase} → Respects p → Respects q → Respects (p or q)
-or_respects {p} {q} first second = record { over = over }
+or_respects {p} {q} first second = record { over = over; ends = ends }
   where
+    ends : (from to : Tokens) → (p or q) from to → end_of from ≡ end_of to
+    ends from to (inl s) = first.ends from to s
+    ends from to (inr s) = second.ends from to s
+
     over : (from to other : Tokens) → (p or q) from to → bare from ≡ bare other → (there : Tokens) × (bare to ≡ bare there) × (p or q) other there
     over from to other (inl s) same = let a = first.over from to other s same in (a.0, a.1, inl a.2)
     over from to other (inr s) same = let a = second.over from to other s same in (a.0, a.1, inr a.2)
@@ -61,6 +76,7 @@ also_respects first = record {
   over = λ from to other s same.
       let a = first.over from to other s.0 same in
       (a.0, a.1, (a.2, s.1));
+  ends = λ from to s. first.ends from to s.0;
 }
 
 -- ---- words
@@ -73,6 +89,7 @@ as_respects reads value = record {
   over = λ from to other s same.
       let a = (one_respects (word s.0)).over from to other s.1 same in
       (a.0, a.1, (s.0, a.2, s.2));
+  ends = λ from to s. (one_respects (word s.0)).ends from to s.1;
 }
 
 count_respects : (count : Count) → Respects (SpellsCount count)
@@ -80,6 +97,7 @@ count_respects count = record {
   over = λ from to other s same.
       let a = (one_respects (word s.0)).over from to other s.1 same in
       (a.0, a.1, (s.0, a.2, s.2));
+  ends = λ from to s. (one_respects (word s.0)).ends from to s.1;
 }
 
 to_respects : (to : Said Address) → Respects (SpellsTo to)
@@ -95,7 +113,7 @@ often_respects range (times n) =
     or_respects (also_respects nothing_respects) (also_respects (then_respects (one_respects (sign signs.Star)) (as_respects repetition_by (so_often n))))
 often_respects (Some range) ranged =
     also_respects (then_respects (one_respects (sign signs.Star)) (as_respects repetition_by (from_to range.least range.greatest)))
-often_respects None ranged = record { over = λ from to other s same. absurd s }
+often_respects None ranged = record { over = λ from to other s same. absurd s; ends = λ from to s. absurd s }
 
 -- ---- messages
 
@@ -167,6 +185,11 @@ bare_from (lexemes.last ending line) = refl
 bare_tokens : (text other : List ℕ) → without_lines (lexemes_of briefs 1 text) ≡ without_lines (lexemes_of briefs 1 other) → bare (tokens_of 1 text) ≡ bare (tokens_of 1 other)
 unfolding tokens_of
 bare_tokens text other same = bare_from (lexemes_of briefs 1 text) ∙ ap tokens_from same ∙ sym (bare_from (lexemes_of briefs 1 other))
+
+pub brief_ends : (text : List ℕ) (items : List BriefItem) → Spells text items → end_of (tokens_of 1 text) ≡ None
+brief_ends text items said =
+    let all = then_respects (one_respects (keyword keywords.Brief)) (then_respects (one_respects (word (codes "1"))) (items_respect items)) in
+    all.ends (tokens_of 1 text) (last text_end said.line) said.whole
 
 pub same_items : (text other : List ℕ) (items : List BriefItem) → SameWords text other → Spells text items → Spells other items
 same_items text other items same said =

@@ -17,3 +17,6 @@ pub mod Places
 pub mod MeantPlans
 pub mod ApartLemmas
 pub mod SenderLemmas
+pub mod FirstWords
+pub mod Heads
+pub mod BriefHeads

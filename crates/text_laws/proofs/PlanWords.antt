@@ -3,7 +3,8 @@ use Rattle.std.proofs.Common.{◌≡◌, ℕ, Bool, true, false, List, [], ◌�
 use Rattle.std.specs.Prelude.{Ok, Err}
 use Rattle.std.specs.Str.{bytes_eq}
 use Rattle.layout.specs.SameWords.{without_lines, SameWords}
-use Rattle.lexer.specs.Lexemes.{Alphabet, no_dots, dots_after, Lexemes, Ending, text_end, lexemes_of}
+use Rattle.lexer.specs.Lexemes.{Alphabet, no_dots, dots_after, Lexemes, Ending, text_end, stray, foreign, lexemes_of}
+use Rattle.plan_text.specs.declared.errors.PlanError.{PlanError}
 use Rattle.lexer.specs.Lexemes as lexemes
 use Rattle.message_tree.specs.declared.counts.Count.{Count}
 use Rattle.message_tree.specs.Trees.{FrameTree, write, read, PayloadTree, byte, TailTree, stop, again}
@@ -24,12 +25,20 @@ abbrev pub bare : Tokens → Tokens
 bare (next token line rest) = next token 0 (bare rest)
 bare (last ending line) = last ending 0
 
--- a phrase stands in all tokens that differ in their lines alone
-record Respects (phrase : Phrase) : Type 0 where
-  over : (from to other : Tokens) → phrase from to → bare from ≡ bare other → (there : Tokens) × (bare to ≡ bare there) × phrase other there
+-- the refusal of what the tokens end with
+abbrev pub end_of : Tokens → Option PlanError
+end_of (next token line rest) = end_of rest
+end_of (last text_end line) = None
+end_of (last stray line) = Some (errors.Unexpected line)
+end_of (last foreign line) = Some (errors.NotAscii line)
+
+-- a phrase stands in all tokens that differ in their lines alone, and what follows it ends as all does
+pub record Respects (phrase : Phrase) : Type 0 where
+  pub over : (from to other : Tokens) → phrase from to → bare from ≡ bare other → (there : Tokens) × (bare to ≡ bare there) × phrase other there
+  pub ends : (from to : Tokens) → phrase from to → end_of from ≡ end_of to
 
 one_respects : (token : Token) → Respects (one token)
-one_respects token = record { over = over }
+one_respects token = record { over = over; ends = λ from to s. ap end_of s.1 }
   where
     over : (from to other : Tokens) → one token from to → bare from ≡ bare other → (there : Tokens) × (bare to ≡ bare there) × one token other there
     over from to (next t line rest) s same =
@@ -46,6 +55,7 @@ then_respects first second = record {
       let a = first.over from s.0 other s.1 same in
       let b = second.over s.0 to a.0 s.2 a.1 in
       (b.0, b.1, (a.0, a.2, b.2));
+  ends = λ from to s. first.ends from s.0 s.1 ∙ second.ends s.0 to s.2;
 }
 
 name_respects : (name : List ℕ) → Respects (SpellsName name)
@@ -53,6 +63,7 @@ name_respects name = record {
   over = λ from to other s same.
       let a = (one_respects (word name)).over from to other s.0 same in
       (a.0, a.1, (a.2, s.1));
+  ends = λ from to s. (one_respects (word name)).ends from to s.0;
 }
 
 count_respects : (count : Count) → Respects (SpellsCount count)
@@ -60,6 +71,7 @@ count_respects count = record {
   over = λ from to other s same.
       let a = (one_respects (word s.0)).over from to other s.1 same in
       (a.0, a.1, (s.0, a.2, s.2));
+  ends = λ from to s. (one_respects (word s.0)).ends from to s.1;
 }
 
 mutual
@@ -90,17 +102,17 @@ mutual
   tail_respects (again frame) = then_respects (one_respects (token_of_word (codes "again"))) (frame_respects frame)
 
 names_respect : (names : List (List ℕ)) → Respects (SpellsNames names)
-names_respect [] = record { over = λ from to other s same. (other, ap bare s ∙ same, refl) }
+names_respect [] = record { over = λ from to other s same. (other, ap bare s ∙ same, refl); ends = λ from to s. ap end_of (sym s) }
 names_respect (name ∷ names) =
     let all = then_respects (name_respects name) (names_respect names) in
-    record { over = λ from to other s same. all.over from to other s same }
+    record { over = λ from to other s same. all.over from to other s same; ends = λ from to s. all.ends from to s }
 
 always : {A : Type 0} (P : A → Type 0) → ((x : A) → P x) → (o : Option A) → IfSome o P
 always P all (Some x) = all x
 always P all None = tt
 
 -- the version of a text stands in it
-item_respects : (item : Item) (bytes : List ℕ) → IfSome (version_of bytes) (λ version. Respects (SpellsItem version item))
+pub item_respects : (item : Item) (bytes : List ℕ) → IfSome (version_of bytes) (λ version. Respects (SpellsItem version item))
 unfolding token_of_word
 item_respects (message name frame) bytes =
     always (λ version. Respects (SpellsItem version (message name frame)))
@@ -120,7 +132,7 @@ item_respects (interrupt name address) bytes =
 item_respects (never_both first second) bytes = by (bytes_eq bytes (codes "1")) (bytes_eq bytes (codes "2")) refl refl
   where
     by : (s t : Bool) → bytes_eq bytes (codes "1") ≡ s → bytes_eq bytes (codes "2") ≡ t → IfSome (version_of bytes) (λ version. Respects (SpellsItem version (never_both first second)))
-    by true t e f = rw e (record { over = λ from to other s same. absurd s })
+    by true t e f = rw e (record { over = λ from to other s same. absurd s; ends = λ from to s. absurd s })
     by false true e f =
         rw (e, f)
         (then_respects (one_respects (token_of_word (codes "never")))
@@ -134,6 +146,10 @@ items_respect version keeps (item ∷ items) plan whole from to other s same =
     let a = (keeps item).over from s.1.0 other s.1.1 same in
     let b = items_respect version keeps items (with_item plan item) whole s.1.0 to a.0 s.1.2 a.1 in
     (b.0, b.1, (s.0, (a.0, a.2, b.2)))
+
+pub items_end : (version : _) (keeps : (item : Item) → Respects (SpellsItem version item)) (items : List Item) (plan whole : Contents) (from to : Tokens) → SpellsItems version items plan from whole to → end_of from ≡ end_of to
+items_end version keeps [] plan whole from to s = ap end_of (sym s.1)
+items_end version keeps (item ∷ items) plan whole from to s = (keeps item).ends from s.1.0 s.1.1 ∙ items_end version keeps items (with_item plan item) whole s.1.0 to s.1.2
 
 -- the end of a text
 end_is : (line : ℕ) (there : Tokens) → bare (last text_end line) ≡ bare there → (at : ℕ) × (there ≡ last text_end at)
@@ -158,11 +174,11 @@ second_found (next semicolon line rest) version is = absurd cc
 second_found (last ending line) version is = absurd cc
 
 -- the first two tokens say the version
-head_is : (bytes : List ℕ) (line : ℕ) (rest : Tokens) → bytes_eq bytes (codes "plan") ≡ true → version_at (next (token_of_word bytes) line rest) ≡ second_at rest
+pub head_is : (bytes : List ℕ) (line : ℕ) (rest : Tokens) → bytes_eq bytes (codes "plan") ≡ true → version_at (next (token_of_word bytes) line rest) ≡ second_at rest
 unfolding token_of_word
 head_is bytes line rest e = rw e refl
 
-no_head : (bytes : List ℕ) (line : ℕ) (rest : Tokens) → bytes_eq bytes (codes "plan") ≡ false → version_at (next (token_of_word bytes) line rest) ≡ Err (errors.Version line)
+pub no_head : (bytes : List ℕ) (line : ℕ) (rest : Tokens) → bytes_eq bytes (codes "plan") ≡ false → version_at (next (token_of_word bytes) line rest) ≡ Err (errors.Version line)
 unfolding token_of_word
 no_head bytes line rest e =
     by (bytes_eq bytes (codes "message")) (bytes_eq bytes (codes "controller")) (bytes_eq bytes (codes "interrupt")) (bytes_eq bytes (codes "never")) (bytes_eq bytes (codes "write"))
@@ -219,7 +235,7 @@ version_found (lexemes.next (lexemes.word name) line rest) (lexemes.last ending 
 -- ---- texts
 
 -- what holds of both versions holds of the one that is found
-some_is : {A : Type 0} (P : A → Type 0) (o : Option A) (x : A) → o ≡ Some x → IfSome o P → P x
+pub some_is : {A : Type 0} (P : A → Type 0) (o : Option A) (x : A) → o ≡ Some x → IfSome o P → P x
 some_is P o x e h = subst (λ p. IfSome p P) e h
 
 same_tokens : (text other bytes : List ℕ) → SameWords text other → IfSome (version_of bytes) (λ version. bare (tokens_of (dots_of version) 1 text) ≡ bare (tokens_of (dots_of version) 1 other))
