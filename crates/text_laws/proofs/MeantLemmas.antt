@@ -35,6 +35,9 @@ all_within texts plan means =
     let read = all_read texts plan means in
     subst IsWithinLimits (sym read.2) (meant_within read.0 (read_sound read.0 (texts, read.1)))
 
+pub so_far_within : (draft : Draft) → WasRead draft → IsWithinLimits draft.plan
+so_far_within draft read = (read_sound draft read).limits
+
 pub all_added : (draft : Draft) → WasRead draft → NoneIsRefused draft.plan (parts draft)
 all_added draft read = (parts_added draft (read_sound draft read)).0
 

@@ -20,6 +20,7 @@ ghost use Rattle.text_laws.specs.Several.{WasRead};
 pub fn meant_plans_keep_the_limits()
     ensures one { (text : List ℕ) (plan : Contents) → Means text plan → IsWithinLimits plan }
     ensures several { (texts : List (List ℕ)) (plan : Contents) → AllMean texts plan → IsWithinLimits plan }
+    ensures so_far { (draft : Draft) → WasRead draft → IsWithinLimits draft.plan }
     ensures added { (draft : Draft) → WasRead draft → NoneIsRefused draft.plan (parts draft) }
 {}
 
