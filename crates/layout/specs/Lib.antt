@@ -1,1 +1,3 @@
 pub mod SameWords
+pub mod Refusals
+pub mod Strangers

@@ -1,9 +1,7 @@
 // A text as lines of tokens and comments.
 
-use crate::heads::{Unread, unread_at};
 use lexer::{Letters, Lexeme, Lexer, Symbol};
-use plan_text::Language;
-use std::alloc::Global;
+use std::alloc::{AllocError, Global};
 
 // How many blanks a line begins with that begins inside an item, at least.
 const INDENT: usize = 2;
@@ -174,16 +172,16 @@ impl<'a> Lines<'a> {
     }
 }
 
-/// The lines of this text, which has these letters after its first two tokens.
+/// The lines of this text, which has these letters after its first two tokens, up to what belongs to no token.
 ///
 /// # Errors
 ///
-/// P1 or P3 at the first byte that belongs to no token, and where an allocation fails.
+/// Where an allocation fails.
 pub(crate) fn lines_in<'a>(
     alloc: Global,
     text: &'a [u8],
     letters: Letters,
-) -> Result<Lines<'a>, Unread> {
+) -> Result<Lines<'a>, AllocError> {
     let mut lines = Lines::new(alloc);
     let mut lexer = Lexer::new(text, letters_at_first(letters));
     for number in 0..text.len().saturating_add(1) {
@@ -195,17 +193,14 @@ pub(crate) fn lines_in<'a>(
             Symbol::Word(_) | Symbol::Sign(_) => {
                 lines.read_token(piece(text, spot.start, spot.end), between.len() > 1);
             }
-            Symbol::Stray | Symbol::Foreign => {
-                return Err(unread_at(language_of(letters), text, spot, lexeme.symbol, lexeme.line));
-            }
-            Symbol::End => break,
+            Symbol::Stray | Symbol::Foreign | Symbol::End => break,
         }
     }
     lines.end_line();
     if lines.is_whole {
         Ok(lines)
     } else {
-        Err(Unread::memory())
+        Err(AllocError)
     }
 }
 
@@ -222,13 +217,6 @@ fn letters_at_first(letters: Letters) -> Letters {
     match letters {
         Letters::Dots => Letters::Plain,
         _ => letters,
-    }
-}
-
-fn language_of(letters: Letters) -> Language {
-    match letters {
-        Letters::Brief => Language::Brief,
-        _ => Language::Plan,
     }
 }
 

@@ -1,0 +1,431 @@
+-- Two sendings are apart exactly where one controller sends both or a `never` covers them.
+use Rattle.std.proofs.Common.{◌≡◌, ℕ, ◌⊎◌, inl, inr, ◌||◌, ◌&&◌, ◌==◌, Bool, true, false, not, List, [], ◌∷◌, ◌++◌, map, Option, Some, None, slice_get, refl, ap, sym, ◌∙◌, subst, true≢false}
+use Rattle.std.specs.List.{list_any, filter, flat_map}
+use Rattle.std.specs.Map.{keys_of}
+use Rattle.std.specs.Str.{bytes_eq}
+use Rattle.std.proofs.lemmas.Bool.{and_parts, eqb-true, eq-eqb}
+use Rattle.message_tree.specs.Trees.{FrameTree}
+use Rattle.plan_core.specs.Building.{number_of}
+use Rattle.plan_core.specs.Contents.{Contents}
+use Rattle.plan_core.specs.Participants.{is_never, same_controller, forbidden, apart}
+use Rattle.plan_core.proofs.BuildingLemmas.{bytes_eq-same, same-bytes_eq}
+use Rattle.brief_text.specs.declared.syntax.Lengths.{Lengths}
+use Rattle.brief_text.specs.Drafts.{Draft, members_or, stands_for}
+use Rattle.brief_text.specs.Splitting.{Part, part_name, label_messages, is_label, is_in_part, label_part, rest_part, sends_any, split_by, labels_of, parts_of, parts, pairs_among, are_of_one, label_means, side_means, parts_meant, pairs_meant, pairs_apart, with_parts, plan_meant}
+use Rattle.brief_text.specs.Trees.{Side}
+use Rattle.text_laws.specs.Covering.{Sent, label_covers, side_covers, covers_both, told_apart, SendsFor}
+use Rattle.text_laws.proofs.DraftParts.{is_plain, in_one, from_parts, part_names_once}
+use Rattle.text_laws.proofs.MeantPlans.{entry, parts_are, pairs_controllers, pairs_messages, pairs_added, pairs_from, never_turned, sending_at, from_numbers}
+use Rattle.text_laws.proofs.Membership.{In, Distinct, in_left, in_right, in_either, in_filter, from_filter, in_map, from_map, in_flat, from_flat, any_in, in_any, is_false, not_both, or_either, or_first, or_second, holds, holds_in, in_holds, distinct_one}
+use Rattle.text_laws.proofs.Places.{two, slice_in, slice_map, slice_from_map, number_key, key_number, among_places, from_among, in_between, from_between}
+use Rattle.text_laws.proofs.SoundDrafts.{Sound, family_of}
+
+-- two tests that pass alike are one
+same_test : (a b : Bool) → (a ≡ true → b ≡ true) → (b ≡ true → a ≡ true) → a ≡ b
+same_test true b there back = sym (there refl)
+same_test false b there back = sym (is_false b (λ h. true≢false (sym (back h))))
+
+both_true : (a b : Bool) → a ≡ true → b ≡ true → (a && b) ≡ true
+both_true a b e f = rw (e, f) refl
+
+not_true : (b : Bool) → not b ≡ true → b ≡ false
+not_true true h = absurd (true≢false (sym h))
+not_true false h = refl
+
+module _ (draft : Draft) (sound : Sound draft) where
+  -- ---- what a part with a message is
+
+  record Placed (p : Part) (m : List ℕ) : Type 0 where
+    listed : In m (keys_of draft.plan.messages)
+    -- no label stands for what is left
+    rest : p.side.label ≡ None → (s : Side) → In s draft.labels → s.controller ≡ p.side.controller → In m (label_messages draft s) → ⊥
+    -- the label stands for it, and no label is the message itself, or this one is
+    labelled : (l : List ℕ) → p.side.label ≡ Some l → In m (stands_for draft l) × ((l ≡ m) ⊎ ((s : Side) → In s draft.labels → s.controller ≡ p.side.controller → s.label ≡ Some m → ⊥))
+
+  label_is : (s : Side) (m : List ℕ) → is_label m s ≡ true → s.label ≡ Some m
+  label_is s m h = by s.label refl h
+    where
+      by : (o : Option (List ℕ)) → s.label ≡ o → (elim o [ None ↦ false | Some label ↦ bytes_eq label m ]) ≡ true → s.label ≡ Some m
+      by None e g = absurd (true≢false (sym g))
+      by (Some label) e g = e ∙ ap (λ (x : List ℕ). Some x) (same-bytes_eq label m g)
+
+  is_labelled : (s : Side) (m : List ℕ) → s.label ≡ Some m → is_label m s ≡ true
+  is_labelled s m e = ap (λ (o : Option (List ℕ)). elim o [ None ↦ false | Some label ↦ bytes_eq label m ]) e ∙ bytes_eq-same m m refl
+
+  messages_by : (s : Side) (l : List ℕ) → s.label ≡ Some l → label_messages draft s ≡ stands_for draft l
+  messages_by s l e = ap (λ (o : Option (List ℕ)). elim o [ None ↦ [] | Some label ↦ stands_for draft label ]) e
+
+  own_label : (c : List ℕ) (s : Side) → In s draft.labels → s.controller ≡ c → In s (labels_of draft c)
+  own_label c s h e = in_filter (λ (side : Side). bytes_eq side.controller c) draft.labels s h (bytes_eq-same s.controller c e)
+
+  placed : (p : Part) → In p (parts draft) → (m : List ℕ) → In m p.messages → Placed p m
+  placed p h m inside = let c = from_parts draft sound p h in at c.0 c.1 c.2
+    where
+      some : List ℕ → Option (List ℕ)
+      some l = Some l
+
+      at : (c : List ℕ × List (List ℕ)) → In c draft.controllers → In p (parts_of draft c) → Placed p m
+      at c known g = by (labels_of draft c.0) refl g
+        where
+          all : (n : List ℕ) → In n c.1 → In n (keys_of draft.plan.messages)
+          all n k = (sound.controllers.listed c known).known n k
+
+          by : (labels : List Side) → labels_of draft c.0 ≡ labels → In p (split_by draft labels c.0 c.1) → Placed p m
+          by [] are (inl e) = record {
+            listed = all m (subst (λ (q : Part). In m q.messages) e inside);
+            rest = λ none s k same i. subst (λ (ls : List Side). In s ls) are (own_label c.0 s k (same ∙ ap (λ (q : Part). q.side.controller) e));
+            labelled = λ l is. let none : None ≡ Some l = sym (ap (λ (q : Part). q.side.label) e) ∙ is in absurd cc;
+          }
+          by [] are (inr k) = absurd k
+          by (t ∷ ts) are k = split (from_filter sends_any (rest_part draft (t ∷ ts) c.1 c.0 ∷ map (label_part draft (t ∷ ts) c.1) (t ∷ ts)) p k).0
+            where
+              own : (s : Side) → In s draft.labels → s.controller ≡ c.0 → In s (t ∷ ts)
+              own s i e = subst (λ (ls : List Side). In s ls) are (own_label c.0 s i e)
+
+              split : In p (rest_part draft (t ∷ ts) c.1 c.0 ∷ map (label_part draft (t ∷ ts) c.1) (t ∷ ts)) → Placed p m
+              split (inl e) =
+                  let test = λ (message : List ℕ). not (list_any (λ other. bytes_eq other message) (flat_map (label_messages draft) (t ∷ ts))) in
+                  let f = from_filter test c.1 m (subst (λ (q : Part). In m q.messages) e inside) in
+                  record {
+                    listed = all m f.0;
+                    rest = λ none s i same j.
+                        not_both (holds m (flat_map (label_messages draft) (t ∷ ts))) (in_holds m _ (in_flat (label_messages draft) (t ∷ ts) s m (own s i (same ∙ ap (λ (q : Part). q.side.controller) e)) j)) (not_true _ f.1);
+                    labelled = λ l is. let none : None ≡ Some l = sym (ap (λ (q : Part). q.side.label) e) ∙ is in absurd cc;
+                  }
+              split (inr i) = of_label f.0 f.1 f.2
+                where
+                  f : (s : Side) × In s (t ∷ ts) × (p ≡ label_part draft (t ∷ ts) c.1 s)
+                  f = from_map (label_part draft (t ∷ ts) c.1) (t ∷ ts) p i
+
+                  of_label : (s : Side) → In s (t ∷ ts) → p ≡ label_part draft (t ∷ ts) c.1 s → Placed p m
+                  of_label s j e =
+                      let g = from_filter (is_in_part draft (t ∷ ts) s) c.1 m (subst (λ (q : Part). In m q.messages) e inside) in
+                      let tests = and_parts (holds m (label_messages draft s)) (is_label m s || not (list_any (is_label m) (t ∷ ts))) g.1 in
+                      let known_label = from_filter (λ (side : Side). bytes_eq side.controller c.0) draft.labels s (subst (λ (ls : List Side). In s ls) (sym are) j) in
+                      let side_is = ap (λ (q : Part). q.side) e in
+                      let label = sound.labels.each s known_label.0 in
+                      let owner = same-bytes_eq s.controller c.0 known_label.1 in
+                      record {
+                        listed = all m g.0;
+                        rest = λ none. let no_label : None ≡ Some label.label = sym none ∙ ap (λ (x : Side). x.label) side_is ∙ label.is in absurd cc;
+                        labelled = λ l is.
+                            let label_now = sym (ap (λ (x : Side). x.label) side_is) ∙ is in (
+                              subst (λ (names : List (List ℕ)). In m names) (messages_by s l label_now) (holds_in m (label_messages draft s) tests.0),
+                              which s l label_now (or_either (is_label m s) (not (list_any (is_label m) (t ∷ ts))) tests.1) (ap (λ (x : Side). x.controller) side_is ∙ owner),
+                            );
+                      }
+                    where
+                      which : (s : Side) (l : List ℕ) → s.label ≡ Some l → (is_label m s ≡ true) ⊎ (not (list_any (is_label m) (t ∷ ts)) ≡ true) → p.side.controller ≡ c.0
+                          → (l ≡ m) ⊎ ((r : Side) → In r draft.labels → r.controller ≡ p.side.controller → r.label ≡ Some m → ⊥)
+                      which s l is (inl own_one) there = inl (let same : some l ≡ some m = sym is ∙ label_is s m own_one in cc)
+                      which s l is (inr none) there = inr (λ r k same labelled. not_both (list_any (is_label m) (t ∷ ts)) (in_any (is_label m) (t ∷ ts) r (own r k (same ∙ there)) (is_labelled r m labelled)) (not_true _ none))
+
+  -- ---- a side of a `never` means a part exactly where it covers what the part sends
+
+  module _ (p : Part) (m : List ℕ) (at : Placed p m) where
+    -- a member of a family, or the label itself
+    stands : (l label : List ℕ) → In l (stands_for draft label) → (l ≡ label) ⊎ In l (keys_of draft.plan.messages)
+    stands l label h = by (family_of label draft.families) refl h
+      where
+        by : (o : Option Lengths) → family_of label draft.families ≡ o → In l (members_or label o) → (l ≡ label) ⊎ In l (keys_of draft.plan.messages)
+        by None e (inl same) = inl same
+        by None e (inr k) = absurd k
+        by (Some r) e g = inr (sound.families.known l label r e g)
+
+    by_labels : (s : Side) (label l : List ℕ) → In s draft.labels → s.controller ≡ p.side.controller → s.label ≡ Some label → p.side.label ≡ Some l
+        → (bytes_eq label l || holds l (stands_for draft label)) ≡ holds m (stands_for draft label)
+    by_labels s label l h owner is own = same_test _ _ there back
+      where
+        here : In m (stands_for draft l)
+        here = (at.labelled l own).0
+
+        member : (l ≡ label) ⊎ In l (keys_of draft.plan.messages) → In l (stands_for draft label) → In m (stands_for draft label)
+        member (inl same) k = subst (λ (n : List ℕ). In m (stands_for draft n)) same here
+        member (inr known) k =
+            let single = subst (λ (names : List (List ℕ)). In m names) (is_plain draft sound l known) here in
+            elim single [ inl same ↦ subst (λ (n : List ℕ). In n (stands_for draft label)) (sym same) k | inr none ↦ absurd none ]
+
+        there : (bytes_eq label l || holds l (stands_for draft label)) ≡ true → holds m (stands_for draft label) ≡ true
+        there k = in_holds m (stands_for draft label) (by (or_either (bytes_eq label l) (holds l (stands_for draft label)) k))
+          where
+            by : (bytes_eq label l ≡ true) ⊎ (holds l (stands_for draft label) ≡ true) → In m (stands_for draft label)
+            by (inl same) = subst (λ (n : List ℕ). In m (stands_for draft n)) (sym (same-bytes_eq label l same)) here
+            by (inr k) = let inside = holds_in l (stands_for draft label) k in member (stands l label inside) inside
+
+        back : holds m (stands_for draft label) ≡ true → (bytes_eq label l || holds l (stands_for draft label)) ≡ true
+        back k = by (in_one draft sound m l label here (holds_in m (stands_for draft label) k)) (at.labelled l own).1
+          where
+            found : l ≡ m → (bytes_eq label l || holds l (stands_for draft label)) ≡ true
+            found e = or_second (bytes_eq label l) (holds l (stands_for draft label)) (ap (λ (n : List ℕ). holds n (stands_for draft label)) e ∙ k)
+
+            by : (m ≡ l) ⊎ ((m ≡ label) ⊎ (l ≡ label)) → (l ≡ m) ⊎ ((r : Side) → In r draft.labels → r.controller ≡ p.side.controller → r.label ≡ Some m → ⊥) → (bytes_eq label l || holds l (stands_for draft label)) ≡ true
+            by (inl e) which = found (sym e)
+            by (inr (inl e)) (inl same) = found same
+            by (inr (inl e)) (inr none) = absurd (none s h owner (is ∙ ap (λ (n : List ℕ). Some n) (sym e)))
+            by (inr (inr e)) which = or_first (bytes_eq label l) (holds l (stands_for draft label)) (bytes_eq-same label l (sym e))
+
+    means_covers : (s : Side) → (s.label ≡ None) ⊎ In s draft.labels → s.controller ≡ p.side.controller → label_means draft s.label p.side.label ≡ label_covers draft s.label m
+    means_covers s (inl none) owner = rw none refl
+    means_covers s (inr h) owner = by s.label p.side.label refl refl
+      where
+        by : (o q : Option (List ℕ)) → s.label ≡ o → p.side.label ≡ q → label_means draft o q ≡ label_covers draft o m
+        by None q e f = refl
+        by (Some label) None e f = sym (is_false (holds m (stands_for draft label)) (λ k. at.rest f s h owner (subst (λ (names : List (List ℕ)). In m names) (sym (messages_by s label e)) (holds_in m (stands_for draft label) k))))
+        by (Some label) (Some l) e f = by_labels s label l h owner e f
+
+    means_is : (s : Side) → (s.label ≡ None) ⊎ In s draft.labels → side_means draft s p ≡ side_covers draft s (record { controller = p.side.controller; message = m })
+    means_is s known = by (bytes_eq s.controller p.side.controller) refl
+      where
+        by : (b : Bool) → bytes_eq s.controller p.side.controller ≡ b → (b && label_means draft s.label p.side.label) ≡ (b && label_covers draft s.label m)
+        by true e = ap (λ (c : Bool). true && c) (means_covers s known (same-bytes_eq s.controller p.side.controller e))
+        by false e = refl
+
+  -- ---- the plan
+
+  abbrev messages : List (List ℕ × FrameTree)
+  messages = draft.plan.messages
+
+  abbrev base : Contents
+  base = with_parts draft.plan (parts draft)
+
+  base_controllers : base.controllers ≡ map (entry messages) (parts draft)
+  base_controllers = ap (λ (q : Contents). q.controllers) (parts_are (parts draft) draft.plan) ∙ ap (λ (cs : List (List ℕ × List ℕ)). cs ++ map (entry messages) (parts draft)) sound.no_controllers
+
+  base_messages : base.messages ≡ messages
+  base_messages = ap (λ (q : Contents). q.messages) (parts_are (parts draft) draft.plan)
+
+  base_nevers : base.nevers ≡ []
+  base_nevers = ap (λ (q : Contents). q.nevers) (parts_are (parts draft) draft.plan) ∙ sound.no_nevers
+
+  pub plan_controllers : (plan_meant draft).controllers ≡ map (entry messages) (parts draft)
+  unfolding plan_meant
+  plan_controllers = pairs_controllers (pairs_apart draft) base ∙ base_controllers
+
+  pub plan_messages : (plan_meant draft).messages ≡ messages
+  unfolding plan_meant
+  plan_messages = pairs_messages (pairs_apart draft) base ∙ base_messages
+
+  keys_are : (ps : List Part) → keys_of (map (entry messages) ps) ≡ map part_name ps
+  keys_are [] = refl
+  keys_are (p ∷ ps) = ap (λ (names : List (List ℕ)). part_name p ∷ names) (keys_are ps)
+
+  base_keys : keys_of base.controllers ≡ map part_name (parts draft)
+  base_keys = ap (λ (cs : List (List ℕ × List ℕ)). keys_of cs) base_controllers ∙ keys_are (parts draft)
+
+  pub plan_keys : keys_of (plan_meant draft).controllers ≡ map part_name (parts draft)
+  plan_keys = ap (λ (cs : List (List ℕ × List ℕ)). keys_of cs) plan_controllers ∙ keys_are (parts draft)
+
+  number_is : (c : ℕ) (p : Part) → slice_get (parts draft) c ≡ Some p → number_of (part_name p) base.controllers ≡ Some c
+  number_is c p at =
+      key_number (part_name p) base.controllers c (subst Distinct (sym base_keys) (part_names_once draft sound))
+      (ap (λ (names : List (List ℕ)). slice_get names c) base_keys ∙ slice_map part_name (parts draft) c p at)
+
+  abbrev some_name : List ℕ → Option (List ℕ)
+  some_name name = Some name
+
+  named_part : (name : List ℕ) (c : ℕ) (p : Part) → number_of name base.controllers ≡ Some c → slice_get (parts draft) c ≡ Some p → name ≡ part_name p
+  named_part name c p number at =
+      let same : some_name name ≡ some_name (part_name p) = sym (number_key name base.controllers c number) ∙ ap (λ (names : List (List ℕ)). slice_get names c) base_keys ∙ slice_map part_name (parts draft) c p at in
+      cc
+
+  abbrev some_part : Part → Option Part
+  some_part p = Some p
+
+  -- ---- a sending
+
+  module _ (p : ℕ) (sent : Sent) (x : SendsFor draft p sent) where
+    pub among_parts : In x.part (parts draft)
+    among_parts = slice_in (parts draft) x.c x.part x.is_part
+
+    pub named_inside : In sent.message x.part.messages × (number_of sent.message messages ≡ Some x.k)
+    named_inside =
+        let sending = sending_at (plan_meant draft) p x.c x.k x.participant in
+        let at = ap (λ (cs : List (List ℕ × List ℕ)). slice_get cs x.c) (sym plan_controllers) ∙ sending.at in
+        let f = slice_from_map (entry messages) (parts draft) x.c sending.entry at in
+        let one : some_part f.0 ≡ some_part x.part = sym f.1 ∙ x.is_part in
+        let same : f.0 ≡ x.part = cc in
+        let numbers = subst (λ (e : List ℕ × List ℕ). In x.k e.1) (f.2 ∙ ap (entry messages) same) sending.sends in
+        let n = from_numbers messages x.part.messages x.k numbers in
+        let named = number_key n.0 messages x.k n.2 in
+        let here = slice_map (λ (e : List ℕ × FrameTree). e.0) messages x.k (sent.message, x.frame) (ap (λ (ms : List (List ℕ × FrameTree)). slice_get ms x.k) (sym plan_messages) ∙ x.is_message) in
+        let both : some_name n.0 ≡ some_name sent.message = sym named ∙ here in
+        let name : n.0 ≡ sent.message = cc in
+        (subst (λ (m : List ℕ). In m x.part.messages) name n.1, ap (λ (m : List ℕ). number_of m messages) (sym name) ∙ n.2)
+
+    inside : In sent.message x.part.messages
+    inside = named_inside.0
+
+    pub means : (s : Side) → (s.label ≡ None) ⊎ In s draft.labels → side_means draft s x.part ≡ side_covers draft s sent
+    means s known =
+        means_is x.part sent.message (placed x.part among_parts sent.message inside) s known
+        ∙ ap (λ (c : List ℕ). side_covers draft s (record { controller = c; message = sent.message })) x.owner
+
+  -- ---- two sendings
+
+  abbrev told_pairs : List (Part × Part)
+  told_pairs = filter are_of_one (pairs_among (parts draft)) ++ flat_map (pairs_meant draft) draft.nevers
+
+  -- why two parts are apart
+  abbrev Why : Part → Part → Type 0
+  Why v w = (v.side.controller ≡ w.side.controller) ⊎ ((n : Side × Side) × In n draft.nevers × (side_means draft n.0 v ≡ true) × (side_means draft n.1 w ≡ true))
+
+  why : (pair : Part × Part) → In pair told_pairs → In pair.0 (parts draft) × In pair.1 (parts draft) × Why pair.0 pair.1
+  why pair h = by (in_either pair (filter are_of_one (pairs_among (parts draft))) (flat_map (pairs_meant draft) draft.nevers) h)
+    where
+      by : In pair (filter are_of_one (pairs_among (parts draft))) ⊎ In pair (flat_map (pairs_meant draft) draft.nevers) → In pair.0 (parts draft) × In pair.1 (parts draft) × Why pair.0 pair.1
+      by (inl k) =
+          let f = from_filter are_of_one (pairs_among (parts draft)) pair k in
+          let two_parts = from_among (parts draft) pair f.0 in
+          (two_parts.0, two_parts.1, inl (same-bytes_eq pair.0.side.controller pair.1.side.controller f.1))
+      by (inr k) =
+          let n = from_flat (pairs_meant draft) draft.nevers pair k in
+          let b = from_between (parts_meant draft n.0.0) (parts_meant draft n.0.1) pair n.2 in
+          let first = from_filter (side_means draft n.0.0) (parts draft) pair.0 b.0 in
+          let second = from_filter (side_means draft n.0.1) (parts draft) pair.1 b.1 in
+          (first.0, second.0, inr (n.0, n.1, first.1, second.1))
+
+  of_one : (v w : Part) → In (two v w) (pairs_among (parts draft)) → v.side.controller ≡ w.side.controller → In (two v w) told_pairs
+  of_one v w h e =
+      in_left (two v w) (filter are_of_one (pairs_among (parts draft))) (flat_map (pairs_meant draft) draft.nevers)
+      (in_filter are_of_one (pairs_among (parts draft)) (two v w) h (bytes_eq-same v.side.controller w.side.controller e))
+
+  of_never : (v w : Part) (n : Side × Side) → In v (parts draft) → In w (parts draft) → In n draft.nevers → side_means draft n.0 v ≡ true → side_means draft n.1 w ≡ true → In (two v w) told_pairs
+  of_never v w n h g k e f =
+      in_right (two v w) (filter are_of_one (pairs_among (parts draft))) (flat_map (pairs_meant draft) draft.nevers)
+      (in_flat (pairs_meant draft) draft.nevers n (two v w) k
+      (in_between (parts_meant draft n.0) (parts_meant draft n.1) v w (in_filter (side_means draft n.0) (parts draft) v h e) (in_filter (side_means draft n.1) (parts draft) w g f)))
+
+  abbrev names : Part × Part → List ℕ × List ℕ
+  names pair = (part_name pair.0, part_name pair.1)
+
+  -- so the plan keeps them apart
+  kept_apart : (v w : Part) (c d : ℕ) → In (two v w) told_pairs → slice_get (parts draft) c ≡ Some v → slice_get (parts draft) d ≡ Some w → (c ≡ d → ⊥) → is_never (plan_meant draft) c d ≡ true
+  unfolding plan_meant pairs_apart
+  kept_apart v w c d h at other differ =
+      pairs_added (map names told_pairs) base (part_name v) (part_name w) c d (in_map names told_pairs (two v w) h) (number_is c v at) (number_is d w other) differ
+
+  asked : (c d : ℕ) → is_never (plan_meant draft) c d ≡ true → (pair : List ℕ × List ℕ) × In pair (map names told_pairs) × (((number_of pair.0 base.controllers ≡ Some c) × (number_of pair.1 base.controllers ≡ Some d)) ⊎ ((number_of pair.0 base.controllers ≡ Some d) × (number_of pair.1 base.controllers ≡ Some c)))
+  unfolding plan_meant pairs_apart
+  asked c d h = elim (pairs_from (map names told_pairs) base c d h) [ inl none ↦ absurd (true≢false (sym none ∙ ap (λ (ns : List (ℕ × ℕ)). list_any (λ n. (n.0 == c && n.1 == d) || (n.0 == d && n.1 == c)) ns) base_nevers)) | inr pair ↦ pair ]
+
+  one_part : (v w : Part) → In v (parts draft) → In w (parts draft) → part_name v ≡ part_name w → v ≡ w
+  one_part v w h g e = distinct_one part_name (parts draft) (part_names_once draft sound) v w h g e
+
+  module _ (p q : ℕ) (one other : Sent) (x : SendsFor draft p one) (y : SendsFor draft q other) where
+    abbrev both_told : Side × Side → Bool
+    both_told = covers_both draft one other
+
+    apart_is : apart (plan_meant draft) p q ≡ (x.c == y.c || is_never (plan_meant draft) x.c y.c)
+    unfolding same_controller forbidden
+    apart_is = rw (x.participant, y.participant) refl
+
+    -- one controller has both parts
+    owners : x.part.side.controller ≡ y.part.side.controller → told_apart draft one other ≡ true
+    owners e = or_first (bytes_eq one.controller other.controller) (list_any both_told draft.nevers) (bytes_eq-same one.controller other.controller (sym x.owner ∙ e ∙ y.owner))
+
+    covered : (n : Side × Side) → In n draft.nevers → both_told n ≡ true → told_apart draft one other ≡ true
+    covered n h e = or_second (bytes_eq one.controller other.controller) (list_any both_told draft.nevers) (in_any both_told draft.nevers n h e)
+
+    means_one : (s : Side) → (s.label ≡ None) ⊎ In s draft.labels → side_means draft s x.part ≡ side_covers draft s one
+    means_one s known = means p one x s known
+
+    means_other : (s : Side) → (s.label ≡ None) ⊎ In s draft.labels → side_means draft s y.part ≡ side_covers draft s other
+    means_other s known = means q other y s known
+
+    -- the pair that says so
+    told : (v w : Part) → Why v w → ((v ≡ x.part) × (w ≡ y.part)) ⊎ ((v ≡ y.part) × (w ≡ x.part)) → told_apart draft one other ≡ true
+    told v w (inl e) (inl are) = owners (ap (λ (r : Part). r.side.controller) (sym are.0) ∙ e ∙ ap (λ (r : Part). r.side.controller) are.1)
+    told v w (inl e) (inr are) = owners (ap (λ (r : Part). r.side.controller) (sym are.1) ∙ sym e ∙ ap (λ (r : Part). r.side.controller) are.0)
+    told v w (inr n) (inl are) =
+        let known = sound.nevers n.0 n.1 in
+        let first = sym (means_one n.0.0 known.0.1) ∙ ap (side_means draft n.0.0) (sym are.0) ∙ n.2 in
+        let second = sym (means_other n.0.1 known.1.1) ∙ ap (side_means draft n.0.1) (sym are.1) ∙ n.3 in
+        covered n.0 n.1 (or_first (side_covers draft n.0.0 one && side_covers draft n.0.1 other) (side_covers draft n.0.0 other && side_covers draft n.0.1 one) (both_true _ _ first second))
+    told v w (inr n) (inr are) =
+        let known = sound.nevers n.0 n.1 in
+        let first = sym (means_other n.0.0 known.0.1) ∙ ap (side_means draft n.0.0) (sym are.0) ∙ n.2 in
+        let second = sym (means_one n.0.1 known.1.1) ∙ ap (side_means draft n.0.1) (sym are.1) ∙ n.3 in
+        covered n.0 n.1 (or_second (side_covers draft n.0.0 one && side_covers draft n.0.1 other) (side_covers draft n.0.0 other && side_covers draft n.0.1 one) (both_true _ _ first second))
+
+    abbrev here : In x.part (parts draft)
+    here = among_parts p one x
+
+    abbrev there : In y.part (parts draft)
+    there = among_parts q other y
+
+    -- what the plan keeps apart is told
+    from_plan : (x.c == y.c || is_never (plan_meant draft) x.c y.c) ≡ true → told_apart draft one other ≡ true
+    from_plan h = by (or_either (x.c == y.c) (is_never (plan_meant draft) x.c y.c) h)
+      where
+        by_pair : (pair : List ℕ × List ℕ) → In pair (map names told_pairs)
+            → ((number_of pair.0 base.controllers ≡ Some x.c) × (number_of pair.1 base.controllers ≡ Some y.c)) ⊎ ((number_of pair.0 base.controllers ≡ Some y.c) × (number_of pair.1 base.controllers ≡ Some x.c))
+            → told_apart draft one other ≡ true
+        by_pair pair g which =
+            let f = from_map names told_pairs pair g in
+            let w = why f.0 f.1 in
+            told f.0.0 f.0.1 w.2 (order f.0 f.2 w.0 w.1 which)
+          where
+            order : (r : Part × Part) → pair ≡ names r → In r.0 (parts draft) → In r.1 (parts draft)
+                → ((number_of pair.0 base.controllers ≡ Some x.c) × (number_of pair.1 base.controllers ≡ Some y.c)) ⊎ ((number_of pair.0 base.controllers ≡ Some y.c) × (number_of pair.1 base.controllers ≡ Some x.c))
+                → ((r.0 ≡ x.part) × (r.1 ≡ y.part)) ⊎ ((r.0 ≡ y.part) × (r.1 ≡ x.part))
+            order r e i j (inl numbers) = inl (
+              one_part r.0 x.part i here (sym (ap (λ (n : List ℕ × List ℕ). n.0) e) ∙ named_part pair.0 x.c x.part numbers.0 x.is_part),
+              one_part r.1 y.part j there (sym (ap (λ (n : List ℕ × List ℕ). n.1) e) ∙ named_part pair.1 y.c y.part numbers.1 y.is_part),
+            )
+            order r e i j (inr numbers) = inr (
+              one_part r.0 y.part i there (sym (ap (λ (n : List ℕ × List ℕ). n.0) e) ∙ named_part pair.0 y.c y.part numbers.0 y.is_part),
+              one_part r.1 x.part j here (sym (ap (λ (n : List ℕ × List ℕ). n.1) e) ∙ named_part pair.1 x.c x.part numbers.1 x.is_part),
+            )
+
+        by : (x.c == y.c ≡ true) ⊎ (is_never (plan_meant draft) x.c y.c ≡ true) → told_apart draft one other ≡ true
+        by (inl e) =
+            let same : some_part x.part ≡ some_part y.part = sym x.is_part ∙ ap (λ (n : ℕ). slice_get (parts draft) n) (eqb-true x.c y.c e) ∙ y.is_part in
+            let part : x.part ≡ y.part = cc in
+            owners (ap (λ (r : Part). r.side.controller) part)
+        by (inr e) = let a = asked x.c y.c e in by_pair a.0 a.1 a.2
+
+    -- what is told the plan keeps apart
+    to_plan : told_apart draft one other ≡ true → (x.c == y.c || is_never (plan_meant draft) x.c y.c) ≡ true
+    to_plan h = by_number (x.c == y.c) refl
+      where
+        differ : x.c == y.c ≡ false → x.c ≡ y.c → ⊥
+        differ e same = true≢false (sym (eq-eqb x.c y.c same) ∙ e)
+
+        turned : x.c == y.c ≡ false → y.c ≡ x.c → ⊥
+        turned e same = differ e (sym same)
+
+        owned : x.c == y.c ≡ false → one.controller ≡ other.controller → is_never (plan_meant draft) x.c y.c ≡ true
+        owned e same = places (among_places (parts draft) x.c y.c x.part y.part x.is_part y.is_part)
+          where
+            owner : x.part.side.controller ≡ y.part.side.controller
+            owner = x.owner ∙ same ∙ sym y.owner
+
+            places : (x.c ≡ y.c) ⊎ (In (two x.part y.part) (pairs_among (parts draft)) ⊎ In (two y.part x.part) (pairs_among (parts draft))) → is_never (plan_meant draft) x.c y.c ≡ true
+            places (inl number) = absurd (differ e number)
+            places (inr (inl k)) = kept_apart x.part y.part x.c y.c (of_one x.part y.part k owner) x.is_part y.is_part (differ e)
+            places (inr (inr k)) = never_turned (plan_meant draft) x.c y.c ∙ kept_apart y.part x.part y.c x.c (of_one y.part x.part k (sym owner)) y.is_part x.is_part (turned e)
+
+        said : x.c == y.c ≡ false → (n : Side × Side) → In n draft.nevers → both_told n ≡ true → is_never (plan_meant draft) x.c y.c ≡ true
+        said e n k covers = sides (or_either (side_covers draft n.0 one && side_covers draft n.1 other) (side_covers draft n.0 other && side_covers draft n.1 one) covers)
+          where
+            sides : ((side_covers draft n.0 one && side_covers draft n.1 other) ≡ true) ⊎ ((side_covers draft n.0 other && side_covers draft n.1 one) ≡ true) → is_never (plan_meant draft) x.c y.c ≡ true
+            sides (inl c) =
+                let known = sound.nevers n k in
+                let parts_of_both = and_parts (side_covers draft n.0 one) (side_covers draft n.1 other) c in
+                kept_apart x.part y.part x.c y.c (of_never x.part y.part n here there k (means_one n.0 known.0.1 ∙ parts_of_both.0) (means_other n.1 known.1.1 ∙ parts_of_both.1)) x.is_part y.is_part (differ e)
+            sides (inr c) =
+                let known = sound.nevers n k in
+                let parts_of_both = and_parts (side_covers draft n.0 other) (side_covers draft n.1 one) c in
+                never_turned (plan_meant draft) x.c y.c
+                ∙ kept_apart y.part x.part y.c x.c (of_never y.part x.part n there here k (means_other n.0 known.0.1 ∙ parts_of_both.0) (means_one n.1 known.1.1 ∙ parts_of_both.1)) y.is_part x.is_part (turned e)
+
+        by_number : (b : Bool) → x.c == y.c ≡ b → (b || is_never (plan_meant draft) x.c y.c) ≡ true
+        by_number true e = refl
+        by_number false e = why_told (or_either (bytes_eq one.controller other.controller) (list_any both_told draft.nevers) h)
+          where
+            why_told : (bytes_eq one.controller other.controller ≡ true) ⊎ (list_any both_told draft.nevers ≡ true) → is_never (plan_meant draft) x.c y.c ≡ true
+            why_told (inl same) = owned e (same-bytes_eq one.controller other.controller same)
+            why_told (inr some) = let n = any_in both_told draft.nevers some in said e n.0 n.1 n.2
+
+    pub apart_told : apart (plan_meant draft) p q ≡ told_apart draft one other
+    apart_told = apart_is ∙ same_test (x.c == y.c || is_never (plan_meant draft) x.c y.c) (told_apart draft one other) from_plan to_plan

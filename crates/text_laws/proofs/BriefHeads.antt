@@ -1,0 +1,193 @@
+-- What the reader of briefs takes has a layout, and how heads of briefs are refused.
+use Rattle.std.proofs.Common.{◌≡◌, ℕ, ◌⊎◌, inl, inr, Bool, true, false, List, length, Option, Some, None, codes, refl, ap, sym, ◌∙◌}
+use Rattle.std.specs.Prelude.{Result, Ok, Err, if◌then◌else◌}
+use Rattle.std.specs.Str.{bytes_eq}
+use Rattle.plan_core.proofs.BuildingLemmas.{same-bytes_eq}
+use Rattle.brief_text.specs.Briefs.{text_read, brief_read, items_in, IsRefused}
+use Rattle.brief_text.specs.Drafts.{Draft, no_items}
+use Rattle.brief_text.specs.Grammar.{Spells}
+use Rattle.brief_text.specs.Splitting.{plan_meant}
+use Rattle.brief_text.specs.Trees.{BriefItem}
+use Rattle.brief_text.proofs.SaysLemmas.{text_takes, start}
+use Rattle.brief_tokens.specs.declared.symbols.Keyword.{Keyword}
+use Rattle.brief_tokens.specs.declared.symbols.Keyword.TheVariants as keywords
+use Rattle.brief_tokens.specs.Heads.{after_head}
+use Rattle.brief_tokens.specs.Tokens.{Tokens, next, keyword, word, keyword_of, token_of_word, tokens_from, tokens_of}
+use Rattle.layout.specs.Refusals.{no_version, plan_letters, brief_letters, brief_head, head_or, letters_in, stranger, refusal_by, refusal_of}
+use Rattle.lexer.specs.declared.lexemes.Letters.{Letters}
+use Rattle.lexer.specs.declared.lexemes.Letters.TheVariants.{Brief}
+use Rattle.lexer.specs.Lexemes.{Lexemes, text_end, stray, foreign, no_dots, briefs, lexemes_of}
+use Rattle.lexer.specs.Lexemes as lexemes
+use Rattle.plan_text.specs.declared.errors.PlanError.{PlanError}
+use Rattle.plan_text.specs.Reader.{◌>>=◌}
+use Rattle.plan_text.specs.Refusals.{First}
+use Rattle.plan_text.specs.Tokens as plan_tokens
+use Rattle.plan_text.proofs.TextLemmas.{text_refused}
+use Rattle.text_laws.proofs.BriefWords.{end_of, brief_ends}
+use Rattle.text_laws.proofs.FirstWords.{FirstIs, first_same}
+use Rattle.text_laws.proofs.Heads.{first_refused}
+
+-- ---- tokens end as their lexemes do
+
+ends_alike : (all : Lexemes) → end_of (tokens_from all) ≡ stranger all
+ends_alike (lexemes.next lexeme line rest) = ends_alike rest
+ends_alike (lexemes.last text_end line) = refl
+ends_alike (lexemes.last stray line) = refl
+ends_alike (lexemes.last foreign line) = refl
+
+-- ---- words and keywords
+
+no_keyword : (bytes : List ℕ) → keyword_of bytes ≡ None → token_of_word bytes ≡ word bytes
+unfolding token_of_word
+no_keyword bytes e = rw e refl
+
+some_keyword : (bytes : List ℕ) (k : Keyword) → keyword_of bytes ≡ Some k → token_of_word bytes ≡ keyword k
+unfolding token_of_word
+some_keyword bytes k e = rw e refl
+
+-- a word that is told as a word
+word_is : (bytes others : List ℕ) → token_of_word bytes ≡ word others → bytes ≡ others
+word_is bytes others h = by (keyword_of bytes) refl
+  where
+    by : (o : Option Keyword) → keyword_of bytes ≡ o → bytes ≡ others
+    by None e = let same : word bytes ≡ word others = sym (no_keyword bytes e) ∙ h in cc
+    by (Some k) e = let none : keyword k ≡ word others = sym (some_keyword bytes k e) ∙ h in absurd cc
+
+-- no other word is the keyword `brief`
+no_other : (a b c d e f g h i j k : Bool)
+    → (if a then Some keywords.Device else if b then Some keywords.Byte else if c then Some keywords.Any else if d then Some keywords.Message else if e then Some keywords.Controller
+    else if f then Some keywords.Interrupt else if g then Some keywords.Never else if h then Some keywords.Write else if i then Some keywords.Read else if j then Some keywords.Else
+    else if k then Some keywords.Stop else None) ≡ Some keywords.Brief → ⊥
+no_other true b c d e f g h i j k is = cc
+no_other false true c d e f g h i j k is = cc
+no_other false false true d e f g h i j k is = cc
+no_other false false false true e f g h i j k is = cc
+no_other false false false false true f g h i j k is = cc
+no_other false false false false false true g h i j k is = cc
+no_other false false false false false false true h i j k is = cc
+no_other false false false false false false false true i j k is = cc
+no_other false false false false false false false false true j k is = cc
+no_other false false false false false false false false false true k is = cc
+no_other false false false false false false false false false false true is = cc
+no_other false false false false false false false false false false false is = cc
+
+brief_word : (bytes : List ℕ) → token_of_word bytes ≡ keyword keywords.Brief → bytes ≡ codes "brief"
+brief_word bytes h = by (bytes_eq bytes (codes "brief")) refl
+  where
+    found : (o : Option Keyword) → keyword_of bytes ≡ o → keyword_of bytes ≡ Some keywords.Brief
+    found None e = let none : word bytes ≡ keyword keywords.Brief = sym (no_keyword bytes e) ∙ h in absurd cc
+    found (Some k) e = let same : keyword k ≡ keyword keywords.Brief = sym (some_keyword bytes k e) ∙ h in e ∙ (let is : k ≡ keywords.Brief = cc in ap (λ (x : Keyword). Some x) is)
+
+    by : (t : Bool) → bytes_eq bytes (codes "brief") ≡ t → bytes ≡ codes "brief"
+    by true e = same-bytes_eq bytes (codes "brief") e
+    by false e = let rest = rw e at (found (keyword_of bytes) refl) in absurd (no_other _ _ _ _ _ _ _ _ _ _ _ rest)
+
+-- ---- what is read
+
+-- the first two words of a brief
+record BriefFront (all : Lexemes) : Type 0 where
+  line : ℕ
+  at : ℕ
+  more : Lexemes
+  is : all ≡ lexemes.next (lexemes.word (codes "brief")) line (lexemes.next (lexemes.word (codes "1")) at more)
+
+second_is : (all : Lexemes) (line : ℕ) (rest : Tokens) → tokens_from all ≡ next (word (codes "1")) line rest → (at : ℕ) × (more : Lexemes) × (all ≡ lexemes.next (lexemes.word (codes "1")) at more)
+second_is (lexemes.next (lexemes.word b) at more) line rest h =
+    let token : token_of_word b ≡ word (codes "1") = cc in
+    (at, more, ap (λ (n : List ℕ). lexemes.next (lexemes.word n) at more) (word_is b (codes "1") token))
+second_is (lexemes.next (lexemes.sign c) at more) line rest h = absurd cc
+second_is (lexemes.last ending at) line rest h = absurd cc
+
+front_is : (all : Lexemes) (line at : ℕ) (rest : Tokens) → tokens_from all ≡ next (keyword keywords.Brief) line (next (word (codes "1")) at rest) → BriefFront all
+front_is (lexemes.next (lexemes.word b) here more) line at rest h =
+    let token : token_of_word b ≡ keyword keywords.Brief = cc in
+    let second : tokens_from more ≡ next (word (codes "1")) at rest = cc in
+    let s = second_is more at rest second in
+    record {
+      line = here;
+      at = s.0;
+      more = s.1;
+      is = ap (λ (n : List ℕ). lexemes.next (lexemes.word n) here more) (brief_word b token) ∙ ap (lexemes.next (lexemes.word (codes "brief")) here) s.2;
+    }
+front_is (lexemes.next (lexemes.sign c) here more) line at rest h = absurd cc
+front_is (lexemes.last ending here) line at rest h = absurd cc
+
+-- by the letters of plans its first word is not `plan`
+plan_side : (all : Lexemes) → FirstIs all → head_or (Some (Ok Brief)) all ≡ Ok Brief
+plan_side all first = ap (head_or (Some (Ok Brief))) first.3
+
+items_laid_out : (text : List ℕ) (items : List BriefItem) → Spells text items → refusal_of text ≡ None
+unfolding letters_in refusal_of tokens_of
+items_laid_out text items said =
+    let s = said.whole in
+    let first = s.1.1 ∙ ap (next (keyword keywords.Brief) s.1.0) s.2.1.1 in
+    let front = front_is (lexemes_of briefs 1 text) s.1.0 s.2.1.0 s.2.0 first in
+    let brief = ap brief_head front.is in
+    let plan = first_same text (codes "rief", front.line, lexemes.next (lexemes.word (codes "1")) front.at front.more, front.is) in
+    let letters = ap (λ o. head_or o (lexemes_of no_dots 1 text)) brief ∙ plan_side (lexemes_of no_dots 1 text) plan in
+    ap (λ (r : Result Letters PlanError). refusal_by r text) letters ∙ sym (ends_alike (lexemes_of briefs 1 text)) ∙ brief_ends text items said
+
+pub brief_laid_out : (text : List ℕ) (draft after : Draft) → text_read draft text ≡ Ok after → refusal_of text ≡ None
+brief_laid_out text draft after is = let said = text_takes text draft after is in items_laid_out text said.items said.spelled
+
+-- ---- heads that are refused
+
+abbrev good : Letters → Result Letters PlanError
+good l = Ok l
+
+abbrev bad : PlanError → Result Letters PlanError
+bad e = Err e
+
+second_stranger : (rest : Lexemes) (e : PlanError) → brief_letters rest ≡ Some (bad e) → (line : ℕ) → after_head (next (keyword keywords.Brief) line (tokens_from rest)) ≡ Err e
+second_stranger (lexemes.next (lexemes.word b) at more) e h line = by (bytes_eq b (codes "1")) h
+  where
+    by : (t : Bool) → (if t then Some (good Brief) else None) ≡ Some (bad e) → after_head (next (keyword keywords.Brief) line (next (token_of_word b) at (tokens_from more))) ≡ Err e
+    by true g = let none : good Brief ≡ bad e = cc in absurd cc
+    by false g = absurd cc
+second_stranger (lexemes.next (lexemes.sign c) at more) e h line = absurd cc
+second_stranger (lexemes.last text_end at) e h line = absurd cc
+second_stranger (lexemes.last stray at) e h line = let same : bad (no_version (lexemes.last stray at)) ≡ bad e = cc in let is : no_version (lexemes.last stray at) ≡ e = cc in ap (λ (d : PlanError). Err d) is
+second_stranger (lexemes.last foreign at) e h line = let same : bad (no_version (lexemes.last foreign at)) ≡ bad e = cc in let is : no_version (lexemes.last foreign at) ≡ e = cc in ap (λ (d : PlanError). Err d) is
+
+head_stranger : (all : Lexemes) (e : PlanError) → brief_head all ≡ Some (bad e) → after_head (tokens_from all) ≡ Err e
+unfolding token_of_word
+head_stranger (lexemes.next (lexemes.word b) line rest) e h = by (bytes_eq b (codes "brief")) refl h
+  where
+    by : (t : Bool) → bytes_eq b (codes "brief") ≡ t → (if t then brief_letters rest else None) ≡ Some (bad e) → after_head (next (token_of_word b) line (tokens_from rest)) ≡ Err e
+    by true is g =
+        let name = same-bytes_eq b (codes "brief") is in
+        ap (λ (n : List ℕ). after_head (next (token_of_word n) line (tokens_from rest))) name ∙ second_stranger rest e g line
+    by false is g = absurd cc
+head_stranger (lexemes.next (lexemes.sign c) line rest) e h = absurd cc
+head_stranger (lexemes.last ending line) e h = absurd cc
+
+brief_refused : (text : List ℕ) (e : PlanError) → brief_head (lexemes_of briefs 1 text) ≡ Some (bad e) → IsRefused text e
+unfolding brief_read text_read tokens_of
+brief_refused text e h =
+    ap (λ r. (r >>= λ rest. items_in (length text) no_items (start rest)) >>= λ draft. Ok (plan_meant draft)) (head_stranger (lexemes_of briefs 1 text) e h)
+
+plan_refused : (text : List ℕ) (e : PlanError) → head_or None (lexemes_of no_dots 1 text) ≡ Err e → First text e
+unfolding plan_tokens.tokens_of
+plan_refused text e h = text_refused text e (first_refused (lexemes_of no_dots 1 text) e h)
+
+-- where the brief is refused or taken, only a plan is refused otherwise
+either_refused : (o : Result Letters PlanError) (all : Lexemes) (e : PlanError) → head_or (Some o) all ≡ Err e → (head_or None all ≡ Err e) ⊎ (o ≡ Err e)
+either_refused o (lexemes.next (lexemes.word name) line rest) e h = by (bytes_eq name (codes "plan")) refl h
+  where
+    by : (t : Bool) → bytes_eq name (codes "plan") ≡ t → (if t then plan_letters rest else o) ≡ Err e → (head_or None (lexemes.next (lexemes.word name) line rest) ≡ Err e) ⊎ (o ≡ Err e)
+    by true is g = inl (rw is g)
+    by false is g = inr g
+either_refused o (lexemes.next (lexemes.sign c) line rest) e h = inr h
+either_refused o (lexemes.last ending line) e h = inr h
+
+pub head_refused : (text : List ℕ) (e : PlanError) → letters_in text ≡ Err e → First text e ⊎ IsRefused text e
+unfolding letters_in
+head_refused text e h = by (brief_head (lexemes_of briefs 1 text)) refl h
+  where
+    by : (o : Option (Result Letters PlanError)) → brief_head (lexemes_of briefs 1 text) ≡ o → head_or o (lexemes_of no_dots 1 text) ≡ Err e → First text e ⊎ IsRefused text e
+    by None is g = inl (plan_refused text e g)
+    by (Some r) is g = which (either_refused r (lexemes_of no_dots 1 text) e g)
+      where
+        which : (head_or None (lexemes_of no_dots 1 text) ≡ Err e) ⊎ (r ≡ Err e) → First text e ⊎ IsRefused text e
+        which (inl k) = inl (plan_refused text e k)
+        which (inr k) = inr (brief_refused text e (is ∙ ap (λ (x : Result Letters PlanError). Some x) k))

@@ -1,0 +1,107 @@
+-- Names of entries.
+use Rattle.std.proofs.Common.{◌≡◌, ℕ, zero, suc, ◌<◌, ◌⊎◌, inl, inr, Bool, true, false, cond, List, [], ◌∷◌, ◌++◌, length, get_or, Option, Some, None, is_some, refl, ap, sym, subst, arith, true≢false}
+use Rattle.std.specs.Map.{keys_of, lookup}
+use Rattle.std.specs.Str.{bytes_eq}
+use Rattle.std.proofs.lemmas.List.Quantifiers.{position-Some}
+use Rattle.plan_core.specs.Building.{number_of, has_name}
+use Rattle.plan_core.proofs.BuildingLemmas.{bytes_eq-same, same-bytes_eq, position-None, none_from_is_some}
+use Rattle.text_laws.proofs.Membership.{In, in_left, in_right, in_either, is_false, not_both}
+
+module _ {A : Type 0} where
+  pub at_in : (xs : List A) (k : ℕ) (d : A) → k < length xs → In (get_or xs k d) xs
+  at_in [] k d h = absurd (omega arith)
+  at_in (x ∷ xs) zero d h = inl refl
+  at_in (x ∷ xs) (suc k) d h = inr (at_in xs k d (omega arith))
+
+  pub in_at : (xs : List A) (x d : A) → In x xs → (k : ℕ) × (k < length xs) × (get_or xs k d ≡ x)
+  in_at [] x d h = absurd h
+  in_at (y ∷ xs) x d (inl e) = (0, omega arith, sym e)
+  in_at (y ∷ xs) x d (inr h) = let r = in_at xs x d h in (suc r.0, omega (arith, r.1), r.2)
+
+module _ {X : Type 0} where
+  pub number_in : (name : List ℕ) (entries : List (List ℕ × X)) (k : ℕ) → number_of name entries ≡ Some k → In name (keys_of entries)
+  number_in name entries k e =
+      let found = position-Some (bytes_eq name) (keys_of entries) k [] e in
+      subst (λ (n : List ℕ). In n (keys_of entries)) (sym (same-bytes_eq name (get_or (keys_of entries) k []) found.1)) (at_in (keys_of entries) k [] found.0)
+
+  pub has_name_in : (name : List ℕ) (entries : List (List ℕ × X)) → has_name name entries ≡ true → In name (keys_of entries)
+  has_name_in name entries h = by (number_of name entries) refl h
+    where
+      by : (o : Option ℕ) → number_of name entries ≡ o → is_some o ≡ true → In name (keys_of entries)
+      by None e g = absurd (true≢false (sym g))
+      by (Some k) e g = number_in name entries k e
+
+  pub number_none : (name : List ℕ) (entries : List (List ℕ × X)) → (In name (keys_of entries) → ⊥) → number_of name entries ≡ None
+  number_none name entries new = none_from_is_some (number_of name entries) (is_false (has_name name entries) (λ h. new (has_name_in name entries h)))
+
+  pub none_number : (name : List ℕ) (entries : List (List ℕ × X)) → number_of name entries ≡ None → In name (keys_of entries) → ⊥
+  none_number name entries none h =
+      let at = in_at (keys_of entries) name [] h in
+      not_both (bytes_eq name (get_or (keys_of entries) at.0 [])) (bytes_eq-same name (get_or (keys_of entries) at.0 []) (sym at.2)) (position-None (bytes_eq name) (keys_of entries) none at.0 [] at.1)
+
+  pub in_has_name : (name : List ℕ) (entries : List (List ℕ × X)) → In name (keys_of entries) → has_name name entries ≡ true
+  in_has_name name entries h = by (number_of name entries) refl
+    where
+      by : (o : Option ℕ) → number_of name entries ≡ o → is_some (number_of name entries) ≡ true
+      by None e = absurd (none_number name entries e h)
+      by (Some k) e = ap is_some e
+
+  pub keys_both : (one other : List (List ℕ × X)) → keys_of (one ++ other) ≡ keys_of one ++ keys_of other
+  keys_both [] other = refl
+  keys_both (x ∷ one) other = ap (λ (names : List (List ℕ)). x.0 ∷ names) (keys_both one other)
+
+  pub in_keys_either : (name : List ℕ) (one other : List (List ℕ × X)) → In name (keys_of (one ++ other)) → In name (keys_of one) ⊎ In name (keys_of other)
+  in_keys_either name one other h = in_either name (keys_of one) (keys_of other) (subst (λ (names : List (List ℕ)). In name names) (keys_both one other) h)
+
+  pub in_keys_left : (name : List ℕ) (one other : List (List ℕ × X)) → In name (keys_of one) → In name (keys_of (one ++ other))
+  in_keys_left name one other h = subst (λ (names : List (List ℕ)). In name names) (sym (keys_both one other)) (in_left name (keys_of one) (keys_of other) h)
+
+  pub in_keys_right : (name : List ℕ) (one other : List (List ℕ × X)) → In name (keys_of other) → In name (keys_of (one ++ other))
+  in_keys_right name one other h = subst (λ (names : List (List ℕ)). In name names) (sym (keys_both one other)) (in_right name (keys_of one) (keys_of other) h)
+
+  -- ---- looking up
+
+  pub lookup_in : (name : List ℕ) (entries : List (List ℕ × X)) (x : X) → lookup (bytes_eq name) entries ≡ Some x → In (name, x) entries
+  lookup_in name [] x e = absurd cc
+  lookup_in name ((n, y) ∷ entries) x e = by (bytes_eq name n) refl e (lookup_in name entries x)
+    where
+      by : (t : Bool) → bytes_eq name n ≡ t → cond t (Some y) (lookup (bytes_eq name) entries) ≡ Some x → (lookup (bytes_eq name) entries ≡ Some x → In (name, x) entries) → In (name, x) ((n, y) ∷ entries)
+      by true is h later = let same : y ≡ x = cc in let named = same-bytes_eq name n is in inl (λ i. (named i, sym same i))
+      by false is h later = inr (later h)
+
+  pub lookup_none : (name : List ℕ) (entries : List (List ℕ × X)) → lookup (bytes_eq name) entries ≡ None → In name (keys_of entries) → ⊥
+  lookup_none name [] e h = h
+  lookup_none name ((n, y) ∷ entries) e h = by (bytes_eq name n) refl e h (lookup_none name entries)
+    where
+      by : (t : Bool) → bytes_eq name n ≡ t → cond t (Some y) (lookup (bytes_eq name) entries) ≡ None → (name ≡ n) ⊎ In name (keys_of entries) → (lookup (bytes_eq name) entries ≡ None → In name (keys_of entries) → ⊥) → ⊥
+      by true is f g later = absurd cc
+      by false is f (inl same) later = not_both (bytes_eq name n) (bytes_eq-same name n same) is
+      by false is f (inr there) later = later f there
+
+  pub lookup_kept : (name : List ℕ) (entries more : List (List ℕ × X)) (x : X) → lookup (bytes_eq name) entries ≡ Some x → lookup (bytes_eq name) (entries ++ more) ≡ Some x
+  lookup_kept name [] more x e = absurd cc
+  lookup_kept name (f ∷ entries) more x e = by (bytes_eq name f.0) e (lookup_kept name entries more x)
+    where
+      by : (t : Bool) → cond t (Some f.1) (lookup (bytes_eq name) entries) ≡ Some x → (lookup (bytes_eq name) entries ≡ Some x → lookup (bytes_eq name) (entries ++ more) ≡ Some x)
+          → cond t (Some f.1) (lookup (bytes_eq name) (entries ++ more)) ≡ Some x
+      by true h later = h
+      by false h later = later h
+
+  pub lookup_last : (name : List ℕ) (entries : List (List ℕ × X)) (n : List ℕ) (y x : X) → lookup (bytes_eq name) (entries ++ (n, y) ∷ []) ≡ Some x → (lookup (bytes_eq name) entries ≡ Some x) ⊎ ((name ≡ n) × (y ≡ x))
+  lookup_last name [] n y x e = by (bytes_eq name n) refl e
+    where
+      by : (t : Bool) → bytes_eq name n ≡ t → cond t (Some y) (None) ≡ Some x → (lookup (bytes_eq name) [] ≡ Some x) ⊎ ((name ≡ n) × (y ≡ x))
+      by true is h = inr (same-bytes_eq name n is, cc)
+      by false is h = absurd cc
+  lookup_last name (f ∷ entries) n y x e = by (bytes_eq name f.0) e (lookup_last name entries n y x)
+    where
+      by : (t : Bool) → cond t (Some f.1) (lookup (bytes_eq name) (entries ++ (n, y) ∷ [])) ≡ Some x
+          → (lookup (bytes_eq name) (entries ++ (n, y) ∷ []) ≡ Some x → (lookup (bytes_eq name) entries ≡ Some x) ⊎ ((name ≡ n) × (y ≡ x)))
+          → (cond t (Some f.1) (lookup (bytes_eq name) entries) ≡ Some x) ⊎ ((name ≡ n) × (y ≡ x))
+      by true h later = inl h
+      by false h later = later h
+
+  -- a name that is new at the end changes no other
+  pub lookup_other : (name : List ℕ) (entries : List (List ℕ × X)) (n : List ℕ) (y : X) → (name ≡ n → ⊥) → lookup (bytes_eq name) (entries ++ (n, y) ∷ []) ≡ lookup (bytes_eq name) entries
+  lookup_other name [] n y differ = ap (λ (t : Bool). cond t (Some y) None) (is_false (bytes_eq name n) (λ h. differ (same-bytes_eq name n h)))
+  lookup_other name (f ∷ entries) n y differ = ap (λ (o : Option X). cond (bytes_eq name f.0) (Some f.1) o) (lookup_other name entries n y differ)

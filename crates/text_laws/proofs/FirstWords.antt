@@ -1,0 +1,133 @@
+-- Where a text begins as a brief does, its first word begins with the same letter by the letters of plans.
+use Rattle.std.proofs.Common.{◌≡◌, ℕ, ◌+◌, ◌==◌, Bool, true, false, List, [], ◌∷◌, refl, ap, sym, ◌∙◌, subst, arith, true≢false}
+use Rattle.std.specs.Prelude.{nat_lt}
+use Rattle.std.proofs.lemmas.Bool.Decides.{nat_tests}
+use Rattle.lexer.specs.declared.lexemes.Letters.{Letters}
+use Rattle.lexer.specs.declared.lexemes.Letters.TheVariants.{Plain, Dots, Brief}
+use Rattle.lexer.specs.Lexemes.{Lexemes, next, last, word, sign, Alphabet, no_dots, briefs, letters, Class, line_feed, blank, number_sign, sign_byte, word_part, foreign_byte, stray_byte, class_of, begins_with_part, put_before, raw_lexemes, in_comment, lexemes_of}
+use Rattle.lexer.proofs.LexemeLemmas.{by_class, lexemes_at, comment_at, part_at, class_part}
+
+-- the first lexeme is a word that begins with `b`
+abbrev pub FirstIs : Lexemes → Type 0
+FirstIs all = (w : List ℕ) × (at : ℕ) × (rest : Lexemes) × (all ≡ next (word (98 ∷ w)) at rest)
+
+feed_same : (byte : ℕ) → class_of Brief byte ≡ line_feed → class_of Plain byte ≡ line_feed
+feed_same byte h = grind (arith, nat_tests)
+
+blank_same : (byte : ℕ) → class_of Brief byte ≡ blank → class_of Plain byte ≡ blank
+blank_same byte h = grind (arith, nat_tests)
+
+number_same : (byte : ℕ) → class_of Brief byte ≡ number_sign → class_of Plain byte ≡ number_sign
+number_same byte h = grind (arith, nat_tests)
+
+-- ---- comments
+
+feed_class : (l : Letters) (byte : ℕ) → (byte == 10) ≡ true → class_of l byte ≡ line_feed
+feed_class l byte h = grind (arith, nat_tests)
+
+feed_byte : (l : Letters) (byte : ℕ) → class_of l byte ≡ line_feed → (byte == 10) ≡ true
+feed_byte Plain byte h = grind (arith, nat_tests)
+feed_byte Dots byte h = grind (arith, nat_tests)
+feed_byte Brief byte h = grind (arith, nat_tests)
+
+foreign_class : (l : Letters) (byte : ℕ) → nat_lt byte 128 ≡ false → class_of l byte ≡ foreign_byte
+foreign_class Plain byte h = grind (arith, nat_tests)
+foreign_class Dots byte h = grind (arith, nat_tests)
+foreign_class Brief byte h = grind (arith, nat_tests)
+
+foreign_above : (l : Letters) (byte : ℕ) → class_of l byte ≡ foreign_byte → nat_lt byte 128 ≡ false
+foreign_above Plain byte h = grind (arith, nat_tests)
+foreign_above Dots byte h = grind (arith, nat_tests)
+foreign_above Brief byte h = grind (arith, nat_tests)
+
+comment_over : (k : Class) (a : Alphabet) (line : ℕ) (bytes : List ℕ) → (k ≡ line_feed → ⊥) → (k ≡ foreign_byte → ⊥) → comment_at k a line bytes ≡ in_comment a line bytes
+comment_over line_feed a line bytes f g = absurd (f refl)
+comment_over foreign_byte a line bytes f g = absurd (g refl)
+comment_over blank a line bytes f g = refl
+comment_over number_sign a line bytes f g = refl
+comment_over sign_byte a line bytes f g = refl
+comment_over word_part a line bytes f g = refl
+comment_over stray_byte a line bytes f g = refl
+
+module _ (a : Alphabet) (line byte : ℕ) (bytes : List ℕ) where
+  comment_ends : (byte == 10) ≡ true → in_comment a line (byte ∷ bytes) ≡ raw_lexemes a (line + 1) bytes
+  comment_ends h = ap (λ (c : Class). comment_at c a line bytes) (feed_class (letters a) byte h)
+
+  comment_breaks : nat_lt byte 128 ≡ false → in_comment a line (byte ∷ bytes) ≡ comment_at foreign_byte a line bytes
+  comment_breaks h = ap (λ (c : Class). comment_at c a line bytes) (foreign_class (letters a) byte h)
+
+  comment_goes : (byte == 10) ≡ false → nat_lt byte 128 ≡ true → in_comment a line (byte ∷ bytes) ≡ in_comment a line bytes
+  comment_goes h g =
+      comment_over (class_of (letters a) byte) a line bytes
+      (λ e. true≢false (sym (feed_byte (letters a) byte e) ∙ h))
+      (λ e. true≢false (sym g ∙ foreign_above (letters a) byte e))
+
+-- ---- words
+
+-- parts of words are a word
+word_begins : (bytes : List ℕ) (line : ℕ) → begins_with_part Plain bytes ≡ true → (w : List ℕ) × (at : ℕ) × (rest : Lexemes) × (raw_lexemes no_dots line bytes ≡ next (word w) at rest)
+word_begins [] line h = absurd (true≢false (sym h))
+word_begins (byte ∷ bytes) line h = by (begins_with_part Plain bytes) refl (word_begins bytes line)
+  where
+    is : raw_lexemes no_dots line (byte ∷ bytes) ≡ part_at (begins_with_part Plain bytes) no_dots line byte bytes
+    is = by_class word_part no_dots line byte bytes (class_part Plain byte h)
+
+    by : (t : Bool) → begins_with_part Plain bytes ≡ t → (begins_with_part Plain bytes ≡ true → (w : List ℕ) × (at : ℕ) × (rest : Lexemes) × (raw_lexemes no_dots line bytes ≡ next (word w) at rest))
+        → (w : List ℕ) × (at : ℕ) × (rest : Lexemes) × (raw_lexemes no_dots line (byte ∷ bytes) ≡ next (word w) at rest)
+    by true e more =
+        let f = more e in
+        (byte ∷ f.0, f.1, f.2, is ∙ ap (λ (t : Bool). part_at t no_dots line byte bytes) e ∙ ap (put_before byte) f.3)
+    by false e more = (byte ∷ [], line, raw_lexemes no_dots line bytes, is ∙ ap (λ (t : Bool). part_at t no_dots line byte bytes) e)
+
+-- the first byte of a word is the part that goes onto it
+put_first : (byte : ℕ) (all : Lexemes) → FirstIs (put_before byte all) → byte ≡ 98
+put_first byte (next (word b) line rest) f = let e : next (word (byte ∷ b)) line rest ≡ next (word (98 ∷ f.0)) f.1 f.2 = f.3 in cc
+put_first byte (next (sign c) line rest) f = let e : next (sign c) line rest ≡ next (word (98 ∷ f.0)) f.1 f.2 = f.3 in absurd cc
+put_first byte (last ending line) f = let e : last ending line ≡ next (word (98 ∷ f.0)) f.1 f.2 = f.3 in absurd cc
+
+first_byte : (t : Bool) (line byte : ℕ) (bytes : List ℕ) → FirstIs (part_at t briefs line byte bytes) → byte ≡ 98
+first_byte true line byte bytes f = put_first byte (raw_lexemes briefs line bytes) f
+first_byte false line byte bytes f = let e : next (word (byte ∷ [])) line (raw_lexemes briefs line bytes) ≡ next (word (98 ∷ f.0)) f.1 f.2 = f.3 in cc
+
+plain_first : (line : ℕ) (bytes : List ℕ) → FirstIs (raw_lexemes no_dots line (98 ∷ bytes))
+plain_first line bytes = let f = word_begins (98 ∷ bytes) line refl in by (begins_with_part Plain bytes) refl
+  where
+    is : raw_lexemes no_dots line (98 ∷ bytes) ≡ part_at (begins_with_part Plain bytes) no_dots line 98 bytes
+    is = by_class word_part no_dots line 98 bytes refl
+
+    by : (t : Bool) → begins_with_part Plain bytes ≡ t → FirstIs (raw_lexemes no_dots line (98 ∷ bytes))
+    by true e =
+        let f = word_begins bytes line e in
+        (f.0, f.1, f.2, is ∙ ap (λ (t : Bool). part_at t no_dots line 98 bytes) e ∙ ap (put_before 98) f.3)
+    by false e = ([], line, raw_lexemes no_dots line bytes, is ∙ ap (λ (t : Bool). part_at t no_dots line 98 bytes) e)
+
+abbrev Both : List ℕ → ℕ → Type 0
+Both bytes line = (FirstIs (raw_lexemes briefs line bytes) → FirstIs (raw_lexemes no_dots line bytes)) × (FirstIs (in_comment briefs line bytes) → FirstIs (in_comment no_dots line bytes))
+
+module _ (line byte : ℕ) (bytes : List ℕ) (below : (at : ℕ) → Both bytes at) where
+  outside : (k : Class) → class_of Brief byte ≡ k → FirstIs (lexemes_at k briefs line byte bytes) → FirstIs (raw_lexemes no_dots line (byte ∷ bytes))
+  outside line_feed e f = subst FirstIs (sym (by_class line_feed no_dots line byte bytes (feed_same byte e))) ((below (line + 1)).0 f)
+  outside blank e f = subst FirstIs (sym (by_class blank no_dots line byte bytes (blank_same byte e))) ((below line).0 f)
+  outside number_sign e f = subst FirstIs (sym (by_class number_sign no_dots line byte bytes (number_same byte e))) ((below line).1 f)
+  outside sign_byte e f = absurd (let g = f.3 in cc)
+  outside word_part e f =
+      let same = first_byte (begins_with_part Brief bytes) line byte bytes f in
+      subst (λ (c : ℕ). FirstIs (raw_lexemes no_dots line (c ∷ bytes))) (sym same) (plain_first line bytes)
+  outside foreign_byte e f = absurd (let g = f.3 in cc)
+  outside stray_byte e f = absurd (let g = f.3 in cc)
+
+  inside : (feed ascii : Bool) → (byte == 10) ≡ feed → nat_lt byte 128 ≡ ascii → FirstIs (in_comment briefs line (byte ∷ bytes)) → FirstIs (in_comment no_dots line (byte ∷ bytes))
+  inside true ascii e g f = subst FirstIs (sym (comment_ends no_dots line byte bytes e)) ((below (line + 1)).0 (subst FirstIs (comment_ends briefs line byte bytes e) f))
+  inside false true e g f = subst FirstIs (sym (comment_goes no_dots line byte bytes e g)) ((below line).1 (subst FirstIs (comment_goes briefs line byte bytes e g) f))
+  inside false false e g f = absurd (let h = sym (comment_breaks briefs line byte bytes g) ∙ f.3 in cc)
+
+both : (bytes : List ℕ) (line : ℕ) → Both bytes line
+both [] line = ((λ f. absurd (let g = f.3 in cc)), (λ f. absurd (let g = f.3 in cc)))
+both (byte ∷ bytes) line = (
+  (λ f. outside line byte bytes (both bytes) (class_of Brief byte) refl (subst FirstIs (by_class (class_of Brief byte) briefs line byte bytes refl) f)),
+  inside line byte bytes (both bytes) (byte == 10) (nat_lt byte 128) refl refl,
+)
+
+pub first_same : (text : List ℕ) → FirstIs (lexemes_of briefs 1 text) → FirstIs (lexemes_of no_dots 1 text)
+unfolding lexemes_of
+first_same text f = (both text 1).0 f

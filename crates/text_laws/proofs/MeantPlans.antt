@@ -1,0 +1,229 @@
+-- The controllers of a plan that is meant, and its `never` items.
+use Rattle.std.proofs.Common.{◌≡◌, ℕ, suc, ◌+◌, ◌⊎◌, inl, inr, ◌||◌, ◌&&◌, ◌==◌, Bool, true, false, List, [], ◌∷◌, ◌++◌, map, length, Option, Some, None, is_some, slice_get, refl, ap, sym, ◌∙◌, subst, arith}
+use Rattle.std.specs.Prelude.{if◌then◌else◌, unwrap_or}
+use Rattle.std.specs.List.{list_any, filter_map, cons_option, range_with_len}
+use Rattle.std.specs.Str.{bytes_eq}
+use Rattle.std.proofs.lemmas.Bool.{and_parts, eqb-true, eq-eqb}
+use Rattle.std.proofs.lemmas.List.{append_assoc, append-nil}
+use Rattle.std.proofs.lemmas.List.Folds.{list_any-append}
+use Rattle.message_tree.specs.Trees.{FrameTree}
+use Rattle.plan_core.specs.Building.{number_of, with_sender, with_controller, two_refusal, never_refusal, controller_number, with_never}
+use Rattle.plan_core.specs.Contents.{Contents}
+use Rattle.plan_core.specs.Participants.{sendings_from, participants_of, names_both, is_never}
+use Rattle.plan_core.specs.declared.builder.BuildError.{BuildError}
+use Rattle.plan_core.specs.declared.builder.BuildError.TheVariants.{Twice}
+use Rattle.plan_core.specs.declared.plans.Participant.TheVariants.{Sending, Interrupt}
+use Rattle.plan_core.proofs.BuildingLemmas.{same-bytes_eq, NeverAllowed, never_allowed}
+use Rattle.brief_text.specs.Splitting.{Part, part_name, with_parts, with_pair, with_pairs}
+use Rattle.text_laws.proofs.Membership.{In, in_either, from_map, or_either, or_first, or_second, is_false}
+use Rattle.text_laws.proofs.Places.{two, slice_in}
+
+-- ---- controllers
+
+-- a part as the plan has it
+abbrev pub entry : List (List ℕ × FrameTree) → Part → List ℕ × List ℕ
+entry messages part = (part_name part, filter_map (λ name. number_of name messages) part.messages)
+
+pub parts_are : (ps : List Part) (plan : Contents) → with_parts plan ps ≡ record plan { controllers = plan.controllers ++ map (entry plan.messages) ps }
+unfolding with_sender
+parts_are [] plan = ap (λ (cs : List (List ℕ × List ℕ)). record plan { controllers = cs }) (sym (append-nil plan.controllers))
+parts_are (p ∷ ps) plan =
+    parts_are ps (with_controller plan (part_name p) p.messages)
+    ∙ ap (λ (cs : List (List ℕ × List ℕ)). record plan { controllers = cs }) (append_assoc plan.controllers (entry plan.messages p ∷ []) (map (entry plan.messages) ps))
+
+-- ---- `never` items
+
+module _ (plan : Contents) (pair : List ℕ × List ℕ) where
+  pub pair_controllers : (with_pair plan pair).controllers ≡ plan.controllers
+  unfolding with_never
+  pair_controllers = by (never_refusal plan pair.0 pair.1)
+    where
+      by : (o : Option BuildError) → (if is_some o then plan else with_never plan pair.0 pair.1).controllers ≡ plan.controllers
+      by None = refl
+      by (Some cause) = refl
+
+  pub pair_messages : (with_pair plan pair).messages ≡ plan.messages
+  unfolding with_never
+  pair_messages = by (never_refusal plan pair.0 pair.1)
+    where
+      by : (o : Option BuildError) → (if is_some o then plan else with_never plan pair.0 pair.1).messages ≡ plan.messages
+      by None = refl
+      by (Some cause) = refl
+
+  pair_kept : (i j : ℕ) → is_never plan i j ≡ true → is_never (with_pair plan pair) i j ≡ true
+  unfolding with_never
+  pair_kept i j h = by (never_refusal plan pair.0 pair.1)
+    where
+      by : (o : Option BuildError) → is_never (if is_some o then plan else with_never plan pair.0 pair.1) i j ≡ true
+      by None = list_any-append (names_both i j) plan.nevers ((controller_number plan pair.0, controller_number plan pair.1) ∷ []) ∙ or_first (list_any (names_both i j) plan.nevers) _ h
+      by (Some cause) = h
+
+  -- the plan keeps these two apart from now on
+  pair_added : (i j : ℕ) → number_of pair.0 plan.controllers ≡ Some i → number_of pair.1 plan.controllers ≡ Some j → (i ≡ j → ⊥) → is_never (with_pair plan pair) i j ≡ true
+  unfolding with_never never_refusal
+  pair_added i j first second differ = by (never_refusal plan pair.0 pair.1) refl
+    where
+      both : names_both i j (i, j) ≡ true
+      both = or_first ((i == i) && (j == j)) ((i == j) && (j == i)) (rw (eq-eqb i i refl, eq-eqb j j refl) refl)
+
+      is_first : controller_number plan pair.0 ≡ i
+      is_first = ap (λ (o : Option ℕ). unwrap_or o 0) first
+
+      is_second : controller_number plan pair.1 ≡ j
+      is_second = ap (λ (o : Option ℕ). unwrap_or o 0) second
+
+      two_names : bytes_eq pair.0 pair.1 ≡ false
+      two_names = is_false (bytes_eq pair.0 pair.1) (λ h.
+          let one : Some i ≡ Some j = sym first ∙ ap (λ (n : List ℕ). number_of n plan.controllers) (same-bytes_eq pair.0 pair.1 h) ∙ second in
+          let same : i ≡ j = cc in
+          differ same)
+
+      refused : two_refusal plan (number_of pair.0 plan.controllers) (bytes_eq pair.0 pair.1) (number_of pair.1 plan.controllers) ≡ (if is_never plan i j then Some Twice else None)
+      refused = rw (first, two_names, second) refl
+
+      by : (o : Option BuildError) → never_refusal plan pair.0 pair.1 ≡ o → is_never (if is_some o then plan else with_never plan pair.0 pair.1) i j ≡ true
+      by None e =
+          list_any-append (names_both i j) plan.nevers ((controller_number plan pair.0, controller_number plan pair.1) ∷ [])
+          ∙ or_second (list_any (names_both i j) plan.nevers) _ (or_first (names_both i j (controller_number plan pair.0, controller_number plan pair.1)) false
+          (ap (λ (a : ℕ). names_both i j (a, controller_number plan pair.1)) is_first ∙ ap (λ (b : ℕ). names_both i j (i, b)) is_second ∙ both))
+      by (Some cause) e = at (is_never plan i j) refl
+        where
+          at : (b : Bool) → is_never plan i j ≡ b → is_never plan i j ≡ true
+          at true h = h
+          at false h = let none = sym e ∙ refused ∙ ap (λ (b : Bool). if b then Some Twice else None) h in absurd cc
+
+  -- the names are those of the controllers with these numbers
+  abbrev pub Named : ℕ → ℕ → Type 0
+  Named i j = (number_of pair.0 plan.controllers ≡ Some i) × (number_of pair.1 plan.controllers ≡ Some j)
+
+  pair_from : (i j : ℕ) → is_never (with_pair plan pair) i j ≡ true → (is_never plan i j ≡ true) ⊎ (Named i j ⊎ Named j i)
+  unfolding with_never
+  pair_from i j h = by (never_refusal plan pair.0 pair.1) refl h
+    where
+      by : (o : Option BuildError) → never_refusal plan pair.0 pair.1 ≡ o → is_never (if is_some o then plan else with_never plan pair.0 pair.1) i j ≡ true → (is_never plan i j ≡ true) ⊎ (Named i j ⊎ Named j i)
+      by (Some cause) e g = inl g
+      by None e g = cases (or_either (list_any (names_both i j) plan.nevers) _ (sym (list_any-append (names_both i j) plan.nevers ((controller_number plan pair.0, controller_number plan pair.1) ∷ [])) ∙ g))
+        where
+          allowed : NeverAllowed plan pair.0 pair.1
+          allowed = never_allowed plan pair.0 pair.1 e
+
+          c_is : controller_number plan pair.0 ≡ allowed.c
+          c_is = ap (λ (o : Option ℕ). unwrap_or o 0) allowed.at_first
+
+          d_is : controller_number plan pair.1 ≡ allowed.d
+          d_is = ap (λ (o : Option ℕ). unwrap_or o 0) allowed.at_second
+
+          named : (a b : ℕ) → ((controller_number plan pair.0 == a) && (controller_number plan pair.1 == b)) ≡ true → Named a b
+          named a b k =
+              let parts = and_parts (controller_number plan pair.0 == a) (controller_number plan pair.1 == b) k in
+              (allowed.at_first ∙ ap (λ (n : ℕ). Some n) (sym c_is ∙ eqb-true _ a parts.0), allowed.at_second ∙ ap (λ (n : ℕ). Some n) (sym d_is ∙ eqb-true _ b parts.1))
+
+          last : (controller_number plan pair.0 == i && controller_number plan pair.1 == j) ≡ true ⊎ (controller_number plan pair.0 == j && controller_number plan pair.1 == i) ≡ true → Named i j ⊎ Named j i
+          last (inl k) = inl (named i j k)
+          last (inr k) = inr (named j i k)
+
+          drop_false : (b : Bool) → (b || false) ≡ true → b ≡ true
+          drop_false true k = refl
+          drop_false false k = k
+
+          cases : (list_any (names_both i j) plan.nevers ≡ true) ⊎ ((names_both i j (controller_number plan pair.0, controller_number plan pair.1) || false) ≡ true) → (is_never plan i j ≡ true) ⊎ (Named i j ⊎ Named j i)
+          cases (inl k) = inl k
+          cases (inr k) = inr (last (or_either _ _ (drop_false (names_both i j (controller_number plan pair.0, controller_number plan pair.1)) k)))
+
+pub pairs_controllers : (pairs : List (List ℕ × List ℕ)) (plan : Contents) → (with_pairs plan pairs).controllers ≡ plan.controllers
+pairs_controllers [] plan = refl
+pairs_controllers (p ∷ pairs) plan = pairs_controllers pairs (with_pair plan p) ∙ pair_controllers plan p
+
+pub pairs_messages : (pairs : List (List ℕ × List ℕ)) (plan : Contents) → (with_pairs plan pairs).messages ≡ plan.messages
+pairs_messages [] plan = refl
+pairs_messages (p ∷ pairs) plan = pairs_messages pairs (with_pair plan p) ∙ pair_messages plan p
+
+pairs_kept : (pairs : List (List ℕ × List ℕ)) (plan : Contents) (i j : ℕ) → is_never plan i j ≡ true → is_never (with_pairs plan pairs) i j ≡ true
+pairs_kept [] plan i j h = h
+pairs_kept (p ∷ pairs) plan i j h = pairs_kept pairs (with_pair plan p) i j (pair_kept plan p i j h)
+
+pub pairs_added : (pairs : List (List ℕ × List ℕ)) (plan : Contents) (a b : List ℕ) (i j : ℕ) → In (two a b) pairs → number_of a plan.controllers ≡ Some i → number_of b plan.controllers ≡ Some j → (i ≡ j → ⊥)
+    → is_never (with_pairs plan pairs) i j ≡ true
+pairs_added [] plan a b i j h first second differ = absurd h
+pairs_added (p ∷ pairs) plan a b i j (inl e) first second differ =
+    pairs_kept pairs (with_pair plan p) i j
+    (pair_added plan p i j (ap (λ (q : List ℕ × List ℕ). number_of q.0 plan.controllers) (sym e) ∙ first) (ap (λ (q : List ℕ × List ℕ). number_of q.1 plan.controllers) (sym e) ∙ second) differ)
+pairs_added (p ∷ pairs) plan a b i j (inr h) first second differ =
+    pairs_added pairs (with_pair plan p) a b i j h
+    (ap (λ (cs : List (List ℕ × List ℕ)). number_of a cs) (pair_controllers plan p) ∙ first) (ap (λ (cs : List (List ℕ × List ℕ)). number_of b cs) (pair_controllers plan p) ∙ second) differ
+
+-- a pair with these names
+abbrev pub Asked : Contents → List (List ℕ × List ℕ) → ℕ → ℕ → Type 0
+Asked plan pairs i j = (pair : List ℕ × List ℕ) × In pair pairs × (Named plan pair i j ⊎ Named plan pair j i)
+
+pub pairs_from : (pairs : List (List ℕ × List ℕ)) (plan : Contents) (i j : ℕ) → is_never (with_pairs plan pairs) i j ≡ true → (is_never plan i j ≡ true) ⊎ Asked plan pairs i j
+pairs_from [] plan i j h = inl h
+pairs_from (p ∷ pairs) plan i j h = by (pairs_from pairs (with_pair plan p) i j h)
+  where
+    here : (is_never plan i j ≡ true) ⊎ (Named plan p i j ⊎ Named plan p j i) → (is_never plan i j ≡ true) ⊎ Asked plan (p ∷ pairs) i j
+    here (inl k) = inl k
+    here (inr k) = inr (p, inl refl, k)
+
+    moved : (q : List ℕ × List ℕ) (a b : ℕ) → Named (with_pair plan p) q a b → Named plan q a b
+    moved q a b k = (subst (λ (cs : List (List ℕ × List ℕ)). number_of q.0 cs ≡ Some a) (pair_controllers plan p) k.0, subst (λ (cs : List (List ℕ × List ℕ)). number_of q.1 cs ≡ Some b) (pair_controllers plan p) k.1)
+
+    by : (is_never (with_pair plan p) i j ≡ true) ⊎ Asked (with_pair plan p) pairs i j → (is_never plan i j ≡ true) ⊎ Asked plan (p ∷ pairs) i j
+    by (inl k) = here (pair_from plan p i j k)
+    by (inr k) = inr (k.0, inr k.1, elim k.2 [ inl a ↦ inl (moved k.0 i j a) | inr b ↦ inr (moved k.0 j i b) ])
+
+pub never_turned : (plan : Contents) (i j : ℕ) → is_never plan i j ≡ is_never plan j i
+never_turned plan i j = by plan.nevers
+  where
+    either : (a b : Bool) → (a || b) ≡ (b || a)
+    either true true = refl
+    either true false = refl
+    either false true = refl
+    either false false = refl
+
+    by : (nevers : List (ℕ × ℕ)) → list_any (names_both i j) nevers ≡ list_any (names_both j i) nevers
+    by [] = refl
+    by (n ∷ nevers) =
+        ap (λ (b : Bool). b || list_any (names_both i j) nevers) (either ((n.0 == i) && (n.1 == j)) ((n.0 == j) && (n.1 == i)))
+        ∙ ap (λ (b : Bool). names_both j i n || b) (by nevers)
+
+-- ---- participants
+
+pub record SendingAt (cs : List (List ℕ × List ℕ)) (c k : ℕ) : Type 0 where
+  pub entry : List ℕ × List ℕ
+  pub at : slice_get cs c ≡ Some entry
+  pub sends : In k entry.1
+
+from_sendings : (a : ℕ) (cs : List (List ℕ × List ℕ)) (c k : ℕ) → In (Sending c k) (sendings_from a cs) → (j : ℕ) × (c ≡ a + j) × SendingAt cs j k
+from_sendings a [] c k h = absurd h
+from_sendings a (e ∷ cs) c k h = by (in_either (Sending c k) (map (Sending a) e.1) (sendings_from (a + 1) cs) h) (from_sendings (a + 1) cs c k)
+  where
+    by : In (Sending c k) (map (Sending a) e.1) ⊎ In (Sending c k) (sendings_from (a + 1) cs) → (In (Sending c k) (sendings_from (a + 1) cs) → (j : ℕ) × (c ≡ a + 1 + j) × SendingAt cs j k)
+        → (j : ℕ) × (c ≡ a + j) × SendingAt (e ∷ cs) j k
+    by (inl here) later =
+        let f = from_map (Sending a) e.1 (Sending c k) here in
+        let one : c ≡ a = cc in
+        let other : k ≡ f.0 = cc in
+        (0, omega (arith, one), record { entry = e; at = refl; sends = subst (λ (n : ℕ). In n e.1) (sym other) f.1 })
+    by (inr there) later =
+        let r = later there in
+        (suc r.0, omega (arith, r.1), record { entry = r.2.entry; at = r.2.at; sends = r.2.sends })
+
+pub sending_at : (plan : Contents) (p c k : ℕ) → slice_get (participants_of plan) p ≡ Some (Sending c k) → SendingAt plan.controllers c k
+sending_at plan p c k at = by (in_either (Sending c k) (sendings_from 0 plan.controllers) (map Interrupt (range_with_len 0 (length plan.interrupts))) (slice_in (participants_of plan) p (Sending c k) at))
+  where
+    by : In (Sending c k) (sendings_from 0 plan.controllers) ⊎ In (Sending c k) (map Interrupt (range_with_len 0 (length plan.interrupts))) → SendingAt plan.controllers c k
+    by (inl h) =
+        let f = from_sendings 0 plan.controllers c k h in
+        let same : f.0 ≡ c = omega (arith, f.1) in
+        subst (λ (n : ℕ). SendingAt plan.controllers n k) same f.2
+    by (inr h) = let f = from_map Interrupt (range_with_len 0 (length plan.interrupts)) (Sending c k) h in let none : Sending c k ≡ Interrupt f.0 = f.2 in absurd cc
+
+pub from_numbers : (messages : List (List ℕ × FrameTree)) (names : List (List ℕ)) (k : ℕ) → In k (filter_map (λ name. number_of name messages) names) → (name : List ℕ) × In name names × (number_of name messages ≡ Some k)
+from_numbers messages [] k h = absurd h
+from_numbers messages (n ∷ names) k h = by (number_of n messages) refl h (from_numbers messages names k)
+  where
+    by : (o : Option ℕ) → number_of n messages ≡ o → In k (cons_option o (filter_map (λ name. number_of name messages) names)) → (In k (filter_map (λ name. number_of name messages) names) → (name : List ℕ) × In name names × (number_of name messages ≡ Some k))
+        → (name : List ℕ) × In name (n ∷ names) × (number_of name messages ≡ Some k)
+    by None e g later = let r = later g in (r.0, inr r.1, r.2)
+    by (Some j) e (inl same) later = (n, inl refl, e ∙ ap (λ (i : ℕ). Some i) (sym same))
+    by (Some j) e (inr g) later = let r = later g in (r.0, inr r.1, r.2)

@@ -1,0 +1,447 @@
+-- Each item that fits leaves a sound draft sound.
+use Rattle.std.proofs.Common.{◌≡◌, ℕ, suc, ◌+◌, ◌*◌, ◌^◌, ◌<◌, ◌≤◌, ◌⊎◌, inl, inr, ◌&&◌, Bool, true, false, not, cond, List, [], ◌∷◌, ◌++◌, map, length, Option, Some, None, is_some, refl, ap, sym, ◌∙◌, subst, arith, true≢false}
+use Rattle.std.specs.Prelude.{if◌then◌else◌, nat_lt, nat_le, unwrap_or}
+use Rattle.std.specs.List.{list_any, filter, flat_map}
+use Rattle.std.specs.Map.{lookup, keys_of}
+use Rattle.std.specs.Str.{bytes_eq}
+use Rattle.std.proofs.lemmas.Bool.{and_parts, leb-false, ltb-false}
+use Rattle.std.proofs.lemmas.List.{append_assoc, length-append, append-nil, map-append}
+use Rattle.std.proofs.lemmas.List.Concat.{flat_map-append}
+use Rattle.std.proofs.lemmas.List.Sums.{sum_by_push}
+use Rattle.message_tree.specs.Patterns.{address_bits}
+use Rattle.message_tree.specs.declared.bits.Address.{Address}
+use Rattle.message_tree.specs.declared.bits.Bit.{Bit}
+use Rattle.message_tree.specs.declared.bits.Bit.TheVariants.{Zero, One, Either}
+use Rattle.message_tree.specs.declared.bits.Pattern.{Pattern}
+use Rattle.plan_core.specs.Building.{has_name, with_interrupt}
+use Rattle.plan_core.specs.Names.{IsName}
+use Rattle.plan_core.specs.declared.builder.BuildError.TheVariants.{Twice, Unknown, TooMany}
+use Rattle.plan_core.specs.declared.limits.TheConstants.{MOST_CONTROLLERS, MOST_SENDINGS}
+use Rattle.plan_core.proofs.BuildingLemmas.{passes, same-bytes_eq, limits-interrupt}
+use Rattle.brief_text.specs.declared.syntax.Lengths.{Lengths}
+use Rattle.brief_text.specs.Drafts.{Draft, members_or, stands_for, address_said, number_said, same_label, same_side, is_new_label, with_label, with_item}
+use Rattle.brief_text.specs.Fitting.{ListFits, Fits}
+use Rattle.brief_text.specs.Judging.{is_family, is_message, taken_names, is_taken, controller_refusal_of, all_of, have_one_of, sendings, listing_refusal, lists_one, is_side, part_refusal, first_refusal, second_refusal, are_sides}
+use Rattle.brief_text.specs.Splitting.{side_name, labels_of, split_by, parts_of, parts}
+use Rattle.brief_text.specs.Trees.{Side, device, byte, controller, interrupt, never_both, Said}
+use Rattle.brief_text.specs.Words.{known_number}
+use Rattle.text_laws.proofs.EntryNames.{has_name_in, keys_both, in_keys_left, in_keys_either, lookup_in}
+use Rattle.text_laws.proofs.Membership.{In, Distinct, in_left, in_right, in_either, in_last, distinct_both, distinct_push, in_map, any_in, in_any, is_false, not_both, true_or_false, or_either, in_among, holds, holds_in, in_holds}
+use Rattle.text_laws.proofs.SoundDrafts.{family_of, ListSound, LabelSound, SideSound, Sound}
+use Rattle.text_laws.proofs.DraftParts.{one_side}
+
+-- ---- interrupts
+
+doubled : (n p q k : ℕ) → q ≡ 2 * p → k < (n * 2 + 2) * p → k < (n + 1) * q
+doubled n p q k twice less = let e : (n + 1) * q ≡ (n + 1) * (2 * p) = ap (λ x. (n + 1) * x) twice in omega (arith, e, less)
+
+known_below : (bits : List Bit) (n k : ℕ) → known_number n bits ≡ Some k → k < (n + 1) * 2 ^ length bits
+known_below [] n k e = let same : n ≡ k = cc in omega (arith, same)
+known_below (Zero ∷ bits) n k e =
+    let rest = known_below bits (n * 2) k e in
+    let size : 2 ^ suc (length bits) ≡ 2 * 2 ^ length bits = omega arith in
+    doubled n (2 ^ length bits) (2 ^ suc (length bits)) k size (omega (arith, rest))
+known_below (One ∷ bits) n k e =
+    let rest = known_below bits (n * 2 + 1) k e in
+    let size : 2 ^ suc (length bits) ≡ 2 * 2 ^ length bits = omega arith in
+    doubled n (2 ^ length bits) (2 ^ suc (length bits)) k size (omega (arith, rest))
+known_below (Either ∷ bits) n k e = absurd cc
+
+seven : (a : Address) → length (address_bits a) ≡ 7
+unfolding address_bits
+seven a = refl
+
+number_small : (draft : Draft) (to : Said Address) → is_some (known_number 0 (address_bits (address_said draft to))) ≡ true → number_said draft to < 128
+number_small draft to some = by (known_number 0 (address_bits (address_said draft to))) refl some
+  where
+    by : (o : Option ℕ) → known_number 0 (address_bits (address_said draft to)) ≡ o → is_some o ≡ true → unwrap_or o 0 < 128
+    by None e h = absurd (true≢false (sym h))
+    by (Some k) e h =
+        let below = known_below (address_bits (address_said draft to)) 0 k e in
+        subst (λ (n : ℕ). k < (0 + 1) * 2 ^ n) (seven (address_said draft to)) below
+
+pub sound_interrupt : (draft : Draft) (name : List ℕ) (to : Said Address) → Sound draft → IsName name → Fits draft (interrupt name to) → Sound (with_item draft (interrupt name to))
+unfolding with_item with_interrupt parts
+sound_interrupt draft name to sound is fits = record {
+  limits = limits-interrupt draft.plan name (number_said draft to) sound.limits is (number_small draft to fits.2) fits.0;
+  no_controllers = sound.no_controllers;
+  no_nevers = sound.no_nevers;
+  families = record { apart = sound.families.apart; one = sound.families.one; known = sound.families.known; once = sound.families.once };
+  controllers = record { keys = sound.controllers.keys; named = sound.controllers.named; listed = λ c h. record { once = (sound.controllers.listed c h).once; known = (sound.controllers.listed c h).known }; few = sound.controllers.few };
+  labels = record { once = sound.labels.once; each = λ s h. let l = sound.labels.each s h in record { named = l.named; new = l.new; label = l.label; is = l.is; known = l.known; owned = l.owned } };
+  few_parts = sound.few_parts;
+  nevers = sound.nevers;
+}
+
+-- ---- devices and bytes
+
+pub sound_device : (draft : Draft) (name : List ℕ) (address : Address) → Sound draft → Sound (with_item draft (device name address))
+unfolding with_item parts
+sound_device draft name address sound = record {
+  limits = sound.limits;
+  no_controllers = sound.no_controllers;
+  no_nevers = sound.no_nevers;
+  families = sound.families;
+  controllers = sound.controllers;
+  labels = sound.labels;
+  few_parts = sound.few_parts;
+  nevers = sound.nevers;
+}
+
+pub sound_byte : (draft : Draft) (name : List ℕ) (bits : Pattern) → Sound draft → Sound (with_item draft (byte name bits))
+unfolding with_item parts
+sound_byte draft name bits sound = record {
+  limits = sound.limits;
+  no_controllers = sound.no_controllers;
+  no_nevers = sound.no_nevers;
+  families = sound.families;
+  controllers = sound.controllers;
+  labels = sound.labels;
+  few_parts = sound.few_parts;
+  nevers = sound.nevers;
+}
+
+-- ---- controllers
+
+module _ (draft : Draft) (sound : Sound draft) where
+  -- what a name stands for, where it may be listed
+  stands_once : (name : List ℕ) → Distinct (stands_for draft name)
+  stands_once name = by (family_of name draft.families) refl
+    where
+      by : (o : Option Lengths) → family_of name draft.families ≡ o → Distinct (members_or name o)
+      by None e = ((λ h. h), tt)
+      by (Some r) e = sound.families.once name r e
+
+  stands_known : (name : List ℕ) → is_message draft name ≡ true → (m : List ℕ) → In m (stands_for draft name) → In m (keys_of draft.plan.messages)
+  stands_known name known m h = by (family_of name draft.families) refl h
+    where
+      message : family_of name draft.families ≡ None → In name (keys_of draft.plan.messages)
+      message e = either (or_either (is_family draft name) (has_name name draft.plan.messages) known)
+        where
+          either : (is_family draft name ≡ true) ⊎ (has_name name draft.plan.messages ≡ true) → In name (keys_of draft.plan.messages)
+          either (inl f) = absurd (true≢false (sym f ∙ ap is_some e))
+          either (inr g) = has_name_in name draft.plan.messages g
+
+      by : (o : Option Lengths) → family_of name draft.families ≡ o → In m (members_or name o) → In m (keys_of draft.plan.messages)
+      by None e (inl same) = subst (λ (x : List ℕ). In x (keys_of draft.plan.messages)) (sym same) (message e)
+      by None e (inr k) = absurd k
+      by (Some r) e g = sound.families.known m name r e g
+
+  record Listing (names : List (List ℕ)) : Type 0 where
+    whole : ListSound draft.plan.messages names
+    room : sendings draft + length names ≤ MOST_SENDINGS
+
+  listed_on : (before names : List (List ℕ)) → ListFits draft before names → Listing (all_of draft before) → Listing (all_of draft (before ++ names))
+  unfolding listing_refusal
+  listed_on before [] fits so_far = subst (λ (ns : List (List ℕ)). Listing (all_of draft ns)) (sym (append-nil before)) so_far
+  listed_on before (name ∷ names) fits so_far =
+      let listed = all_of draft before in
+      let first = passes (not (is_message draft name)) Unknown _ fits.0 in
+      let second = passes (have_one_of listed (stands_for draft name)) Twice _ first.1 in
+      let third = passes (nat_lt MOST_SENDINGS (sendings draft + length listed + length (stands_for draft name))) TooMany _ second.1 in
+      let known = is_true (is_message draft name) first.0 in
+      let split : all_of draft (before ++ name ∷ []) ≡ listed ++ stands_for draft name = flat_map-append (stands_for draft) before (name ∷ []) ∙ ap (λ (ns : List (List ℕ)). listed ++ ns) (append-nil (stands_for draft name)) in
+      let fresh : (m : List ℕ) → In m listed → In m (stands_for draft name) → ⊥ = λ m h g.
+      not_both (have_one_of listed (stands_for draft name)) (in_any (λ n. holds n listed) (stands_for draft name) m g (in_holds m listed h)) second.0 in
+      let all : ListSound draft.plan.messages (listed ++ stands_for draft name) = record {
+        once = distinct_both listed (stands_for draft name) so_far.whole.once (stands_once name) fresh;
+        known = λ m h. elim (in_either m listed (stands_for draft name) h) [ inl a ↦ so_far.whole.known m a | inr b ↦ stands_known name known m b ];
+      } in
+      let size = length-append listed (stands_for draft name) in
+      let few = ltb-false MOST_SENDINGS (sendings draft + length listed + length (stands_for draft name)) third.0 in
+      let next : Listing (listed ++ stands_for draft name) = record { whole = all; room = omega (arith, size, few) } in
+      subst (λ (ns : List (List ℕ)). Listing (all_of draft ns)) (append_assoc before (name ∷ []) names)
+      (listed_on (before ++ name ∷ []) names fits.1 (subst Listing (sym split) next))
+    where
+      is_true : (b : Bool) → not b ≡ false → b ≡ true
+      is_true true e = refl
+      is_true false e = absurd (true≢false e)
+
+  module _ (name : List ℕ) (messages : List (List ℕ)) (is : IsName name) (fits : Fits draft (controller name messages)) where
+    abbrev listed : List (List ℕ)
+    listed = flat_map (stands_for draft) messages
+
+    abbrev extended : Draft
+    extended = record draft { controllers = draft.controllers ++ (name, listed) ∷ [] }
+
+    free : (is_taken draft name ≡ false) × (length (parts draft) < MOST_CONTROLLERS)
+    unfolding controller_refusal_of
+    free =
+        let first = passes (is_taken draft name) Twice _ fits.0 in
+        let second = passes (nat_le MOST_CONTROLLERS (length (parts draft))) TooMany _ first.1 in
+        (first.0, leb-false MOST_CONTROLLERS (length (parts draft)) second.0)
+
+    no_key : In name (keys_of draft.controllers) → ⊥
+    no_key h = not_both (is_taken draft name) (in_among name (taken_names draft) (in_left name (keys_of draft.controllers) (map side_name draft.labels) h)) free.0
+
+    no_label : In name (map side_name draft.labels) → ⊥
+    no_label h = not_both (is_taken draft name) (in_among name (taken_names draft) (in_right name (keys_of draft.controllers) (map side_name draft.labels) h)) free.0
+
+    all : Listing listed
+    all = listed_on [] messages fits.1 (record { whole = record { once = tt; known = λ m h. absurd h }; room = omega (arith, sound.controllers.few) })
+
+    -- no label is of this controller
+    unlabelled : labels_of draft name ≡ []
+    unlabelled = by draft.labels (λ s h. h)
+      where
+        by : (sides : List Side) → ((s : Side) → In s sides → In s draft.labels) → filter (λ (side : Side). bytes_eq side.controller name) sides ≡ []
+        by [] within = refl
+        by (s ∷ sides) within =
+            let other : bytes_eq s.controller name ≡ false = is_false (bytes_eq s.controller name) (λ h. no_key (subst (λ (x : List ℕ). In x (keys_of draft.controllers)) (same-bytes_eq s.controller name h) (sound.labels.each s (within s (inl refl))).owned)) in
+            ap (λ (b : Bool). cond b (s ∷ filter (λ (side : Side). bytes_eq side.controller name) sides) (filter (λ (side : Side). bytes_eq side.controller name) sides)) other
+            ∙ by sides (λ t h. within t (inr h))
+
+    one_part : length (parts extended) ≡ length (parts draft) + 1
+    unfolding parts
+    one_part =
+        let both = flat_map-append (parts_of draft) draft.controllers ((name, listed) ∷ []) in
+        let single = ap (λ (labels : List Side). length (split_by draft labels name listed ++ [])) unlabelled in
+        let sizes = length-append (flat_map (parts_of draft) draft.controllers) (parts_of draft (name, listed) ++ []) in
+        ap length both ∙ omega (arith, single, sizes)
+
+    keys_are : keys_of extended.controllers ≡ keys_of draft.controllers ++ name ∷ []
+    keys_are = keys_both draft.controllers ((name, listed) ∷ [])
+
+    key_kept : (n : List ℕ) → In n (keys_of draft.controllers) → In n (keys_of extended.controllers)
+    key_kept n h = in_keys_left n draft.controllers ((name, listed) ∷ []) h
+
+    key_cases : (n : List ℕ) → In n (keys_of extended.controllers) → In n (keys_of draft.controllers) ⊎ (n ≡ name)
+    key_cases n h = elim (in_keys_either n draft.controllers ((name, listed) ∷ []) h) [ inl a ↦ inl a | inr b ↦ elim b [ inl e ↦ inr e | inr k ↦ absurd k ] ]
+
+    sound_extended : Sound extended
+    sound_extended = record {
+      limits = sound.limits;
+      no_controllers = sound.no_controllers;
+      no_nevers = sound.no_nevers;
+      families = sound.families;
+      controllers = record {
+        keys = subst Distinct (sym keys_are) (distinct_push (keys_of draft.controllers) name sound.controllers.keys no_key);
+        named = λ n h. elim (key_cases n h) [ inl a ↦ sound.controllers.named n a | inr e ↦ subst IsName (sym e) is ];
+        listed = lists;
+        few = let sums = sum_by_push (λ (c : List ℕ × List (List ℕ)). length c.1) draft.controllers (name, listed) in omega (arith, sums, all.room);
+      };
+      labels = record {
+        once = sound.labels.once;
+        each = λ s h. let l = sound.labels.each s h in record {
+          named = l.named;
+          label = l.label;
+          is = l.is;
+          known = l.known;
+          owned = key_kept s.controller l.owned;
+          new = λ g. elim (key_cases (side_name s) g) [ inl a ↦ l.new a | inr e ↦ no_label (subst (λ (x : List ℕ). In x (map side_name draft.labels)) e (in_map side_name draft.labels s h)) ];
+        };
+      };
+      few_parts = omega (arith, one_part, free.1);
+      nevers = λ n h. let two = sound.nevers n h in ((key_kept n.0.controller two.0.0, two.0.1), (key_kept n.1.controller two.1.0, two.1.1));
+    }
+      where
+        lists : (c : List ℕ × List (List ℕ)) → In c extended.controllers → ListSound draft.plan.messages c.1
+        lists c h = by (in_either c draft.controllers ((name, listed) ∷ []) h)
+          where
+            by : In c draft.controllers ⊎ In c ((name, listed) ∷ []) → ListSound draft.plan.messages c.1
+            by (inl a) = sound.controllers.listed c a
+            by (inr (inl e)) = subst (λ (d : List ℕ × List (List ℕ)). ListSound draft.plan.messages d.1) (sym e) all.whole
+            by (inr (inr k)) = absurd k
+
+  pub sound_controller : (name : List ℕ) (messages : List (List ℕ)) → IsName name → Fits draft (controller name messages) → Sound (with_item draft (controller name messages))
+  unfolding with_item
+  sound_controller name messages is fits = sound_extended name messages is fits
+
+  -- ---- `never`
+
+  -- what a word says as a side
+  abbrev pub Formed : Side → Type 0
+  Formed side = (label : List ℕ) → side.label ≡ Some label → IsName (side_name side)
+
+  abbrev some : List ℕ → Option (List ℕ)
+  some name = Some name
+
+  -- one controller or part of it that a label names
+  module _ (side : Side) (formed : Formed side) (stands : is_side draft side ≡ true) where
+    -- the controller lists one of the messages of the label
+    found : (listed : List (List ℕ)) × (lookup (bytes_eq side.controller) draft.controllers ≡ Some listed) × ((label : List ℕ) → side.label ≡ Some label → have_one_of listed (stands_for draft label) ≡ true)
+    found = by (lookup (bytes_eq side.controller) draft.controllers) side.label refl refl stands
+      where
+        by : (o : Option (List (List ℕ))) (l : Option (List ℕ)) → lookup (bytes_eq side.controller) draft.controllers ≡ o → side.label ≡ l → lists_one draft o l ≡ true
+            → (listed : List (List ℕ)) × (lookup (bytes_eq side.controller) draft.controllers ≡ Some listed) × ((label : List ℕ) → side.label ≡ Some label → have_one_of listed (stands_for draft label) ≡ true)
+        by None l e f h = absurd (true≢false (sym h))
+        by (Some listed) None e f h = (listed, e, λ label is. let none = sym f ∙ is in absurd cc)
+        by (Some listed) (Some own) e f h = (listed, e, λ label is. let same : some own ≡ some label = sym f ∙ is in let name : own ≡ label = cc in subst (λ (x : List ℕ). have_one_of listed (stands_for draft x) ≡ true) name h)
+
+    owner : In side.controller (keys_of draft.controllers)
+    owner = in_map (λ (c : List ℕ × List (List ℕ)). c.0) draft.controllers (side.controller, found.0) (lookup_in side.controller draft.controllers found.0 found.1)
+
+    label_known : (label : List ℕ) → side.label ≡ Some label → ((r : Lengths) × (family_of label draft.families ≡ Some r)) ⊎ In label (keys_of draft.plan.messages)
+    label_known label is = by (family_of label draft.families) refl
+      where
+        by : (o : Option Lengths) → family_of label draft.families ≡ o → ((r : Lengths) × (family_of label draft.families ≡ Some r)) ⊎ In label (keys_of draft.plan.messages)
+        by (Some r) e = inl (r, e)
+        by None e =
+            let m = any_in (λ n. holds n found.0) (stands_for draft label) (found.2 label is) in
+            let same = subst (λ (o : Option Lengths). In m.0 (members_or label o)) e m.1 in
+            let at = lookup_in side.controller draft.controllers found.0 found.1 in
+            let known = (sound.controllers.listed (side.controller, found.0) at).known m.0 (holds_in m.0 found.0 m.2) in
+            inr (elim same [ inl f ↦ subst (λ (x : List ℕ). In x (keys_of draft.plan.messages)) f known | inr k ↦ absurd k ])
+
+    module _ (free : part_refusal draft side ≡ None) where
+      sound_labelled : Sound (with_label draft side)
+      sound_labelled = by (is_new_label draft side) refl free
+        where
+          labels : List Side
+          labels = draft.labels ++ side ∷ []
+
+          by : (b : Bool) → is_new_label draft side ≡ b
+              → (if not b then None else if is_taken draft (side_name side) then Some Twice else if nat_lt MOST_CONTROLLERS (length (parts (if b then record draft { labels = draft.labels ++ side ∷ [] } else draft))) then Some TooMany else None) ≡ None
+              → Sound (if b then record draft { labels = draft.labels ++ side ∷ [] } else draft)
+          by false e h = sound
+          by true e h =
+              let first = passes (is_taken draft (side_name side)) Twice _ h in
+              let second = passes (nat_lt MOST_CONTROLLERS (length (parts (record draft { labels = draft.labels ++ side ∷ [] })))) TooMany None first.1 in
+              let is = label_of side.label refl (and_parts (is_some side.label) (not (list_any (λ other. same_side other side) draft.labels)) e).0 in
+              let taken = λ (h : In (side_name side) (taken_names draft)). not_both (is_taken draft (side_name side)) (in_among (side_name side) (taken_names draft) h) first.0 in
+              record {
+                limits = sound.limits;
+                no_controllers = sound.no_controllers;
+                no_nevers = sound.no_nevers;
+                families = sound.families;
+                controllers = sound.controllers;
+                labels = record {
+                  once = subst Distinct (sym (map-append side_name draft.labels (side ∷ []))) (distinct_push (map side_name draft.labels) (side_name side) sound.labels.once (λ g. taken (in_right (side_name side) (keys_of draft.controllers) (map side_name draft.labels) g)));
+                  each = λ s g. each s (in_either s draft.labels (side ∷ []) g) is (λ k. taken (in_left (side_name side) (keys_of draft.controllers) (map side_name draft.labels) k));
+                };
+                few_parts = ltb-false MOST_CONTROLLERS (length (parts (record draft { labels = draft.labels ++ side ∷ [] }))) second.0;
+                nevers = λ n g. let two = sound.nevers n g in ((two.0.0, kept n.0 two.0.1), (two.1.0, kept n.1 two.1.1));
+              }
+            where
+              label_of : (o : Option (List ℕ)) → side.label ≡ o → is_some o ≡ true → (label : List ℕ) × (side.label ≡ Some label)
+              label_of None f g = absurd (true≢false (sym g))
+              label_of (Some label) f g = (label, f)
+
+              kept : (s : Side) → (s.label ≡ None) ⊎ In s draft.labels → (s.label ≡ None) ⊎ In s (draft.labels ++ side ∷ [])
+              kept s (inl none) = inl none
+              kept s (inr g) = inr (in_left s draft.labels (side ∷ []) g)
+
+              each : (s : Side) → In s draft.labels ⊎ In s (side ∷ []) → ((label : List ℕ) × (side.label ≡ Some label)) → (In (side_name side) (keys_of draft.controllers) → ⊥) → LabelSound draft.plan.messages draft.families (keys_of draft.controllers) s
+              each s (inl g) is new = sound.labels.each s g
+              each s (inr (inl same)) is new = subst (LabelSound draft.plan.messages draft.families (keys_of draft.controllers)) (sym same)
+                  (record { named = formed is.0 is.1; new = new; label = is.0; is = is.1; known = label_known is.0 is.1; owned = owner })
+              each s (inr (inr k)) is new = absurd k
+
+      -- it was named before, or it is now
+      side_named : SideSound (keys_of draft.controllers) (with_label draft side).labels side
+      side_named = (owner, by side.label (is_new_label draft side) refl refl)
+        where
+          by : (o : Option (List ℕ)) (b : Bool) → side.label ≡ o → is_new_label draft side ≡ b → (side.label ≡ None) ⊎ In side (if b then record draft { labels = draft.labels ++ side ∷ [] } else draft).labels
+          by None b e f = inl e
+          by (Some label) true e f = inr (in_last side draft.labels)
+          by (Some label) false e f = inr (stood (true_or_false (list_any (λ other. same_side other side) draft.labels)))
+            where
+              stood : (list_any (λ other. same_side other side) draft.labels ≡ true) ⊎ (list_any (λ other. same_side other side) draft.labels ≡ false) → In side draft.labels
+              stood (inr none) = absurd (true≢false (sym (new_is (is_some side.label) (list_any (λ other. same_side other side) draft.labels) (ap is_some e) none) ∙ f))
+                where
+                  new_is : (a c : Bool) → a ≡ true → c ≡ false → (a && not c) ≡ true
+                  new_is a c g h = rw (g, h) refl
+              stood (inl before) =
+                  let m = any_in (λ other. same_side other side) draft.labels before in
+                  subst (λ (x : Side). In x draft.labels) (same_is m.0 side m.2) m.1
+                where
+                  labels_same : (x y : Option (List ℕ)) → same_label x y ≡ true → x ≡ y
+                  labels_same None None h = refl
+                  labels_same (Some x) (Some y) h = ap (λ (l : List ℕ). Some l) (same-bytes_eq x y h)
+                  labels_same None (Some y) h = absurd (true≢false (sym h))
+                  labels_same (Some x) None h = absurd (true≢false (sym h))
+
+                  same_is : (s t : Side) → same_side s t ≡ true → s ≡ t
+                  same_is s t h =
+                      let p = and_parts (bytes_eq s.controller t.controller) (same_label s.label t.label) h in
+                      one_side s t (same-bytes_eq s.controller t.controller p.0) (labels_same s.label t.label p.1)
+
+-- ---- the whole item
+
+-- where a side stays known
+labels_more : (draft : Draft) (side other : Side) → SideSound (keys_of draft.controllers) draft.labels other → SideSound (keys_of (with_label draft side).controllers) (with_label draft side).labels other
+labels_more draft side other known = by (is_new_label draft side) known.1
+  where
+    by : (b : Bool) → (other.label ≡ None) ⊎ In other draft.labels
+        → SideSound (keys_of (if b then record draft { labels = draft.labels ++ side ∷ [] } else draft).controllers) (if b then record draft { labels = draft.labels ++ side ∷ [] } else draft).labels other
+    by true (inl none) = (known.0, inl none)
+    by true (inr there) = (known.0, inr (in_left other draft.labels (side ∷ []) there))
+    by false which = (known.0, which)
+
+same_keys : (draft : Draft) (side : Side) → keys_of (with_label draft side).controllers ≡ keys_of draft.controllers
+same_keys draft side = by (is_new_label draft side)
+  where
+    by : (b : Bool) → keys_of (if b then record draft { labels = draft.labels ++ side ∷ [] } else draft).controllers ≡ keys_of draft.controllers
+    by true = refl
+    by false = refl
+
+same_nevers : (draft : Draft) (side : Side) → (with_label draft side).nevers ≡ draft.nevers
+same_nevers draft side = by (is_new_label draft side)
+  where
+    by : (b : Bool) → (if b then record draft { labels = draft.labels ++ side ∷ [] } else draft).nevers ≡ draft.nevers
+    by true = refl
+    by false = refl
+
+sound_nevers : (draft : Draft) (nevers : List (Side × Side)) → Sound draft
+    → ((never : Side × Side) → In never nevers → SideSound (keys_of draft.controllers) draft.labels never.0 × SideSound (keys_of draft.controllers) draft.labels never.1) → Sound (record draft { nevers = nevers })
+unfolding parts
+sound_nevers draft nevers sound each = record {
+  limits = sound.limits;
+  no_controllers = sound.no_controllers;
+  no_nevers = sound.no_nevers;
+  families = sound.families;
+  controllers = sound.controllers;
+  labels = sound.labels;
+  few_parts = sound.few_parts;
+  nevers = each;
+}
+
+-- why a side is not refused
+first_free : (draft : Draft) (first : Side) → first_refusal draft first ≡ None → (is_side draft first ≡ true) × (part_refusal draft first ≡ None)
+unfolding first_refusal
+first_free draft first e = by (is_side draft first) refl e
+  where
+    by : (b : Bool) → is_side draft first ≡ b → (if b then part_refusal draft first else Some Unknown) ≡ None → (is_side draft first ≡ true) × (part_refusal draft first ≡ None)
+    by true f h = (f, h)
+    by false f h = absurd cc
+
+second_free : (draft : Draft) (first second : Side) → second_refusal draft first second ≡ None → (is_side draft second ≡ true) × (part_refusal draft second ≡ None)
+unfolding second_refusal
+second_free draft first second e =
+    let one = passes (bytes_eq first.controller second.controller) Twice _ e in
+    let two = passes (not (is_side draft second)) Unknown _ one.1 in
+    let three = passes (list_any (are_sides first second) draft.nevers) Twice _ two.1 in
+    (is_true (is_side draft second) two.0, three.1)
+  where
+    is_true : (b : Bool) → not b ≡ false → b ≡ true
+    is_true true h = refl
+    is_true false h = absurd (true≢false h)
+
+pub sound_never : (draft : Draft) (first second : Side) → Sound draft → ((label : List ℕ) → first.label ≡ Some label → IsName (side_name first)) → ((label : List ℕ) → second.label ≡ Some label → IsName (side_name second))
+    → Fits draft (never_both first second) → Sound (with_item draft (never_both first second))
+unfolding with_item
+sound_never draft first second sound formed also fits =
+    let one = first_free draft first fits.0 in
+    let middle = with_label draft first in
+    let two = second_free middle first second fits.1 in
+    let labelled = sound_labelled draft sound first formed one.0 one.1 in
+    let all = sound_labelled middle labelled second also two.0 two.1 in
+    let here = labels_more middle second first (subst (λ (keys : List (List ℕ)). SideSound keys middle.labels first) (sym (same_keys draft first)) (side_named draft sound first formed one.0 one.1)) in
+    let there = subst (λ (keys : List (List ℕ)). SideSound keys (with_label middle second).labels second) (sym (same_keys middle second)) (side_named middle labelled second also two.0 two.1) in
+    sound_nevers (with_label middle second) (draft.nevers ++ (first, second) ∷ []) all (each here there)
+  where
+    each : SideSound (keys_of (with_label (with_label draft first) second).controllers) (with_label (with_label draft first) second).labels first
+        → SideSound (keys_of (with_label (with_label draft first) second).controllers) (with_label (with_label draft first) second).labels second
+        → (never : Side × Side) → In never (draft.nevers ++ (first, second) ∷ [])
+        → SideSound (keys_of (with_label (with_label draft first) second).controllers) (with_label (with_label draft first) second).labels never.0
+        × SideSound (keys_of (with_label (with_label draft first) second).controllers) (with_label (with_label draft first) second).labels never.1
+    each here there never h = by (in_either never draft.nevers ((first, second) ∷ []) h)
+      where
+        by : In never draft.nevers ⊎ In never ((first, second) ∷ [])
+            → SideSound (keys_of (with_label (with_label draft first) second).controllers) (with_label (with_label draft first) second).labels never.0
+            × SideSound (keys_of (with_label (with_label draft first) second).controllers) (with_label (with_label draft first) second).labels never.1
+        by (inl a) = let k = sound.nevers never a in (labels_more (with_label draft first) second never.0 (labels_more draft first never.0 k.0), labels_more (with_label draft first) second never.1 (labels_more draft first never.1 k.1))
+        by (inr (inl e)) =
+            subst (λ (n : Side × Side). SideSound (keys_of (with_label (with_label draft first) second).controllers) (with_label (with_label draft first) second).labels n.0
+            × SideSound (keys_of (with_label (with_label draft first) second).controllers) (with_label (with_label draft first) second).labels n.1) (sym e) (here, there)
+        by (inr (inr k)) = absurd k

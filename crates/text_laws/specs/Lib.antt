@@ -1,0 +1,4 @@
+pub mod Several
+pub mod Sendings
+pub mod Adding
+pub mod Covering
