@@ -12,6 +12,7 @@ use std::alloc::{AllocError, Global};
 #[derive(Drop)]
 pub struct BriefBefore<'a> {
     pub(crate) file: &'a str,
+    pub(crate) text: &'a [u8],
     plan: &'a Plan,
     origins: &'a Origins,
     // all messages of the plan, in its order, which one controller lists
@@ -46,7 +47,7 @@ pub(crate) enum Explained {
 }
 
 impl<'a> BriefBefore<'a> {
-    /// The brief of this file, which means this plan.
+    /// The brief of this file, whose text means this plan.
     ///
     /// # Errors
     ///
@@ -54,11 +55,13 @@ impl<'a> BriefBefore<'a> {
     pub fn new(
         alloc: Global,
         file: &'a str,
+        text: &'a [u8],
         plan: &'a Plan,
         origins: &'a Origins,
     ) -> Result<BriefBefore<'a>, AllocError> {
         Ok(BriefBefore {
             file,
+            text,
             plan,
             origins,
             messages: with_all(alloc, plan)?,

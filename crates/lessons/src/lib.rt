@@ -12,6 +12,7 @@
 
 mod alike;
 mod before;
+mod checking;
 mod counts;
 mod families;
 mod frames;
@@ -21,12 +22,15 @@ mod naming;
 mod paths;
 mod runs;
 mod seen;
+mod taken;
+mod told;
 mod trees;
 mod unseen;
 mod words;
 mod writing;
 
 pub use before::BriefBefore;
-pub use runs::{Learned, brief_of};
+pub use checking::Learned;
+pub use runs::brief_of;
 pub use seen::Sights;
 pub use trees::Likeness;

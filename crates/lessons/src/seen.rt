@@ -52,8 +52,6 @@ pub struct Sights<'a> {
     // by the bytes of a path: its number, unless the brief explains it
     places: BTreeMap<Vec<u8>, Place>,
     pub(crate) sights: Vec<Sight>,
-    /// The numbers of those of which no message is told: headers alone that were not acknowledged.
-    pub(crate) alone: Vec<usize>,
     pub(crate) odd: Vec<Odd>,
     /// How many transactions a STOP ended.
     pub(crate) stopped: u64,
@@ -77,7 +75,6 @@ impl<'a> Sights<'a> {
             driving: None,
             places: BTreeMap::new(alloc),
             sights: Vec::new(alloc),
-            alone: Vec::new(alloc),
             odd: Vec::new(alloc),
             stopped: 0,
         }
@@ -116,11 +113,11 @@ impl<'a> Sights<'a> {
         }
         self.stopped = self.stopped.saturating_add(1);
         if is_collision {
-            return self.see_odd(NoPath::Collision, 1, transaction.from);
+            return add_odd(&mut self.odd, NoPath::Collision, 1, transaction.from);
         }
         match path_of(self.alloc, transaction.marks.as_slice())? {
             Ok(path) => self.see_path(path, transaction, by),
-            Err(why) => self.see_odd(why, 1, transaction.from),
+            Err(why) => Ok(add_odd(&mut self.odd, why, 1, transaction.from)?),
         }
     }
 
@@ -211,22 +208,27 @@ impl<'a> Sights<'a> {
         self.unlisted.push(Unlisted { message, by })?;
         Ok(())
     }
+}
 
-    /// Transactions that are no path of a message.
-    pub(crate) fn see_odd(&mut self, why: NoPath, times: u64, from: u64) -> Result<(), AllocError> {
-        for odd in self.odd.iter_mut() {
-            if odd.why == why {
-                odd.times = odd.times.saturating_add(times);
-                return Ok(());
-            }
+/// Counts transactions that are in no message for this reason.
+pub(crate) fn add_odd(
+    odds: &mut Vec<Odd>,
+    why: NoPath,
+    times: u64,
+    from: u64,
+) -> Result<(), AllocError> {
+    for odd in odds.iter_mut() {
+        if odd.why == why {
+            odd.times = odd.times.saturating_add(times);
+            return Ok(());
         }
-        self.odd.push(Odd {
-            why,
-            times,
-            first: from,
-        })?;
-        Ok(())
     }
+    odds.push(Odd {
+        why,
+        times,
+        first: from,
+    })?;
+    Ok(())
 }
 
 // Where a path was put: among those that are new, or with a message of the brief before.

@@ -1,0 +1,4 @@
+pub mod SplitLemmas
+pub mod PathLemmas
+pub mod MeaningLemmas
+pub mod MarkLemmas
