@@ -2,3 +2,4 @@ pub mod SplitLemmas
 pub mod PathLemmas
 pub mod MeaningLemmas
 pub mod MarkLemmas
+pub mod PossiblePaths

@@ -8,7 +8,7 @@ use crate::checking::{Learned, checked, without_paths};
 use crate::families::{families_of, messages_of};
 use crate::had::those_had;
 use crate::paths::NoPath;
-use crate::seen::{Sight, Sights};
+use crate::seen::{Odd, Sight, Sights, add_odd, listing};
 use crate::told::{Outside, Told, all_lost};
 use crate::trees::{Likeness, Tree};
 use crate::writing::written;
@@ -19,8 +19,8 @@ use std::alloc::{AllocError, Global};
 ///
 /// # Errors
 ///
-/// Where an allocation fails. `Plan` where the brief would be refused: so it can be where the lines of controllers are
-/// followed, and they list too many messages.
+/// Where an allocation fails. `Plan` where the brief would be refused: so it may be where so many lines of controllers are
+/// followed that there are too many controllers.
 pub fn brief_of(alloc: Global, seen: Sights<'_>, likeness: Likeness) -> Result<Learned, RunError>
     ensures { IfOk result (λ learned. Teaches seen.entry learned) }
 {
@@ -52,19 +52,19 @@ fn put_together(
 ) -> Result<Messages, AllocError> {
     let room = seen.room();
     let mut trees: Vec<Tree> = Vec::new(alloc);
-    let mut outside = Outside::none();
+    let mut outside: Vec<Odd> = Vec::new(alloc);
     let mut left_out = Vec::new(alloc);
     for (number, sight) in seen.sights.iter().enumerate() {
-        let is_put = put(alloc, &mut trees, room, sight, number, likeness)?;
-        if !is_put {
-            outside.add(sight);
+        let no_room = put(alloc, &mut trees, room, sight, number, likeness)?;
+        if let Some(why) = no_room {
+            add_odd(&mut outside, why, sight.times, sight.first)?;
         }
-        left_out.push(!is_put)?;
+        left_out.push(no_room.is_some())?;
     }
     let alone = part_polls(alloc, &mut trees, seen)?;
     let lost = lost_of(alloc, &mut trees, seen, &mut left_out)?;
     let mut odd = seen.odd.as_slice().to_vec(alloc)?;
-    outside.tell(&mut odd, room.full)?;
+    odd.extend_from_slice(outside.as_slice())?;
     lost.tell(&mut odd, NoPath::Lost)?;
     Ok(Messages {
         trees,
@@ -167,7 +167,7 @@ fn lost_of(
     Ok(lost)
 }
 
-// Whether there was room for the path.
+// Why there was no room for the path.
 fn put(
     alloc: Global,
     trees: &mut Vec<Tree>,
@@ -175,21 +175,33 @@ fn put(
     sight: &Sight,
     number: usize,
     likeness: Likeness,
-) -> Result<bool, AllocError> {
+) -> Result<Option<NoPath>, AllocError> {
     let path = sight.path.as_slice();
     for tree in trees.iter_mut() {
         if tree.by == sight.by && tree.takes(path) {
             tree.put(path, number, sight.times)?;
-            return Ok(true);
+            return Ok(None);
         }
     }
     if trees.len() >= room.messages {
-        return Ok(false);
+        return Ok(Some(room.full));
+    }
+    if sendings_of(trees).saturating_add(listing(sight.by)) > room.sendings {
+        return Ok(Some(NoPath::NoSending));
     }
     let mut tree = Tree::new(alloc, likeness, sight.by);
     tree.put(path, number, sight.times)?;
     trees.push(tree)?;
-    Ok(true)
+    Ok(None)
+}
+
+// How many messages the controllers list so far, each of its own.
+fn sendings_of(trees: &Vec<Tree>) -> u32 {
+    let mut count = 0u32;
+    for tree in trees.iter() {
+        count = count.saturating_add(listing(tree.by));
+    }
+    count
 }
 
 // A brief without a message, which says that all paths are lost: where a message does not have, as the brief is read, what was

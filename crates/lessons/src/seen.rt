@@ -88,9 +88,18 @@ impl<'a> Sights<'a> {
     /// How many messages there is room for.
     pub(crate) fn room(&self) -> Room {
         match self.before {
-            Some(before) => before.room(self.unlisted.len()),
+            Some(before) => before.room(self.listed()),
             None => room_alone(),
         }
+    }
+
+    // How many messages of the brief before the further controllers list, each of its own.
+    fn listed(&self) -> u32 {
+        let mut count = 0u32;
+        for unlisted in self.unlisted.iter() {
+            count = count.saturating_add(listing(unlisted.by));
+        }
+        count
     }
 
     /// What the numbers of the dump count, where times are told in parts of a second.
@@ -245,6 +254,11 @@ pub(crate) fn bit_of(number: usize) -> u32 {
         Ok(number) if number < 32 => 1u32.wrapping_shl(number),
         _ => 0,
     }
+}
+
+/// How many controllers list a message that is of these, or of none that is followed.
+pub(crate) fn listing(by: u32) -> u32 {
+    by.count_ones().max(1)
 }
 
 // Which controllers a transaction is of: those who made its STOP.
