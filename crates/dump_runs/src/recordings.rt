@@ -530,7 +530,11 @@ pub fn learn_with_names<I: Input, J: Input, O: Output>(
         return learn(alloc, vcd, out, lesson);
     };
     let file = briefs.files.of(0).unwrap_or("");
-    let before = BriefBefore::new(alloc, file, &plan, origins)?;
+    let text = match provenance.texts.first() {
+        Some(text) => text.as_slice(),
+        None => &[],
+    };
+    let before = BriefBefore::new(alloc, file, text, &plan, origins)?;
     learn_after(alloc, vcd, out, lesson, Some(&before))
 }
 

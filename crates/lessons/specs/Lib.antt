@@ -1,1 +1,4 @@
 pub mod Paths
+pub mod Plans
+pub mod Taken
+pub mod Lessons

@@ -12,6 +12,7 @@ use std::alloc::{AllocError, Global};
 #[derive(Drop)]
 pub struct BriefBefore<'a> {
     pub(crate) file: &'a str,
+    pub(crate) text: &'a [u8],
     plan: &'a Plan,
     origins: &'a Origins,
     // all messages of the plan, in its order, which one controller lists
@@ -20,11 +21,13 @@ pub struct BriefBefore<'a> {
     is_listed: Vec<bool>,
 }
 
-/// How many messages there is room for, and what is said of those that find none.
+/// How many messages there is room for, and what is said of those that find none; and how many the controllers may list, each
+/// of its own.
 #[derive(Clone, Copy)]
 pub(crate) struct Room {
     pub(crate) messages: usize,
     pub(crate) full: NoPath,
+    pub(crate) sendings: u32,
 }
 
 /// The room where no brief is given first.
@@ -32,6 +35,7 @@ pub(crate) fn room_alone() -> Room {
     Room {
         messages: MOST_MESSAGES as usize,
         full: NoPath::NoRoom,
+        sendings: MOST_SENDINGS,
     }
 }
 
@@ -46,7 +50,7 @@ pub(crate) enum Explained {
 }
 
 impl<'a> BriefBefore<'a> {
-    /// The brief of this file, which means this plan.
+    /// The brief of this file, whose text means this plan.
     ///
     /// # Errors
     ///
@@ -54,11 +58,13 @@ impl<'a> BriefBefore<'a> {
     pub fn new(
         alloc: Global,
         file: &'a str,
+        text: &'a [u8],
         plan: &'a Plan,
         origins: &'a Origins,
     ) -> Result<BriefBefore<'a>, AllocError> {
         Ok(BriefBefore {
             file,
+            text,
             plan,
             origins,
             messages: with_all(alloc, plan)?,
@@ -89,26 +95,22 @@ impl<'a> BriefBefore<'a> {
             && self.sendings().saturating_add(self.unlisted()) <= MOST_SENDINGS
     }
 
-    /// How many further messages there is room for, where a further controller lists so many of its own.
-    pub(crate) fn room(&self, listed: usize) -> Room {
-        let messages = MOST_MESSAGES.saturating_sub(self.plan.messages()) as usize;
-        let sendings = MOST_SENDINGS.saturating_sub(self.sendings()) as usize;
+    /// How many further messages there is room for, where the further controllers list so many of its own.
+    pub(crate) fn room(&self, listed: u32) -> Room {
+        let messages = MOST_MESSAGES.saturating_sub(self.plan.messages());
+        let sendings = MOST_SENDINGS.saturating_sub(self.sendings());
         let sendings = sendings.saturating_sub(listed);
-        if self.plan.controllers() >= MOST_CONTROLLERS {
-            Room {
-                messages: 0,
-                full: NoPath::NoController,
-            }
+        let (most, full) = if self.plan.controllers() >= MOST_CONTROLLERS {
+            (0, NoPath::NoController)
         } else if sendings < messages {
-            Room {
-                messages: sendings,
-                full: NoPath::NoSending,
-            }
+            (sendings, NoPath::NoSending)
         } else {
-            Room {
-                messages,
-                full: NoPath::NoRoom,
-            }
+            (messages, NoPath::NoRoom)
+        };
+        Room {
+            messages: most as usize,
+            full,
+            sendings,
         }
     }
 

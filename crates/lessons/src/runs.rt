@@ -1,72 +1,79 @@
 // From what was seen to the brief.
 
+ghost use Rattle.std.specs.Prelude.{IfOk};
+ghost use Rattle.lessons.specs.Lessons.{Teaches};
+
 use crate::before::Room;
+use crate::checking::{Learned, checked, without_paths};
 use crate::families::{families_of, messages_of};
 use crate::had::those_had;
 use crate::paths::NoPath;
-use crate::seen::{Sight, Sights};
+use crate::seen::{Odd, Sight, Sights, add_odd, listing};
+use crate::told::{Outside, Told, all_lost};
 use crate::trees::{Likeness, Tree};
 use crate::writing::written;
-use run_parts::Status;
+use run_parts::RunError;
 use std::alloc::{AllocError, Global};
-
-/// A brief of what was seen.
-#[derive(Drop)]
-pub struct Learned {
-    pub brief: String,
-    /// `Good` where each transaction that a STOP ended is one of its messages, and else `Bad`.
-    pub status: Status,
-}
 
 /// The brief of what was seen. What differs in data bytes is put together as far as the likeness says.
 ///
 /// # Errors
 ///
-/// Where an allocation fails.
-pub fn brief_of(
-    alloc: Global,
-    mut seen: Sights<'_>,
-    likeness: Likeness,
-) -> Result<Learned, AllocError> {
-    let trees = put_together(alloc, &mut seen, likeness)?;
+/// Where an allocation fails. `Plan` where the brief would be refused: so it may be where so many lines of controllers are
+/// followed that there are too many controllers.
+pub fn brief_of(alloc: Global, seen: Sights<'_>, likeness: Likeness) -> Result<Learned, RunError>
+    ensures { IfOk result (λ learned. Teaches seen.entry learned) }
+{
+    let Messages { trees, told } = put_together(alloc, &seen, likeness)?;
     let items = match likeness {
         Likeness::Widened => families_of(alloc, &trees)?,
         Likeness::Exact | Likeness::Merged => messages_of(alloc, &trees)?,
     };
-    Ok(Learned {
-        brief: written(alloc, &seen, &trees, &items)?,
-        status: status_of(&seen),
-    })
+    let brief = written(alloc, &seen, &told, &trees, &items)?;
+    match checked(alloc, &seen, brief, &told)? {
+        Some(learned) => Ok(learned),
+        None => nothing_learned(alloc, &seen),
+    }
 }
 
-fn status_of(seen: &Sights<'_>) -> Status {
-    if seen.odd.is_empty() {
-        Status::Good
-    } else {
-        Status::Bad
-    }
+// Messages, and what is told beside them.
+#[derive(Drop)]
+struct Messages {
+    trees: Vec<Tree>,
+    told: Told,
 }
 
 // Each path goes into the first message that takes it, or into a new one. What finds no room, and what the message does not
 // have after all, is told.
 fn put_together(
     alloc: Global,
-    seen: &mut Sights<'_>,
+    seen: &Sights<'_>,
     likeness: Likeness,
-) -> Result<Vec<Tree>, AllocError> {
+) -> Result<Messages, AllocError> {
     let room = seen.room();
     let mut trees: Vec<Tree> = Vec::new(alloc);
-    let mut outside = Outside { times: 0, first: 0 };
+    let mut outside: Vec<Odd> = Vec::new(alloc);
+    let mut left_out = Vec::new(alloc);
     for (number, sight) in seen.sights.iter().enumerate() {
-        if !put(alloc, &mut trees, room, sight, number, likeness)? {
-            outside.add(sight);
+        let no_room = put(alloc, &mut trees, room, sight, number, likeness)?;
+        if let Some(why) = no_room {
+            add_odd(&mut outside, why, sight.times, sight.first)?;
         }
+        left_out.push(no_room.is_some())?;
     }
-    part_polls(alloc, &mut trees, seen)?;
-    let lost = lost_of(alloc, &mut trees, seen)?;
-    outside.tell(seen, room.full)?;
-    lost.tell(seen, NoPath::Lost)?;
-    Ok(trees)
+    let alone = part_polls(alloc, &mut trees, seen)?;
+    let lost = lost_of(alloc, &mut trees, seen, &mut left_out)?;
+    let mut odd = seen.odd.as_slice().to_vec(alloc)?;
+    odd.extend_from_slice(outside.as_slice())?;
+    lost.tell(&mut odd, NoPath::Lost)?;
+    Ok(Messages {
+        trees,
+        told: Told {
+            alone,
+            odd,
+            left_out,
+        },
+    })
 }
 
 // A header alone that was not acknowledged says nothing of what would have followed. So it is told of a message that ends
@@ -74,18 +81,19 @@ fn put_together(
 fn part_polls(
     alloc: Global,
     trees: &mut Vec<Tree>,
-    seen: &mut Sights<'_>,
-) -> Result<(), AllocError> {
+    seen: &Sights<'_>,
+) -> Result<Vec<usize>, AllocError> {
     let polls = take_polls(alloc, trees, seen)?;
+    let mut alone = Vec::new(alloc);
     for number in polls {
         if let Some(sight) = seen.sights.get(number)
             && !put_poll(trees, sight, number)?
         {
-            seen.alone.push(number)?;
+            alone.push(number)?;
         }
     }
-    seen.alone.sort()?;
-    Ok(())
+    alone.sort()?;
+    Ok(alone)
 }
 
 // Takes them out of the messages that go on.
@@ -132,47 +140,18 @@ fn put_poll(trees: &mut Vec<Tree>, sight: &Sight, number: usize) -> Result<bool,
     Ok(false)
 }
 
-// Paths that are in no message: how often they were seen, and when first.
-#[derive(Drop)]
-struct Outside {
-    times: u64,
-    first: u64,
-}
-
-impl Outside {
-    fn add(&mut self, sight: &Sight) {
-        if self.times == 0 {
-            self.first = sight.first;
-        }
-        self.times = self.times.saturating_add(sight.times);
-    }
-
-    // Those of the paths with these numbers that are not among the others.
-    fn add_others(&mut self, seen: &Sights<'_>, numbers: &[usize], had: &[usize]) {
-        for number in numbers {
-            if let Some(sight) = seen.sights.get(*number)
-                && !had.contains(number)
-            {
-                self.add(sight);
-            }
-        }
-    }
-
-    fn tell(self, seen: &mut Sights<'_>, why: NoPath) -> Result<(), AllocError> {
-        if self.times > 0 {
-            seen.see_odd(why, self.times, self.first)?;
-        }
-        Ok(())
-    }
-}
-
 // Leaves each message only the paths that it has, and says which are lost.
-fn lost_of(alloc: Global, trees: &mut Vec<Tree>, seen: &Sights<'_>) -> Result<Outside, AllocError> {
+fn lost_of(
+    alloc: Global,
+    trees: &mut Vec<Tree>,
+    seen: &Sights<'_>,
+    left_out: &mut Vec<bool>,
+) -> Result<Outside, AllocError> {
     let mut paths = Vec::new(alloc);
     for sight in seen.sights.iter() {
         paths.push(sight.path.as_slice())?;
     }
-    let mut lost = Outside { times: 0, first: 0 };
+    let mut lost = Outside::none();
     for tree in trees.iter_mut() {
         let had = those_had(
             alloc,
@@ -181,14 +160,14 @@ fn lost_of(alloc: Global, trees: &mut Vec<Tree>, seen: &Sights<'_>) -> Result<Ou
             tree.paths.as_slice(),
         )?;
         if had.len() < tree.paths.len() {
-            lost.add_others(seen, tree.paths.as_slice(), had.as_slice());
+            lost.add_others(seen, left_out, tree.paths.as_slice(), had.as_slice());
         }
         tree.paths = had;
     }
     Ok(lost)
 }
 
-// Whether there was room for the path.
+// Why there was no room for the path.
 fn put(
     alloc: Global,
     trees: &mut Vec<Tree>,
@@ -196,19 +175,41 @@ fn put(
     sight: &Sight,
     number: usize,
     likeness: Likeness,
-) -> Result<bool, AllocError> {
+) -> Result<Option<NoPath>, AllocError> {
     let path = sight.path.as_slice();
     for tree in trees.iter_mut() {
         if tree.by == sight.by && tree.takes(path) {
             tree.put(path, number, sight.times)?;
-            return Ok(true);
+            return Ok(None);
         }
     }
     if trees.len() >= room.messages {
-        return Ok(false);
+        return Ok(Some(room.full));
+    }
+    if sendings_of(trees).saturating_add(listing(sight.by)) > room.sendings {
+        return Ok(Some(NoPath::NoSending));
     }
     let mut tree = Tree::new(alloc, likeness, sight.by);
     tree.put(path, number, sight.times)?;
     trees.push(tree)?;
-    Ok(true)
+    Ok(None)
+}
+
+// How many messages the controllers list so far, each of its own.
+fn sendings_of(trees: &Vec<Tree>) -> u32 {
+    let mut count = 0u32;
+    for tree in trees.iter() {
+        count = count.saturating_add(listing(tree.by));
+    }
+    count
+}
+
+// A brief without a message, which says that all paths are lost: where a message does not have, as the brief is read, what was
+// put into it.
+fn nothing_learned(alloc: Global, seen: &Sights<'_>) -> Result<Learned, RunError>
+    ensures { IfOk result (λ learned. Teaches seen.now learned) }
+{
+    let told = all_lost(alloc, seen)?;
+    let brief = written(alloc, seen, &told, &Vec::new(alloc), &Vec::new(alloc))?;
+    without_paths(alloc, seen, brief)
 }

@@ -52,8 +52,6 @@ pub struct Sights<'a> {
     // by the bytes of a path: its number, unless the brief explains it
     places: BTreeMap<Vec<u8>, Place>,
     pub(crate) sights: Vec<Sight>,
-    /// The numbers of those of which no message is told: headers alone that were not acknowledged.
-    pub(crate) alone: Vec<usize>,
     pub(crate) odd: Vec<Odd>,
     /// How many transactions a STOP ended.
     pub(crate) stopped: u64,
@@ -77,7 +75,6 @@ impl<'a> Sights<'a> {
             driving: None,
             places: BTreeMap::new(alloc),
             sights: Vec::new(alloc),
-            alone: Vec::new(alloc),
             odd: Vec::new(alloc),
             stopped: 0,
         }
@@ -91,9 +88,18 @@ impl<'a> Sights<'a> {
     /// How many messages there is room for.
     pub(crate) fn room(&self) -> Room {
         match self.before {
-            Some(before) => before.room(self.unlisted.len()),
+            Some(before) => before.room(self.listed()),
             None => room_alone(),
         }
+    }
+
+    // How many messages of the brief before the further controllers list, each of its own.
+    fn listed(&self) -> u32 {
+        let mut count = 0u32;
+        for unlisted in self.unlisted.iter() {
+            count = count.saturating_add(listing(unlisted.by));
+        }
+        count
     }
 
     /// What the numbers of the dump count, where times are told in parts of a second.
@@ -116,11 +122,11 @@ impl<'a> Sights<'a> {
         }
         self.stopped = self.stopped.saturating_add(1);
         if is_collision {
-            return self.see_odd(NoPath::Collision, 1, transaction.from);
+            return add_odd(&mut self.odd, NoPath::Collision, 1, transaction.from);
         }
         match path_of(self.alloc, transaction.marks.as_slice())? {
             Ok(path) => self.see_path(path, transaction, by),
-            Err(why) => self.see_odd(why, 1, transaction.from),
+            Err(why) => Ok(add_odd(&mut self.odd, why, 1, transaction.from)?),
         }
     }
 
@@ -211,22 +217,27 @@ impl<'a> Sights<'a> {
         self.unlisted.push(Unlisted { message, by })?;
         Ok(())
     }
+}
 
-    /// Transactions that are no path of a message.
-    pub(crate) fn see_odd(&mut self, why: NoPath, times: u64, from: u64) -> Result<(), AllocError> {
-        for odd in self.odd.iter_mut() {
-            if odd.why == why {
-                odd.times = odd.times.saturating_add(times);
-                return Ok(());
-            }
+/// Counts transactions that are in no message for this reason.
+pub(crate) fn add_odd(
+    odds: &mut Vec<Odd>,
+    why: NoPath,
+    times: u64,
+    from: u64,
+) -> Result<(), AllocError> {
+    for odd in odds.iter_mut() {
+        if odd.why == why {
+            odd.times = odd.times.saturating_add(times);
+            return Ok(());
         }
-        self.odd.push(Odd {
-            why,
-            times,
-            first: from,
-        })?;
-        Ok(())
     }
+    odds.push(Odd {
+        why,
+        times,
+        first: from,
+    })?;
+    Ok(())
 }
 
 // Where a path was put: among those that are new, or with a message of the brief before.
@@ -243,6 +254,11 @@ pub(crate) fn bit_of(number: usize) -> u32 {
         Ok(number) if number < 32 => 1u32.wrapping_shl(number),
         _ => 0,
     }
+}
+
+/// How many controllers list a message that is of these, or of none that is followed.
+pub(crate) fn listing(by: u32) -> u32 {
+    by.count_ones().max(1)
 }
 
 // Which controllers a transaction is of: those who made its STOP.

@@ -6,6 +6,7 @@ use crate::frames::{Part, push_frames, push_run};
 use crate::listing::{Controller, controllers_of, push_controllers};
 use crate::naming::{Name, names_of};
 use crate::seen::{Odd, Sight, Sights};
+use crate::told::Told;
 use crate::trees::Tree;
 use crate::unseen::push_unseen;
 use crate::words::{plain_word, push_path, why};
@@ -20,6 +21,7 @@ const TOLD: usize = 8;
 pub(crate) fn written(
     alloc: Global,
     seen: &Sights<'_>,
+    told: &Told,
     trees: &Vec<Tree>,
     items: &Vec<Item>,
 ) -> Result<String, AllocError> {
@@ -30,6 +32,7 @@ pub(crate) fn written(
         alloc,
         &mut line,
         seen,
+        told,
         trees,
         items,
         names.as_slice(),
@@ -42,6 +45,7 @@ fn push_brief(
     alloc: Global,
     line: &mut Lines,
     seen: &Sights<'_>,
+    told: &Told,
     trees: &Vec<Tree>,
     items: &Vec<Item>,
     names: &[Name],
@@ -49,7 +53,7 @@ fn push_brief(
 ) {
     line.begin("brief 1", "");
     line.end();
-    push_counts(alloc, line, seen, messages_in(items));
+    push_counts(alloc, line, seen, told, messages_in(items));
     for (k, name) in names.iter().enumerate() {
         if let Some(item) = items.get(k) {
             line.end();
@@ -68,7 +72,7 @@ fn messages_in(items: &Vec<Item>) -> u64 {
     count
 }
 
-fn push_counts(alloc: Global, line: &mut Lines, seen: &Sights<'_>, messages: u64) {
+fn push_counts(alloc: Global, line: &mut Lines, seen: &Sights<'_>, told: &Told, messages: u64) {
     line.begin("# seen:", "#");
     line.number(seen.stopped, "");
     line.word("transactions,");
@@ -76,12 +80,12 @@ fn push_counts(alloc: Global, line: &mut Lines, seen: &Sights<'_>, messages: u64
     line.word("messages");
     line.end();
     push_explained(alloc, line, seen);
-    for number in seen.alone.iter() {
+    for number in told.alone.iter() {
         if let Some(sight) = seen.sights.get(*number) {
             push_sight(alloc, line, "# header alone:", sight, seen.told_scale());
         }
     }
-    for odd in seen.odd.iter() {
+    for odd in told.odd.iter() {
         push_odd(alloc, line, *odd, seen.told_scale());
     }
 }

@@ -1,0 +1,5 @@
+pub mod SplitLemmas
+pub mod PathLemmas
+pub mod MeaningLemmas
+pub mod MarkLemmas
+pub mod PossiblePaths

@@ -1,0 +1,229 @@
+// A brief that was made, read again: which plan it means, and which of the paths that were seen this has.
+
+ghost use Rattle.std.specs.Prelude.{◌≡◌, List, [], true, IfOk, IfSome, All, map, sum_by};
+ghost use Rattle.plan_core.specs.PlanContents.{plan_contents};
+ghost use Rattle.plan_core.specs.Senders.{what_is_sent};
+ghost use Rattle.capture_check.specs.Explained.{MayLeave};
+ghost use Rattle.capture_check.specs.declared.listening.Mark.{Mark};
+ghost use Rattle.lessons.specs.Lessons.{MeansAfter, Teaches, text_before, marked, unmarked, path_seen, times_seen, times_odd};
+ghost use Rattle.lessons.specs.Lessons.{capped, is_marked, left_over, seen_in, odd_in};
+ghost use Rattle.run_parts.specs.declared.runs.Status.TheVariants.{Good};
+ghost use Rattle.brief_text.specs.Together.{together};
+ghost use Rattle.lessons.specs.Plans.{HasMarks, HasPath};
+ghost use Rattle.lessons.specs.Taken.{ReadsBefore};
+
+use crate::before::BriefBefore;
+use crate::paths::Step;
+use crate::seen::{Odd, Sight, Sights};
+use crate::taken::frame_takes;
+use crate::told::Told;
+use brief_text::{BriefError, Briefs};
+use plan_core::{Plan, Sends};
+use run_parts::{RunError, Status};
+use std::alloc::{AllocError, Global};
+
+/// A brief of what was seen.
+#[derive(Drop)]
+pub struct Learned {
+    pub brief: String,
+    /// `Good` where each transaction that a STOP ended is one of its messages, and else `Bad`.
+    pub status: Status,
+    /// Whether its plan has the path, by the number of each, in the order in which they first came.
+    pub had: Vec<bool>,
+    /// How many transactions that a STOP ended are in none of its messages.
+    pub in_no_message: u64,
+}
+
+/// What was learned by this brief, which tells this beside its messages. `None` where what it says to be in no message is not
+/// what is in none.
+///
+/// # Errors
+///
+/// `Plan` where the brief is refused, and where an allocation fails.
+pub(crate) fn checked(
+    alloc: Global,
+    seen: &Sights<'_>,
+    brief: String,
+    told: &Told,
+) -> Result<Option<Learned>, RunError>
+    ensures { IfOk result (λ it. IfSome it (λ learned. Teaches seen.now learned)) }
+{
+    let plan = plan_meant(alloc, seen.before, brief.as_bytes())?;
+    let had = had_in(
+        alloc,
+        &plan,
+        seen.sights.as_slice(),
+        told.left_out.as_slice(),
+    )?;
+    let learned = learned_of(seen, brief, had);
+    if times_of(told.odd.as_slice()) == learned.in_no_message {
+        Ok(Some(learned))
+    } else {
+        Ok(None)
+    }
+}
+
+/// What was learned by this brief, of whose messages nothing is said.
+///
+/// # Errors
+///
+/// Those of `checked`.
+pub(crate) fn without_paths(
+    alloc: Global,
+    seen: &Sights<'_>,
+    brief: String,
+) -> Result<Learned, RunError>
+    ensures { IfOk result (λ learned. Teaches seen.now learned) }
+{
+    plan_meant(alloc, seen.before, brief.as_bytes())?;
+    Ok(learned_of(seen, brief, Vec::new(alloc)))
+}
+
+// The plan that a text means after the brief before it.
+fn plan_meant(
+    alloc: Global,
+    before: Option<&BriefBefore<'_>>,
+    text: &[u8],
+) -> Result<Plan, BriefError>
+    ensures { IfOk result (λ plan. MeansAfter (text_before before.entry) text.now (plan_contents plan)) }
+{
+    let briefs = read_before(alloc, before)?;
+    let briefs = briefs.with(text)?;
+    Ok(briefs.plan()?)
+}
+
+// The brief before, or none.
+fn read_before(alloc: Global, before: Option<&BriefBefore<'_>>) -> Result<Briefs, BriefError>
+    ensures { IfOk result (λ briefs. ReadsBefore (text_before before.entry) (together briefs)) }
+{
+    let briefs = Briefs::new(alloc);
+    match before {
+        Some(before) => briefs.with(before.text),
+        None => Ok(briefs),
+    }
+}
+
+// Which of the paths the plan has, of those that are not left out.
+fn had_in(
+    alloc: Global,
+    plan: &Plan,
+    sights: &[Sight],
+    left_out: &[bool],
+) -> Result<Vec<bool>, AllocError>
+    ensures { IfOk result (λ had. All (HasPath (plan_contents plan.now)) (map path_seen (marked had.items sights.now))) }
+{
+    let mut had = Vec::new(alloc);
+    for (number, sight) in sights.iter().enumerate() {
+        had.push(is_had(plan, sight, is_marked(left_out, number)))?;
+    }
+    Ok(had)
+}
+
+fn is_had(plan: &Plan, sight: &Sight, is_left_out: bool) -> bool
+    ensures { result ≡ true → HasPath (plan_contents plan.now) (path_seen sight.now) }
+{
+    !is_left_out && has_path(plan, sight.path.as_slice())
+}
+
+// Whether a participant of the plan has the path.
+fn has_path(plan: &Plan, path: &[Step]) -> bool
+    ensures { result ≡ true → HasPath (plan_contents plan.now) path.now }
+{
+    for p in 0..plan.participants() {
+        if sends_path(&plan.sends(p), path) {
+            return true;
+        }
+    }
+    false
+}
+
+// Whether who sends this sends each transaction that has the path.
+#[tactic(auto, using(crate::proofs::PathLemmas::takes_all))]
+fn sends_path(sends: &Sends<'_>, path: &[Step]) -> bool
+    ensures { result ≡ true → (marks : List Mark) → HasMarks path.now marks → MayLeave (what_is_sent sends.now) marks }
+{
+    match sends {
+        Sends::Message(frame) => frame_takes(frame, path),
+        Sends::Interrupt(_) => false,
+    }
+}
+
+// What was learned by this brief, whose plan has the paths that are marked.
+fn learned_of(seen: &Sights<'_>, brief: String, had: Vec<bool>) -> Learned
+    ensures brief { result.brief ≡ brief }
+    ensures had { result.had ≡ had }
+    ensures counts { result.in_no_message ≡
+        capped (left_over seen.now (unmarked result.had.items (seen_in seen.now))) }
+    ensures whole { result.status ≡ Good →
+        (unmarked result.had.items (seen_in seen.now) ≡ []) × (odd_in seen.now ≡ []) }
+{
+    Learned {
+        brief,
+        status: status_of(seen, had.as_slice()),
+        in_no_message: left_over(seen, had.as_slice()),
+        had,
+    }
+}
+
+fn status_of(seen: &Sights<'_>, had: &[bool]) -> Status
+    ensures { result ≡ Good → (unmarked had.now (seen_in seen.now) ≡ []) × (odd_in seen.now ≡ []) }
+{
+    if seen.odd.is_empty() && has_all(seen.sights.as_slice(), had) {
+        Status::Good
+    } else {
+        Status::Bad
+    }
+}
+
+// Whether all are marked.
+fn has_all(sights: &[Sight], had: &[bool]) -> bool
+    ensures { result ≡ true → unmarked had.now sights.now ≡ [] }
+{
+    for number in 0..sights.len() {
+        if !is_marked(had, number) {
+            return false;
+        }
+    }
+    true
+}
+
+fn is_marked(had: &[bool], number: usize) -> bool
+    ensures { result ≡ is_marked had.now number }
+{
+    match had.get(number) {
+        Some(mark) => *mark,
+        None => false,
+    }
+}
+
+// How many transactions are no path, or have one that is not marked.
+fn left_over(seen: &Sights<'_>, had: &[bool]) -> u64
+    ensures { result ≡ capped (left_over seen.now (unmarked had.now (seen_in seen.now))) }
+{
+    let odd = times_of(seen.odd.as_slice());
+    odd.saturating_add(times_of_others(seen.sights.as_slice(), had))
+}
+
+// How many transactions these are.
+fn times_of(odds: &[Odd]) -> u64
+    ensures { result ≡ capped (sum_by times_odd odds.now) }
+{
+    let mut total = 0u64;
+    for odd in odds {
+        total = total.saturating_add(odd.times);
+    }
+    total
+}
+
+// How many have a path that is not marked.
+fn times_of_others(sights: &[Sight], had: &[bool]) -> u64
+    ensures { result ≡ capped (sum_by times_seen (unmarked had.now sights.now)) }
+{
+    let mut total = 0u64;
+    for (number, sight) in sights.iter().enumerate() {
+        if !is_marked(had, number) {
+            total = total.saturating_add(sight.times);
+        }
+    }
+    total
+}
