@@ -1,5 +1,5 @@
 -- What the reader of briefs takes has a layout, and how heads of briefs are refused.
-use Rattle.std.proofs.Common.{◌≡◌, ℕ, ◌⊎◌, inl, inr, Bool, true, false, List, length, Option, Some, None, codes, refl, ap, sym, ◌∙◌}
+use Rattle.std.proofs.Common.{◌≡◌, ℕ, Bool, true, false, List, length, Option, Some, None, codes, refl, ap, sym, ◌∙◌}
 use Rattle.std.specs.Prelude.{Result, Ok, Err, if◌then◌else◌}
 use Rattle.std.specs.Str.{bytes_eq}
 use Rattle.plan_core.proofs.BuildingLemmas.{same-bytes_eq}
@@ -13,7 +13,7 @@ use Rattle.brief_tokens.specs.declared.symbols.Keyword.{Keyword}
 use Rattle.brief_tokens.specs.declared.symbols.Keyword.TheVariants as keywords
 use Rattle.brief_tokens.specs.Heads.{after_head}
 use Rattle.brief_tokens.specs.Tokens.{Tokens, next, keyword, word, keyword_of, token_of_word, tokens_from, tokens_of}
-use Rattle.layout.specs.Refusals.{no_version, plan_letters, brief_letters, brief_head, head_or, letters_in, stranger, refusal_by, refusal_of}
+use Rattle.layout.specs.Refusals.{no_version, brief_letters, brief_head, head_or, letters_in, stranger, refusal_by, refusal_of}
 use Rattle.lexer.specs.declared.lexemes.Letters.{Letters}
 use Rattle.lexer.specs.declared.lexemes.Letters.TheVariants.{Brief}
 use Rattle.lexer.specs.Lexemes.{Lexemes, text_end, stray, foreign, no_dots, briefs, lexemes_of}
@@ -37,11 +37,11 @@ ends_alike (lexemes.last foreign line) = refl
 
 -- ---- words and keywords
 
-no_keyword : (bytes : List ℕ) → keyword_of bytes ≡ None → token_of_word bytes ≡ word bytes
+pub no_keyword : (bytes : List ℕ) → keyword_of bytes ≡ None → token_of_word bytes ≡ word bytes
 unfolding token_of_word
 no_keyword bytes e = rw e refl
 
-some_keyword : (bytes : List ℕ) (k : Keyword) → keyword_of bytes ≡ Some k → token_of_word bytes ≡ keyword k
+pub some_keyword : (bytes : List ℕ) (k : Keyword) → keyword_of bytes ≡ Some k → token_of_word bytes ≡ keyword k
 unfolding token_of_word
 some_keyword bytes k e = rw e refl
 
@@ -71,7 +71,7 @@ no_other false false false false false false false false false true k is = cc
 no_other false false false false false false false false false false true is = cc
 no_other false false false false false false false false false false false is = cc
 
-brief_word : (bytes : List ℕ) → token_of_word bytes ≡ keyword keywords.Brief → bytes ≡ codes "brief"
+pub brief_word : (bytes : List ℕ) → token_of_word bytes ≡ keyword keywords.Brief → bytes ≡ codes "brief"
 brief_word bytes h = by (bytes_eq bytes (codes "brief")) refl
   where
     found : (o : Option Keyword) → keyword_of bytes ≡ o → keyword_of bytes ≡ Some keywords.Brief
@@ -161,33 +161,11 @@ head_stranger (lexemes.next (lexemes.word b) line rest) e h = by (bytes_eq b (co
 head_stranger (lexemes.next (lexemes.sign c) line rest) e h = absurd cc
 head_stranger (lexemes.last ending line) e h = absurd cc
 
-brief_refused : (text : List ℕ) (e : PlanError) → brief_head (lexemes_of briefs 1 text) ≡ Some (bad e) → IsRefused text e
+pub brief_refused : (text : List ℕ) (e : PlanError) → brief_head (lexemes_of briefs 1 text) ≡ Some (bad e) → IsRefused text e
 unfolding brief_read text_read tokens_of
 brief_refused text e h =
     ap (λ r. (r >>= λ rest. items_in (length text) no_items (start rest)) >>= λ draft. Ok (plan_meant draft)) (head_stranger (lexemes_of briefs 1 text) e h)
 
-plan_refused : (text : List ℕ) (e : PlanError) → head_or None (lexemes_of no_dots 1 text) ≡ Err e → First text e
+pub plan_refused : (text : List ℕ) (e : PlanError) → head_or None (lexemes_of no_dots 1 text) ≡ Err e → First text e
 unfolding plan_tokens.tokens_of
 plan_refused text e h = text_refused text e (first_refused (lexemes_of no_dots 1 text) e h)
-
--- where the brief is refused or taken, only a plan is refused otherwise
-either_refused : (o : Result Letters PlanError) (all : Lexemes) (e : PlanError) → head_or (Some o) all ≡ Err e → (head_or None all ≡ Err e) ⊎ (o ≡ Err e)
-either_refused o (lexemes.next (lexemes.word name) line rest) e h = by (bytes_eq name (codes "plan")) refl h
-  where
-    by : (t : Bool) → bytes_eq name (codes "plan") ≡ t → (if t then plan_letters rest else o) ≡ Err e → (head_or None (lexemes.next (lexemes.word name) line rest) ≡ Err e) ⊎ (o ≡ Err e)
-    by true is g = inl (rw is g)
-    by false is g = inr g
-either_refused o (lexemes.next (lexemes.sign c) line rest) e h = inr h
-either_refused o (lexemes.last ending line) e h = inr h
-
-pub head_refused : (text : List ℕ) (e : PlanError) → letters_in text ≡ Err e → First text e ⊎ IsRefused text e
-unfolding letters_in
-head_refused text e h = by (brief_head (lexemes_of briefs 1 text)) refl h
-  where
-    by : (o : Option (Result Letters PlanError)) → brief_head (lexemes_of briefs 1 text) ≡ o → head_or o (lexemes_of no_dots 1 text) ≡ Err e → First text e ⊎ IsRefused text e
-    by None is g = inl (plan_refused text e g)
-    by (Some r) is g = which (either_refused r (lexemes_of no_dots 1 text) e g)
-      where
-        which : (head_or None (lexemes_of no_dots 1 text) ≡ Err e) ⊎ (r ≡ Err e) → First text e ⊎ IsRefused text e
-        which (inl k) = inl (plan_refused text e k)
-        which (inr k) = inr (brief_refused text e (is ∙ ap (λ (x : Result Letters PlanError). Some x) k))

@@ -50,13 +50,13 @@ comment_over word_part a line bytes f g = refl
 comment_over stray_byte a line bytes f g = refl
 
 module _ (a : Alphabet) (line byte : ℕ) (bytes : List ℕ) where
-  comment_ends : (byte == 10) ≡ true → in_comment a line (byte ∷ bytes) ≡ raw_lexemes a (line + 1) bytes
+  pub comment_ends : (byte == 10) ≡ true → in_comment a line (byte ∷ bytes) ≡ raw_lexemes a (line + 1) bytes
   comment_ends h = ap (λ (c : Class). comment_at c a line bytes) (feed_class (letters a) byte h)
 
-  comment_breaks : nat_lt byte 128 ≡ false → in_comment a line (byte ∷ bytes) ≡ comment_at foreign_byte a line bytes
+  pub comment_breaks : nat_lt byte 128 ≡ false → in_comment a line (byte ∷ bytes) ≡ comment_at foreign_byte a line bytes
   comment_breaks h = ap (λ (c : Class). comment_at c a line bytes) (foreign_class (letters a) byte h)
 
-  comment_goes : (byte == 10) ≡ false → nat_lt byte 128 ≡ true → in_comment a line (byte ∷ bytes) ≡ in_comment a line bytes
+  pub comment_goes : (byte == 10) ≡ false → nat_lt byte 128 ≡ true → in_comment a line (byte ∷ bytes) ≡ in_comment a line bytes
   comment_goes h g =
       comment_over (class_of (letters a) byte) a line bytes
       (λ e. true≢false (sym (feed_byte (letters a) byte e) ∙ h))

@@ -20,3 +20,5 @@ pub mod SenderLemmas
 pub mod FirstWords
 pub mod Heads
 pub mod BriefHeads
+pub mod FirstKinds
+pub mod ExactHeads

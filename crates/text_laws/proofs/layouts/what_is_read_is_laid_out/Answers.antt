@@ -1,4 +1,5 @@
-use Rattle.text_laws.proofs.BriefHeads.{brief_laid_out, head_refused}
+use Rattle.text_laws.proofs.BriefHeads.{brief_laid_out}
+use Rattle.text_laws.proofs.ExactHeads.{head_exact}
 use Rattle.text_laws.proofs.Heads.{plan_laid_out}
 use Rattle.text_laws.proofs.layouts.what_is_read_is_laid_out.Goals as goal
 
@@ -9,4 +10,4 @@ pub returns-clause-briefs : goal.returns-clause-briefs
 returns-clause-briefs c = brief_laid_out
 
 pub returns-clause-heads : goal.returns-clause-heads
-returns-clause-heads c = head_refused
+returns-clause-heads c = head_exact
