@@ -41,9 +41,14 @@ const MOST_STARTERS: usize = 4;
 
 const OBJECTS: Deed = Deed::Objects { hints: false, explain: false };
 
-// The line of the refusal, or its object.
+// The line of the refusal, or its object, which has its reason where there is memory for that.
 fn is_memory(refusal: &str) -> bool {
-    refusal == "memory" || refusal == "on standard error: {\"kind\":\"refusal\",\"code\":\"memory\"}\n"
+    let is_so = |(name, value): &(String, Value)| match name.as_str() {
+        "kind" => *value == Value::text("refusal"),
+        "code" => *value == Value::text("memory"),
+        name => name == "reason",
+    };
+    refusal == "memory" || fields_of(refusal).is_some_and(|fields| fields.len() >= 2 && fields.iter().all(is_so))
 }
 
 // What is done for a case.

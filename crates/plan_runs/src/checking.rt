@@ -72,7 +72,7 @@ pub fn check<R: Files + Print + Eprint + Clock + AllocGlobal + Threads + Sync, I
     extras: Extras,
     canvas: Option<Canvas<'_, '_>>,
 ) -> Result<Ended, Halt>
-    ensures status { IfOk result (λ it. OfGivenPlan I.reader (JudgesIn look.strict it.status)
+    ensures status { IfOk result (λ it. OfGivenPlan I.reader (JudgesIn look.entry.strict it.status)
         plans.old.readers.items plans.new.readers.items) }
 {
     let gate = Comparing::new(rt, extras.watcher);
@@ -602,7 +602,10 @@ fn order_exactly<R: AllocGlobal + Threads + Sync, I: Input, O: Output>(
         plans.old.readers.items out.old it.status plans.new.readers.items out.new) }
 {
     match order_given(rt, rt.alloc(), plans.readers.as_mut_slice(), out) {
-        Ok(status) => Ok(Ended::quietly(status)),
+        Ok(status) => Ok(Ended {
+            status,
+            remark: Remark::Nothing,
+        }),
         Err(halted) => Err(plans.halt(halted)),
     }
 }
@@ -623,7 +626,10 @@ fn order_in_form<R: AllocGlobal + Threads + Sync, I: Input, O: Output>(
             let status = status_of(found.checked.faults.is_safe());
             let words = plans.words(&found.checked.plan, &found.provenance);
             write_orders(rt.alloc(), words, &order, out, explain, style)?;
-            Ok(Ended::quietly(status))
+            Ok(Ended {
+                status,
+                remark: Remark::Nothing,
+            })
         }
         Err(halted) => Err(plans.halt(halted)),
     }
