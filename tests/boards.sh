@@ -595,7 +595,7 @@ hint: looked at"
 run "several messages of one line that nobody sends" check unsent.brief --hints always
 want 0 "safe: 0 pairs
     where targets acknowledge, decided in the header: 0, later: 0,
-    at a read's end: 0; alike to the end: 0
+    at a read's end: 0; may end together: 0
     no two participants may start together, so nothing was checked
     not checked: 6 messages that no controller lists: alpha (unsent.brief:2),
     zed (unsent.brief:2), page_1 (unsent.brief:2), page_3 to page_4

@@ -253,7 +253,8 @@ for word in -h --help; do
 done
 version=$("$twire" --version)
 found=$(small --version)
-label='(proved|trial), sources [0-9a-f]{12}'
+# (a program of the gate has no label)
+label='(proved|trial), sources [0-9a-f]{12}|unknown build'
 [[ $found =~ ^"twire-verify ${version:6:5} ("$label"), status 0"$ ]] && found=yes
 expect "twire-verify --version" yes "$found"
 expect "twire-verify --version, on standard error" "" "$("$verifier" --version 2>&1 >/dev/null)"

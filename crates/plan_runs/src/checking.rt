@@ -22,7 +22,7 @@ use certificate::Refusal;
 use diagnostics::{Diagnostic, Messages, diagnose_check};
 use explain::{Detail, Mistake, explain_answer, explain_check, is_all_checked, mistake_of};
 use files::Comparing;
-use given_plans::{GivenPlan, Provenance};
+use given_plans::{GivenPlan, Halted, Provenance};
 use given_runs::{
     GivenAnswer, GivenCheck, GivenOrder, check_given, find_answered, find_checked, find_ordered,
     order_given, verify_given,
@@ -80,11 +80,7 @@ pub fn check<R: Files + Print + Eprint + Clock + AllocGlobal + Threads + Sync, I
         found,
         status,
         remark,
-    } = if look.explain.is_none() && extras.is_exact() {
-        check_exactly(rt, plans, out, look.workers, &gate, extras)?
-    } else {
-        check_in_form(rt, plans, out, look, &gate, extras)?
-    };
+    } = check_by_form(rt, plans, out, look, &gate, extras)?;
     if let Some(canvas) = canvas {
         draw_fault(rt, &found.checked, look.pair, status, canvas)?;
     }
@@ -92,6 +88,25 @@ pub fn check<R: Files + Print + Eprint + Clock + AllocGlobal + Threads + Sync, I
         status: judged(status, &found.checked.plan, look.strict),
         remark,
     })
+}
+
+// The one place where the form is chosen.
+fn check_by_form<R: AllocGlobal + Threads + Sync, I: Input, O: Output, G: Gate + Sync>(
+    rt: &R,
+    plans: &mut Sources<'_, I>,
+    out: &mut O,
+    look: Look<'_>,
+    gate: &G,
+    extras: Extras,
+) -> Result<Ran, Halt>
+    ensures { IfOk result (λ it. OfGivenPlan I.reader (Judges it.status)
+        plans.old.readers.items plans.new.readers.items) }
+{
+    if look.explain.is_none() && extras.is_exact() {
+        check_exactly(rt, plans, out, look.workers, gate, extras)
+    } else {
+        check_in_form(rt, plans, out, look, gate, extras)
+    }
 }
 
 // A check that was written: what it found, its status by the plan, and what is to be said to people.
@@ -181,7 +196,7 @@ fn check_in_form<R: AllocGlobal + Threads + Sync, I: Input, O: Output, G: Gate +
     let alloc = rt.alloc();
     match find_checked(rt, alloc, plans.readers.as_mut_slice(), look.workers, gate) {
         Ok(found) => {
-            let status = status_of(found.checked.faults.is_safe());
+            let status = status_in(&found);
             let remark = write_in_form(alloc, &found, plans, out, look, extras)?;
             Ok(Ran {
                 found,
@@ -191,6 +206,14 @@ fn check_in_form<R: AllocGlobal + Threads + Sync, I: Input, O: Output, G: Gate +
         }
         Err(halted) => Err(plans.halt(halted)),
     }
+}
+
+// The status of a run over this plan.
+fn status_in(found: &GivenCheck) -> Status
+    requires { AreFaults (plan_contents found.now.checked.plan) (fault_list found.now.checked.faults) }
+    ensures { Judges result (plan_contents found.now.checked.plan) }
+{
+    status_of(found.checked.faults.is_safe())
 }
 
 // Writes what was found, and answers what is to be said to people.
@@ -422,13 +445,28 @@ fn verify_exactly<I: Input, J: Input, O: Output>(
     ensures status { IfOk result (λ it. IsAnswered I.reader J.reader
         (plans.old.readers.items, cert.old) it.status (plans.new.readers.items, cert.new)) }
 {
-    match verify_given(alloc, plans.readers.as_mut_slice(), cert, out) {
+    match answer_exactly(alloc, plans.readers.as_mut_slice(), cert, out) {
         Ok((found, status)) => {
             let remark = remark_on_given(alloc, &found, plans, extras);
             Ok(Ended { status, remark })
         }
         Err(halted) => Err(plans.halt(halted)),
     }
+}
+
+// The same over the readers themselves.
+fn answer_exactly<I: Input, J: Input, O: Output>(
+    alloc: Global,
+    readers: &mut [I],
+    cert: &mut J,
+    out: &mut O,
+) -> Result<(GivenAnswer, Status), Halted>
+    ensures report { IfOk result (λ it. Reports (ReadsTextsAndOne I.reader J.reader) (DueForBoth AnsweredPlan) O.writer
+        (readers.old, cert.old) out.old it.1 (readers.new, cert.new) out.new) }
+    ensures answered { IfOk result (λ it. IsAnswered I.reader J.reader
+        (readers.old, cert.old) it.1 (readers.new, cert.new)) }
+{
+    verify_given(alloc, readers, cert, out)
 }
 
 // The answer in another form, which has the same status.
@@ -623,7 +661,7 @@ fn order_in_form<R: AllocGlobal + Threads + Sync, I: Input, O: Output>(
 {
     match find_ordered(rt, rt.alloc(), plans.readers.as_mut_slice()) {
         Ok(GivenOrder { found, order }) => {
-            let status = status_of(found.checked.faults.is_safe());
+            let status = status_in(&found);
             let words = plans.words(&found.checked.plan, &found.provenance);
             write_orders(rt.alloc(), words, &order, out, explain, style)?;
             Ok(Ended {
