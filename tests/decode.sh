@@ -378,7 +378,7 @@ all=$("$twire" decode three | sed '$d')
 slow "a token of no kind after what has ended" "$last" "$all" 2 "$all" "refused V2 line $line" decode slow --live
 slow "the same in objects" "$last" "$("$twire" decode three --format json | sed '$d')" 2 \
     "$("$twire" decode three --format json | sed '$d')" \
-    "{\"kind\":\"refusal\",\"code\":\"V2\",\"line\":$line,\"byte\":$(($(wc -c <source) - 2)),\"column\":1,\"expected\":\"change\"}" \
+    "{\"kind\":\"refusal\",\"code\":\"V2\",\"line\":$line,\"byte\":$(($(wc -c <source) - 2)),\"column\":1,\"expected\":\"change\",\"reason\":\"expected here: a time as '#10', a change as '1!' or 'b01 !', or a command as '\$comment'\"}" \
     decode slow --live --format json
 slow "the same of who explains it" "$last" "$("$twire" capture plan three | sed '$d')" 2 \
     "$("$twire" capture plan three | sed '$d')" "refused V2 line $line" capture plan slow --live

@@ -30,6 +30,16 @@ expect() {
     fi
 }
 
+# same NAME WANTED FOUND: what was found by other means.
+same() {
+    if [[ $2 == "$3" ]]; then
+        passed=$((passed + 1))
+    else
+        failed=$((failed + 1))
+        printf 'FAILED: %s: wanted %s, found %s\n' "$1" "$2" "$3"
+    fi
+}
+
 # refuses NAME WORDS COMMAND ARG..: a command line that does not parse, for this reason.
 refuses() {
     local name=$1 words=$2
@@ -335,6 +345,45 @@ expect "what nobody sent is no message" 1 'brief 1
 # seen: 1 transactions, 0 messages
 # in no message: 1, first at 5: those who made its STOP have sent different
 #   bits: nobody sent this' "" learn collision "${both[@]}"
+# Three controllers send the same 171 messages: so they would list 513 of them.
+awk 'function both(level, pulls, line) {
+        line = level "\""
+        for (k = 1; k <= 3; k++) line = line " " (pulls ? level : 1) substr("#$%", k, 1)
+        return line
+    }
+    function slot(level, pulls) {
+        print "#" time " " both(level, pulls)
+        print "#" time + 4 " 1!"
+        print "#" time + 8 " 0!"
+        time += 10
+    }
+    function sent(byte, k) {
+        for (k = 128; k >= 1; k /= 2) slot(int(byte / k) % 2, 1)
+        slot(0, 0)
+    }
+    BEGIN {
+        print "$var wire 1 ! scl $end $var wire 1 \" sda $end $var wire 1 # oa $end $var wire 1 $ ob $end"
+        print "$var wire 1 % oc $end $enddefinitions $end"
+        print "#0 1! " both(1, 1)
+        time = 10
+        for (register = 0; register <= 170; register++) {
+            print "#" time " " both(0, 1)
+            print "#" time + 4 " 0!"
+            time += 10
+            sent(144)
+            sent(register)
+            print "#" time " " both(0, 1)
+            print "#" time + 4 " 1!"
+            print "#" time + 8 " " both(1, 1)
+            time += 20
+        }
+    }' >crowd
+"$twire" learn crowd --drives a=oa --drives b=ob --drives c=oc >crowd.brief
+same "controllers list no more than a plan allows" '1 brief 1
+# seen: 171 transactions, 170 messages
+# in no message: 1, first at 35710: the controllers of a plan list at most 512
+#   messages' "$? $(head -n 4 crowd.brief)"
+same "what they list is a brief" 170 "$("$twire" expand crowd.brief | grep -c '^message')"
 cat >known.brief <<'PLAN'
 brief 1
 device sensor 0x48 ;

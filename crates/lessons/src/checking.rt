@@ -18,6 +18,7 @@ use crate::seen::{Odd, Sight, Sights};
 use crate::taken::frame_takes;
 use crate::told::Told;
 use brief_text::{BriefError, Briefs};
+use plan_core::limits::MOST_MESSAGES;
 use plan_core::{Plan, Sends};
 use run_parts::{RunError, Status};
 use std::alloc::{AllocError, Global};
@@ -49,12 +50,7 @@ pub(crate) fn checked(
     ensures { IfOk result (λ it. IfSome it (λ learned. Teaches seen.now learned)) }
 {
     let plan = plan_meant(alloc, seen.before, brief.as_bytes())?;
-    let had = had_in(
-        alloc,
-        &plan,
-        seen.sights.as_slice(),
-        told.left_out.as_slice(),
-    )?;
+    let had = had_in(alloc, &plan, seen.sights.as_slice(), told.placed.as_slice())?;
     let learned = learned_of(seen, brief, had);
     if times_of(told.odd.as_slice()) == learned.in_no_message {
         Ok(Some(learned))
@@ -103,38 +99,80 @@ fn read_before(alloc: Global, before: Option<&BriefBefore<'_>>) -> Result<Briefs
     }
 }
 
-// Which of the paths the plan has, of those that are not left out.
+// Which of the paths the plan has, of those that were put into a message.
 fn had_in(
     alloc: Global,
     plan: &Plan,
     sights: &[Sight],
-    left_out: &[bool],
+    placed: &[Option<usize>],
 ) -> Result<Vec<bool>, AllocError>
     ensures { IfOk result (λ had. All (HasPath (plan_contents plan.now)) (map path_seen (marked had.items sights.now))) }
 {
+    let mut guesses = [0u32; MOST_MESSAGES as usize];
     let mut had = Vec::new(alloc);
     for (number, sight) in sights.iter().enumerate() {
-        had.push(is_had(plan, sight, is_marked(left_out, number)))?;
+        had.push(is_had(plan, sight, place_of(placed, number), &mut guesses))?;
     }
     Ok(had)
 }
 
-fn is_had(plan: &Plan, sight: &Sight, is_left_out: bool) -> bool
-    ensures { result ≡ true → HasPath (plan_contents plan.now) (path_seen sight.now) }
-{
-    !is_left_out && has_path(plan, sight.path.as_slice())
+fn place_of(placed: &[Option<usize>], number: usize) -> Option<usize> {
+    match placed.get(number) {
+        Some(place) => *place,
+        None => None,
+    }
 }
 
-// Whether a participant of the plan has the path.
-fn has_path(plan: &Plan, path: &[Step]) -> bool
-    ensures { result ≡ true → HasPath (plan_contents plan.now) path.now }
+// Whether a participant of the plan has the path. Who has a path of a message is asked first for the next one.
+fn is_had(plan: &Plan, sight: &Sight, place: Option<usize>, guesses: &mut [u32]) -> bool
+    ensures { result ≡ true → HasPath (plan_contents plan.now) (path_seen sight.now) }
+{
+    let Some(place) = place else {
+        return false;
+    };
+    let path = sight.path.as_slice();
+    if participant_has(plan, guess_at(guesses, place), path) {
+        return true;
+    }
+    match who_has(plan, path) {
+        Some(p) => {
+            keep_guess(guesses, place, p);
+            true
+        }
+        None => false,
+    }
+}
+
+fn guess_at(guesses: &[u32], place: usize) -> u32 {
+    match guesses.get(place) {
+        Some(p) => *p,
+        None => 0,
+    }
+}
+
+fn keep_guess(guesses: &mut [u32], place: usize, p: u32) {
+    if let Some(guess) = guesses.get_mut(place) {
+        *guess = p;
+    }
+}
+
+// A participant of the plan that has the path.
+fn who_has(plan: &Plan, path: &[Step]) -> Option<u32>
+    ensures { IfSome result (λ p. HasPath (plan_contents plan.now) path.now) }
 {
     for p in 0..plan.participants() {
-        if sends_path(&plan.sends(p), path) {
-            return true;
+        if participant_has(plan, p, path) {
+            return Some(p);
         }
     }
-    false
+    None
+}
+
+// Whether this participant has it.
+fn participant_has(plan: &Plan, p: u32, path: &[Step]) -> bool
+    ensures { result ≡ true → HasPath (plan_contents plan.now) path.now }
+{
+    p < plan.participants() && sends_path(&plan.sends(p), path)
 }
 
 // Whether who sends this sends each transaction that has the path.

@@ -53,26 +53,22 @@ fn put_together(
     let room = seen.room();
     let mut trees: Vec<Tree> = Vec::new(alloc);
     let mut outside: Vec<Odd> = Vec::new(alloc);
-    let mut left_out = Vec::new(alloc);
+    let mut placed = Vec::new(alloc);
     for (number, sight) in seen.sights.iter().enumerate() {
-        let no_room = put(alloc, &mut trees, room, sight, number, likeness)?;
-        if let Some(why) = no_room {
+        let place = put(alloc, &mut trees, room, sight, number, likeness)?;
+        if let Err(why) = place {
             add_odd(&mut outside, why, sight.times, sight.first)?;
         }
-        left_out.push(no_room.is_some())?;
+        placed.push(place.ok())?;
     }
     let alone = part_polls(alloc, &mut trees, seen)?;
-    let lost = lost_of(alloc, &mut trees, seen, &mut left_out)?;
+    let lost = lost_of(alloc, &mut trees, seen, &mut placed)?;
     let mut odd = seen.odd.as_slice().to_vec(alloc)?;
     odd.extend_from_slice(outside.as_slice())?;
     lost.tell(&mut odd, NoPath::Lost)?;
     Ok(Messages {
         trees,
-        told: Told {
-            alone,
-            odd,
-            left_out,
-        },
+        told: Told { alone, odd, placed },
     })
 }
 
@@ -145,7 +141,7 @@ fn lost_of(
     alloc: Global,
     trees: &mut Vec<Tree>,
     seen: &Sights<'_>,
-    left_out: &mut Vec<bool>,
+    placed: &mut Vec<Option<usize>>,
 ) -> Result<Outside, AllocError> {
     let mut paths = Vec::new(alloc);
     for sight in seen.sights.iter() {
@@ -160,14 +156,14 @@ fn lost_of(
             tree.paths.as_slice(),
         )?;
         if had.len() < tree.paths.len() {
-            lost.add_others(seen, left_out, tree.paths.as_slice(), had.as_slice());
+            lost.add_others(seen, placed, tree.paths.as_slice(), had.as_slice());
         }
         tree.paths = had;
     }
     Ok(lost)
 }
 
-// Why there was no room for the path.
+// The number of the message that it was put into, or why there was no room for it.
 fn put(
     alloc: Global,
     trees: &mut Vec<Tree>,
@@ -175,24 +171,25 @@ fn put(
     sight: &Sight,
     number: usize,
     likeness: Likeness,
-) -> Result<Option<NoPath>, AllocError> {
+) -> Result<Result<usize, NoPath>, AllocError> {
     let path = sight.path.as_slice();
-    for tree in trees.iter_mut() {
+    for (place, tree) in trees.iter_mut().enumerate() {
         if tree.by == sight.by && tree.takes(path) {
             tree.put(path, number, sight.times)?;
-            return Ok(None);
+            return Ok(Ok(place));
         }
     }
-    if trees.len() >= room.messages {
-        return Ok(Some(room.full));
+    let place = trees.len();
+    if place >= room.messages {
+        return Ok(Err(room.full));
     }
     if sendings_of(trees).saturating_add(listing(sight.by)) > room.sendings {
-        return Ok(Some(NoPath::NoSending));
+        return Ok(Err(NoPath::NoSending));
     }
     let mut tree = Tree::new(alloc, likeness, sight.by);
     tree.put(path, number, sight.times)?;
     trees.push(tree)?;
-    Ok(None)
+    Ok(Ok(place))
 }
 
 // How many messages the controllers list so far, each of its own.

@@ -12,8 +12,8 @@ pub(crate) struct Told {
     pub(crate) alone: Vec<usize>,
     /// What is in no message, by its reasons: what is no path, and paths that are left out.
     pub(crate) odd: Vec<Odd>,
-    /// By the number of a path, whether it is left out.
-    pub(crate) left_out: Vec<bool>,
+    /// By the number of a path, the number of the message that it was put into, unless it is left out.
+    pub(crate) placed: Vec<Option<usize>>,
 }
 
 /// Paths that are in no message: how often they were seen, and when first.
@@ -39,7 +39,7 @@ impl Outside {
     pub(crate) fn add_others(
         &mut self,
         seen: &Sights<'_>,
-        left_out: &mut Vec<bool>,
+        placed: &mut Vec<Option<usize>>,
         numbers: &[usize],
         had: &[usize],
     ) {
@@ -48,8 +48,8 @@ impl Outside {
                 && !had.contains(number)
             {
                 self.add(sight);
-                if let Some(is_left_out) = left_out.get_mut(*number) {
-                    *is_left_out = true;
+                if let Some(place) = placed.get_mut(*number) {
+                    *place = None;
                 }
             }
         }
@@ -66,16 +66,14 @@ impl Outside {
 /// Nothing is in a message, though there was room for it.
 pub(crate) fn all_lost(alloc: Global, seen: &Sights<'_>) -> Result<Told, AllocError> {
     let mut lost = Outside::none();
-    let mut left_out = Vec::new(alloc);
     for sight in seen.sights.iter() {
         lost.add(sight);
-        left_out.push(true)?;
     }
     let mut odd = seen.odd.as_slice().to_vec(alloc)?;
     lost.tell(&mut odd, NoPath::Lost)?;
     Ok(Told {
         alone: Vec::new(alloc),
         odd,
-        left_out,
+        placed: Vec::new(alloc),
     })
 }
