@@ -454,12 +454,12 @@ expect "a line that is released before a STOP is not SDA" 1 "5-160 unexplained
 1 transactions, 1 unexplained" "" capture two.brief let_go "${both[@]}"
 expect "a lesson by a line that is SDA" 2 "" "refused drives b" learn arbitrated --drives a=oa --drives b=sda
 expect "a controller that the plan does not have" 2 "" "refused drives c
-hint: the plan has no controller 'c'; it has
+hint: the plan has no controller 'c'; it has:
 hint:   a
 hint:   b" capture two.brief arbitrated --drives c=oa --hints always
 expect "a controller that no brief has" 2 "" "refused drives 1a" learn arbitrated --drives 1a=oa
 expect "a controller with a word of briefs" 2 "" "refused drives device" learn arbitrated --drives device=oa
-expect "a refusal as an object" 2 "" '{"kind":"refusal","code":"drives","controller":"c","reason":"the plan has no controller '"'"'c'"'"'; it has a, b"}' \
+expect "a refusal as an object" 2 "" '{"kind":"refusal","code":"drives","controller":"c","reason":"the plan has no controller '"'"'c'"'"'; it has: a, b"}' \
     capture two.brief arbitrated --drives c=oa --format json
 refuses "no line" "'--drives' takes NAME=WHERE, as bmc=top.bmc.sda_o" learn arbitrated --drives a=
 refuses "no equals sign" "'--drives' takes NAME=WHERE, as bmc=top.bmc.sda_o" capture plan arbitrated --drives oa

@@ -57,7 +57,7 @@ pub fn on_no_controller<'a>(
     let mut lines = Lines::new(alloc);
     lines.part("the plan has no controller '");
     push_name(&mut lines, drive.controller.as_bytes());
-    lines.say("'; it has");
+    lines.say("'; it has:");
     for name in controllers {
         lines.detail(*name);
     }

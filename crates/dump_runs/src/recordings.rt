@@ -1,9 +1,12 @@
 // Runs over the dump of a recorded bus: each hands what the dump shows to the form that is wanted.
 
-ghost use Rattle.std.specs.Prelude.{IfOk};
+ghost use Rattle.std.specs.Prelude.{◌≡◌, IfOk, OnOk, string_bytes};
 ghost use Rattle.given_runs.specs.Due.{CapturedPlan};
 ghost use Rattle.given_runs.specs.Inputs.{DueForBoth, ReadsTextsAndOne};
+ghost use Rattle.lessons.specs.Lessons.{Teaches};
+ghost use Rattle.lessons.specs.declared.checking.Learned.{Learned};
 ghost use Rattle.run_parts.specs.Runs.{Reports};
+ghost use Rattle.run_parts.specs.Writing.{WritesAll};
 ghost use Rattle.vcd_read.specs.Views.{asked};
 
 use crate::driven::{
@@ -17,7 +20,7 @@ use decoding::Explaining;
 use drives::Driving;
 use dump_objects::{CaptureObjects, DecodeObjects, write_signals};
 use dump_tokens::{Bus, BusLines, Drives, Limits, Quiet, Window};
-use given_plans::{GivenPlan, Halted};
+use given_plans::{GivenPlan, Halted, Provenance};
 use given_runs::{GivenCapture, GivenLive, capture_given, live_given};
 use hints::Hints;
 use lessons::{BriefBefore, Learned, Likeness, Sights, brief_of};
@@ -526,16 +529,37 @@ pub fn learn_with_names<I: Input, J: Input, O: Output>(
     lesson: Lesson<'_>,
 ) -> Result<Ended, Halt> {
     let GivenPlan { plan, provenance } = briefs.find_in_briefs(alloc)?;
+    let named = briefs.files.of(0);
+    let file = match named {
+        Some(name) => name,
+        None => "",
+    };
+    learn_beside(alloc, file, &plan, &provenance, vcd, out, lesson)
+}
+
+// The same after a brief, of which this is known.
+fn learn_beside<J: Input, O: Output>(
+    alloc: Global,
+    file: &str,
+    plan: &Plan,
+    provenance: &Provenance,
+    vcd: &mut J,
+    out: &mut O,
+    lesson: Lesson<'_>,
+) -> Result<Ended, Halt> {
     let Some(origins) = &provenance.origins else {
         return learn(alloc, vcd, out, lesson);
     };
-    let file = briefs.files.of(0).unwrap_or("");
-    let text = match provenance.texts.first() {
+    let text = first_of(&provenance.texts);
+    let before = BriefBefore::new(alloc, file, text, plan, origins)?;
+    learn_after(alloc, vcd, out, lesson, Some(&before))
+}
+
+fn first_of(texts: &Vec<Vec<u8>>) -> &[u8] {
+    match texts.first() {
         Some(text) => text.as_slice(),
         None => &[],
-    };
-    let before = BriefBefore::new(alloc, file, text, &plan, origins)?;
-    learn_after(alloc, vcd, out, lesson, Some(&before))
+    }
 }
 
 fn learn_after<J: Input, O: Output>(
@@ -569,14 +593,31 @@ fn learn_open<J: Input, O: Output>(
         Err(error) => return Ok(Err(error)),
     };
     let hints = refuse_others(alloc, driving)?;
-    let status = write_learned(brief_of(alloc, seen, lesson.likeness)?, out)?;
+    let status = write_learned(alloc, seen, lesson.likeness, out)?;
     Ok(Ok(Ended {
         status,
         remark: Remark::Recording(Recorded::Other, ending.rises, hints),
     }))
 }
 
-fn write_learned<O: Output>(learned: Learned, out: &mut O) -> Result<Status, RunError> {
+// Writes the brief of what was seen: what it means, and which paths that has, is promised of what is written.
+fn write_learned<O: Output>(
+    alloc: Global,
+    seen: Sights<'_>,
+    likeness: Likeness,
+    out: &mut O,
+) -> Result<Status, RunError>
+    ensures { IfOk result (λ it. (learned : Learned) × Teaches seen.entry learned × (it ≡ learned.status)
+        × WritesAll O.writer out.old (string_bytes learned.brief) out.new) }
+{
+    let learned = brief_of(alloc, seen, likeness)?;
+    write_brief(&learned, out)
+}
+
+fn write_brief<O: Output>(learned: &Learned, out: &mut O) -> Result<Status, RunError>
+    ensures status { IfOk result (λ it. it ≡ learned.now.status) }
+    ensures written { OnOk result (WritesAll O.writer out.old (string_bytes learned.now.brief) out.new) }
+{
     write_lines(out, learned.brief.as_bytes(), learned.status)
 }
 
