@@ -200,9 +200,9 @@ printf 'cert 1\nfault 2 10010000l data stop\n' >wrong.cert
 run "a fault of a pair that there is not, explained" 2 '{"kind":"certificate","accepted":false,"code":"C5","pair":2}' "" \
     verify --format json --explain "$two" wrong.cert
 printf 'cert 2\n' >wrong.cert
-run "a certificate of another form" 2 '{"kind":"certificate","accepted":false,"code":"C1","line":1,"column":1,"expected":"version","reason":"a plan begins with '"'"'plan 1'"'"', or with '"'"'plan 2'"'"' where it has ranges of counts or '"'"'never'"'"'"}' "" \
+run "a certificate of another form" 2 '{"kind":"certificate","accepted":false,"code":"C1","line":1,"column":1,"expected":"version"}' "" \
     verify --format json "$two" wrong.cert
-run "a certificate of another form, explained" 2 '{"kind":"certificate","accepted":false,"code":"C1","line":1,"column":1,"expected":"version","reason":"a plan begins with '"'"'plan 1'"'"', or with '"'"'plan 2'"'"' where it has ranges of counts or '"'"'never'"'"'"}' "" \
+run "a certificate of another form, explained" 2 '{"kind":"certificate","accepted":false,"code":"C1","line":1,"column":1,"expected":"version"}' "" \
     verify --format json --explain "$two" wrong.cert
 pairs='{"kind":"order","pair":0,"participants":["main/write_settings","guard/write_alarm"],"both":[9,27],"first":[21,25],"second":[19,25]}
 {"kind":"order","pair":1,"participants":["main/write_limit","guard/write_alarm"],"both":[9,9],"second":[15,15]}
@@ -449,7 +449,8 @@ if { (ulimit -v 32768 && exec "$twire" --version); } >/dev/null 2>&1; then
     (cat "$two" && head -c 67108864 /dev/zero | tr '\0' '#') >long.plan
     echo 2 >want_status
     : >want_out
-    echo '{"kind":"refusal","code":"memory"}' >want_err
+    # (there is memory again for its words, once the text is gone)
+    echo '{"kind":"refusal","code":"memory","reason":"the system gave no more memory: is there a limit ('"'"'ulimit -v'"'"')?"}' >want_err
     (ulimit -v 32768 && exec "$twire" --format json check long.plan) >out 2>err
     echo "$?" >status
     compare "a plan of 64 MiB with 32 MiB of memory"
