@@ -208,26 +208,24 @@ cp vcd changing
 held remove_dump
 judge "a dump that is removed before it is read" 0 "$explained" ""
 
-# ---- a file that changes between its refusal and its hints
+# ---- a file that changes before its refusal is told, and its hints with it
 
-# Whether the run waits and has read so many bytes of the file `changing`, as its descriptor with this number.
-has_read() {
-    local name position
-    [[ /proc/$pid/fd/$1 -ef changing && $(<"/proc/$pid/stat") == *") S "* ]] &&
-        read -r name position <"/proc/$pid/fdinfo/$1" && ((position == $2))
+# Whether the run waits to write to standard error: the call `write`, number 1, to descriptor 2.
+waits_to_tell() {
+    local call to
+    read -r call to _ <"/proc/$pid/syscall" && [[ $call == 1 && $to == 0x2 ]]
 } 2>/dev/null
 
-# refused_then CHANGE FD ARG..: a run on the file `changing`, which CHANGE changes once it was read: standard error is a full
-# pipe, where the run waits to write the line of its refusal.
+# refused_then CHANGE ARG..: a run on the file `changing`, which CHANGE changes once it was read: standard error is a full pipe,
+# where the run waits to write the line of its refusal.
 refused_then() {
-    local size cat
-    size=$(stat -c %s changing)
+    local cat
     rm -f full && mkfifo full
     exec 3<>full
     dd if=/dev/zero of=full bs=4096 oflag=nonblock 2>/dev/null
-    "$twire" "${@:3}" >out 2>full 3>&- &
+    "$twire" "${@:2}" >out 2>full 3>&- &
     pid=$!
-    until has_read "$2" "$size" || [[ ! -e /proc/$pid/exe ]]; do :; done
+    until waits_to_tell || [[ ! -e /proc/$pid/exe ]]; do sleep 0.01; done
     "$1"
     tr -d '\0' <full >err 3>&- &
     cat=$!
@@ -240,7 +238,7 @@ make_a_plan() { printf 'plan 1\n' >changing; }
 end_nothing() { printf '$end' >changing; }
 
 printf 'board 1\n' >changing
-refused_then make_a_plan 3 check changing --hints always
+refused_then make_a_plan check changing --hints always
 judge "hints on a plan that was changed" 2 "" "refused P2 line 1
 hint: line 1 of the plan:
 hint:   board 1
@@ -250,7 +248,7 @@ hint: counts or 'never'
 hint: a brief begins with 'brief 1'"
 { cat vcd && echo '?'; } >changing
 line=$(wc -l <changing)
-refused_then end_nothing 4 capture plan changing --hints always
+refused_then end_nothing capture plan changing --hints always
 judge "hints on a dump that was changed" 2 "" "refused V2 line $line
 hint: line $line of the capture:
 hint:   ?
