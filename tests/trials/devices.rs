@@ -175,8 +175,8 @@ fn hint_on_a_write(desk: &mut Desk) -> io::Result<Option<Disagreement>> {
 
 fn hint_on_memory(desk: &mut Desk) -> io::Result<Option<Disagreement>> {
     let lines = "refused memory\nhint: the system gave no more memory: is there a limit ('ulimit -v')?\n";
-    // (the first allocation is for the list of the files that are open, before the run)
-    let setup = Setup { refused: Refused::One(2), ..Setup::WHOLE };
+    // (the first two allocations are for lists of what is open, before the run)
+    let setup = Setup { refused: Refused::One(3), ..Setup::WHOLE };
     hint(desk, setup, "a hint on memory", lines, "")
 }
 

@@ -172,10 +172,15 @@ fn fields_of(refusal: &str) -> Option<Vec<(String, Value)>> {
     }
 }
 
-// Whether these are those fields, in their order, less some that may be lost.
+// Whether these are those fields, in their order, less some that may be lost. The reason may be in the words of its line alone:
+// those of the token that was found need memory.
 fn has_the_rest(found: &[(String, Value)], ample: &[(String, Value)]) -> bool {
+    let is_of = |one: &(String, Value), other: &(String, Value)| {
+        one == other || (one.0 == "reason" && other.0 == "reason" && matches!(&one.1, Value::Text(it) if !it.is_empty()))
+    };
     let mut found = found.iter().peekable();
-    let is_there = ample.iter().all(|field| found.next_if_eq(&field).is_some() || LOST.contains(&field.0.as_str()));
+    let is_there =
+        ample.iter().all(|field| found.next_if(|it| is_of(it, field)).is_some() || LOST.contains(&field.0.as_str()));
     is_there && found.next().is_none()
 }
 
