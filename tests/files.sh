@@ -341,19 +341,20 @@ fi
 # ---- signals that leave a run alone, while it waits for a FIFO
 
 trap '' ALRM
+# (The descriptor is none that a run would have, so that the wait ends once the run, and no shell that becomes it, has the FIFO.)
 held_by_signals() {
     local signal
-    exec 3<>fifo
-    "$twire" "$@" >out 2>err 3>&- &
+    exec 9<>fifo
+    "$twire" "$@" >out 2>err 9>&- &
     pid=$!
     until [[ /proc/$pid/fd/3 -ef fifo || /proc/$pid/fd/4 -ef fifo || ! -e /proc/$pid/exe ]]; do :; done
-    head -c 12 "$sent" >&3
+    head -c 12 "$sent" >&9
     for signal in STOP CONT ALRM STOP WINCH CONT URG CHLD ALRM; do
         sleep 0.02
         kill "-$signal" "$pid"
     done
-    tail -c +13 "$sent" >&3
-    exec 3>&-
+    tail -c +13 "$sent" >&9
+    exec 9>&-
     await
 }
 
