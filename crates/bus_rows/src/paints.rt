@@ -17,7 +17,7 @@ pub enum Paint {
 }
 
 impl Paint {
-    /// Adds a line that was made elsewhere, with so many of its bytes in the colour of this verdict: those after so many others.
+    /// Adds a line that was made elsewhere, with one word in the colour of this verdict: its offset and length are in bytes.
     pub fn push_verdict(
         self,
         text: &mut Text,

@@ -22,7 +22,7 @@ pub struct Group {
     pub cause: Cause,
     /// How many they are.
     pub pairs: usize,
-    /// The one with the shortest wire, and of several the first: its place among the unsafe pairs.
+    /// The place among the unsafe pairs of the one with the shortest wire: the first one where several wires are shortest.
     pub example: usize,
 }
 
@@ -65,8 +65,8 @@ impl Groups {
     }
 }
 
-/// The unsafe pairs of the plan, in groups of one cause each, where these are the families of its messages. Groups are numbered from 0 in the order of their examples: the
-/// shortest wire first, and of several the first pair.
+/// The unsafe pairs of the plan, in groups of one cause each, where these are the families of its messages. Groups are numbered
+/// from 0 by the wires of their examples, the shortest first, and where these are equally long by the number of the pair.
 pub fn groups_of(
     alloc: Global,
     plan: &Plan,

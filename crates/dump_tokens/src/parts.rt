@@ -11,7 +11,7 @@ pub enum Part<'t> {
     Scope(&'t [u8]),
     /// The scope that began last ends.
     Upscope,
-    /// A token of a `$var`, after so many others of it: its type, size, code and reference, and what follows.
+    /// A token of a `$var`, with its index there: 0 to 3 are its type, size, code and reference.
     Var(u32, &'t [u8]),
     /// The end of a `$var` that has these four.
     VarEnd,

@@ -201,7 +201,7 @@ impl<L: Listing> Definitions<L> {
         self.path.extend_from_slice(name)
     }
 
-    // One more token of a `$var`, after so many others.
+    // The token of a `$var` with this index.
     fn read(&mut self, seen: u32, token: &[u8]) -> Result<(), AllocError> {
         match seen {
             0 => Ok(()),
