@@ -138,17 +138,11 @@ fn capture_exactly<R: AllocGlobal + Threads + Sync, I: Input, J: Input, O: Outpu
     let mut wrong = None;
     let readers = plans.readers.as_mut_slice();
     match capture_given(rt, alloc, readers, vcd, out, scl, sda, least, &mut wrong) {
-        Ok(
-            GivenCapture {
-                captured,
-                rises,
-                ..
-            },
-        ) => {
+        Ok(GivenCapture { captured, .. }) => {
             let seen = Recorded::Bus(window, seen_in(&captured));
             Ok(Ended {
                 status: captured.status,
-                remark: Remark::recording(alloc, seen, rises),
+                remark: Remark::recording(alloc, seen, captured.rises),
             })
         }
         Err(halted) => Err(halt_at(plans, halted, wrong)),
