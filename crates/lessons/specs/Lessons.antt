@@ -50,6 +50,9 @@ times_seen sight = sight.times
 abbrev pub seen_in : Sights → List Sight
 seen_in seen = seen.sights.items
 
+abbrev pub paths_in : Sights → List (List Step)
+paths_in seen = map path_seen (seen_in seen)
+
 -- what is no path of a message, by its reasons
 abbrev pub odd_in : Sights → List Odd
 odd_in seen = seen.odd.items

@@ -1,11 +1,18 @@
 // The different paths that a capture has shown.
 
+ghost use Rattle.std.specs.Prelude.{◌≡◌, ◌≢◌, [], ◌∷◌, true, false, None, map, OnOk, IfOk, IfSome};
+ghost use Rattle.capture_check.specs.Transactions.{Recorded};
+ghost use Rattle.capture_check.specs.Views.{recorded};
+ghost use Rattle.lessons.specs.Lessons.{odd_in, path_seen, paths_in};
+ghost use Rattle.lessons.specs.Seen.{HasEveryTime, IsAmong, IsStopped, Sees};
+
 use crate::before::{BriefBefore, Explained, Room, room_alone};
+use crate::fitting::has_marks;
 use crate::paths::{NoPath, Step, key_of, path_of};
-use capture_check::{Transaction, Until};
+use capture_check::{Mark, Transaction, Until};
 use decoding::TransactionSink;
 use drives::{Driving, Drove};
-use dump_tokens::{Scale, View};
+use dump_tokens::{Scale, View, Window};
 use run_parts::RunError;
 use std::alloc::{AllocError, Global};
 use std::collections::BTreeMap;
@@ -39,7 +46,7 @@ pub(crate) struct Odd {
 #[derive(Drop)]
 pub struct Sights<'a> {
     alloc: Global,
-    view: View,
+    pub(crate) view: View,
     scale: Option<Scale>,
     /// The brief that what is learned is given after, where there is one.
     pub(crate) before: Option<&'a BriefBefore<'a>>,
@@ -49,8 +56,9 @@ pub struct Sights<'a> {
     pub(crate) unlisted: Vec<Unlisted>,
     /// The controllers whose lines are followed, where there are some.
     pub(crate) driving: Option<&'a Driving<'a>>,
-    // by the bytes of a path: its number, unless the brief explains it
-    places: BTreeMap<Vec<u8>, Place>,
+    // by the bytes of a path: its number, or the message of the brief before that explains it
+    numbers: BTreeMap<Vec<u8>, usize>,
+    in_brief: BTreeMap<Vec<u8>, InBrief>,
     pub(crate) sights: Vec<Sight>,
     pub(crate) odd: Vec<Odd>,
     /// How many transactions a STOP ended.
@@ -73,7 +81,8 @@ impl<'a> Sights<'a> {
             explained: 0,
             unlisted: Vec::new(alloc),
             driving: None,
-            places: BTreeMap::new(alloc),
+            numbers: BTreeMap::new(alloc),
+            in_brief: BTreeMap::new(alloc),
             sights: Vec::new(alloc),
             odd: Vec::new(alloc),
             stopped: 0,
@@ -113,21 +122,39 @@ impl<'a> Sights<'a> {
         transaction: &Transaction,
         by: u32,
         is_collision: bool,
-    ) -> Result<(), AllocError> {
-        let Until::Stopped(_) = transaction.until else {
-            return Ok(());
-        };
-        if !self.view.window.has(self.scale, transaction.from) {
+    ) -> Result<(), AllocError>
+        ensures { OnOk result (Sees self.old (recorded transaction.now ∷ []) self.new) }
+    {
+        if !is_stopped(transaction.until) || !self.tells(transaction.from) {
             return Ok(());
         }
         self.stopped = self.stopped.saturating_add(1);
         if is_collision {
-            return add_odd(&mut self.odd, NoPath::Collision, 1, transaction.from);
+            return self.see_odd(NoPath::Collision, transaction.from);
         }
         match path_of(self.alloc, transaction.marks.as_slice())? {
             Ok(path) => self.see_path(path, transaction, by),
-            Err(why) => Ok(add_odd(&mut self.odd, why, 1, transaction.from)?),
+            Err(why) => self.see_odd(why, transaction.from),
         }
+    }
+
+    // Whether a transaction that begins then is told.
+    fn tells(&self, from: u64) -> bool
+        ensures { HasEveryTime self.now → result ≡ true }
+    {
+        match self.view.window {
+            Window {
+                from: None,
+                to: None,
+            } => true,
+            window => window.has(self.scale, from),
+        }
+    }
+
+    fn see_odd(&mut self, why: NoPath, from: u64) -> Result<(), AllocError>
+        ensures { OnOk result ((t : Recorded) → Sees self.old (t ∷ []) self.new) }
+    {
+        add_odd(&mut self.odd, why, 1, from)
     }
 
     fn see_path(
@@ -135,61 +162,129 @@ impl<'a> Sights<'a> {
         path: Vec<Step>,
         transaction: &Transaction,
         by: u32,
-    ) -> Result<(), AllocError> {
+    ) -> Result<(), AllocError>
+        ensures { OnOk result (Sees self.old (recorded transaction.now ∷ []) self.new) }
+    {
         let key = key_of(self.alloc, path.as_slice())?;
-        if let Some(place) = self.places.get(key.as_slice()).copied() {
-            return self.see_again(place, by);
+        match self.numbers.get(key.as_slice()).copied() {
+            Some(number) => self.see_again(number, transaction, by),
+            None => {
+                if self.is_in_brief(key.as_slice(), transaction, by)? {
+                    return Ok(());
+                }
+                self.see_new(key, path, transaction, by)
+            }
         }
-        let place = match self.explained_by(transaction)? {
-            Some(place) => place,
-            None => Place::New(self.sights.len()),
-        };
-        if self.places.insert(key, place).is_err() {
-            return Err(AllocError);
-        }
-        if let Place::New(_) = place {
-            self.sights.push(Sight {
-                path,
-                times: 0,
-                first: transaction.from,
-                by,
-            })?;
-        }
-        self.see_again(place, by)
     }
 
-    // Counts a path once more that was put there.
-    fn see_again(&mut self, place: Place, by: u32) -> Result<(), AllocError> {
+    // A path that is seen for the first time.
+    fn see_new(
+        &mut self,
+        key: Vec<u8>,
+        path: Vec<Step>,
+        transaction: &Transaction,
+        by: u32,
+    ) -> Result<(), AllocError>
+        ensures { OnOk result (Sees self.old (recorded transaction.now ∷ []) self.new) }
+    {
+        let number = self.sights.len();
+        if self.numbers.insert(key, number).is_err() {
+            return Err(AllocError);
+        }
+        self.sights.push(Sight {
+            path,
+            times: 0,
+            first: transaction.from,
+            by: 0,
+        })?;
+        self.see_again(number, transaction, by)
+    }
+
+    // The path with this number once more. One that the transaction does not have would count as none.
+    fn see_again(
+        &mut self,
+        number: usize,
+        transaction: &Transaction,
+        by: u32,
+    ) -> Result<(), AllocError>
+        ensures { OnOk result (Sees self.old (recorded transaction.now ∷ []) self.new) }
+    {
+        if !has_path(self.sights.as_slice(), number, transaction.marks.as_slice()) {
+            return self.see_odd(NoPath::Lost, transaction.from);
+        }
+        count_again(&mut self.sights, number, by);
+        Ok(())
+    }
+
+    // Whether a message of the brief before explains the transaction, with these bytes of its path: then it is counted there.
+    fn is_in_brief(
+        &mut self,
+        key: &[u8],
+        transaction: &Transaction,
+        by: u32,
+    ) -> Result<bool, AllocError>
+        ensures alone { IfOk result (λ is. self.old.before ≡ None → is ≡ false) }
+        ensures sights { OnOk result (paths_in self.new ≡ paths_in self.old) }
+        ensures odd { OnOk result (odd_in self.new ≡ odd_in self.old) }
+        ensures before { OnOk result (self.new.before ≡ self.old.before) }
+        ensures view { OnOk result (self.new.view ≡ self.old.view) }
+    {
+        let Some(before) = self.before else {
+            return Ok(false);
+        };
+        let place = match self.in_brief.get(key).copied() {
+            Some(place) => place,
+            None => match self.find_in_brief(before, key, transaction)? {
+                Some(place) => place,
+                None => return Ok(false),
+            },
+        };
+        self.see_in_brief(place, by)?;
+        Ok(true)
+    }
+
+    // What of the brief explains this transaction. It is kept.
+    fn find_in_brief(
+        &mut self,
+        before: &BriefBefore<'_>,
+        key: &[u8],
+        transaction: &Transaction,
+    ) -> Result<Option<InBrief>, AllocError>
+        ensures sights { OnOk result (self.new.sights ≡ self.old.sights) }
+        ensures odd { OnOk result (self.new.odd ≡ self.old.odd) }
+        ensures before { OnOk result (self.new.before ≡ self.old.before) }
+        ensures view { OnOk result (self.new.view ≡ self.old.view) }
+    {
+        let place = match before.explained(self.alloc, transaction)? {
+            Explained::Nowhere => return Ok(None),
+            Explained::Listed(message) => InBrief::Listed(message),
+            Explained::Unlisted(message) => InBrief::Unlisted(message),
+        };
+        let key = key.to_vec(self.alloc)?;
+        if self.in_brief.insert(key, place).is_err() {
+            return Err(AllocError);
+        }
+        Ok(Some(place))
+    }
+
+    // Counts one that the brief explains.
+    fn see_in_brief(&mut self, place: InBrief, by: u32) -> Result<(), AllocError>
+        ensures sights { OnOk result (self.new.sights ≡ self.old.sights) }
+        ensures odd { OnOk result (self.new.odd ≡ self.old.odd) }
+        ensures before { OnOk result (self.new.before ≡ self.old.before) }
+        ensures view { OnOk result (self.new.view ≡ self.old.view) }
+    {
         match place {
-            Place::New(number) => {
-                if let Some(sight) = self.sights.get_mut(number) {
-                    sight.times = sight.times.saturating_add(1);
-                    sight.by |= by;
-                }
-                return Ok(());
-            }
-            Place::Unlisted(message) => self.see_unlisted(message, by)?,
-            Place::Listed(message) => {
+            InBrief::Unlisted(message) => see_unlisted(&mut self.unlisted, message, by)?,
+            InBrief::Listed(message) => {
                 let others = self.not_listing(message, by);
                 if others != 0 {
-                    self.see_unlisted(message, others)?;
+                    see_unlisted(&mut self.unlisted, message, others)?;
                 }
             }
         }
         self.explained = self.explained.saturating_add(1);
         Ok(())
-    }
-
-    // What of the brief explains this transaction.
-    fn explained_by(&self, transaction: &Transaction) -> Result<Option<Place>, AllocError> {
-        let Some(before) = self.before else {
-            return Ok(None);
-        };
-        Ok(match before.explained(self.alloc, transaction)? {
-            Explained::Nowhere => None,
-            Explained::Listed(message) => Some(Place::Listed(message)),
-            Explained::Unlisted(message) => Some(Place::Unlisted(message)),
-        })
     }
 
     // Those of these controllers that do not list a message in the brief.
@@ -206,17 +301,43 @@ impl<'a> Sights<'a> {
         }
         others
     }
+}
 
-    fn see_unlisted(&mut self, message: u32, by: u32) -> Result<(), AllocError> {
-        for unlisted in self.unlisted.iter_mut() {
-            if unlisted.message == message {
-                unlisted.by |= by;
-                return Ok(());
-            }
+fn see_unlisted(unlisted: &mut Vec<Unlisted>, message: u32, by: u32) -> Result<(), AllocError> {
+    for other in unlisted.iter_mut() {
+        if other.message == message {
+            other.by |= by;
+            return Ok(());
         }
-        self.unlisted.push(Unlisted { message, by })?;
-        Ok(())
     }
+    unlisted.push(Unlisted { message, by })?;
+    Ok(())
+}
+
+// Whether the path with this number is that of a transaction with these marks.
+fn has_path(sights: &[Sight], number: usize, marks: &[Mark]) -> bool
+    ensures { result ≡ true → IsAmong (map path_seen sights.now) marks.now }
+{
+    match sights.get(number) {
+        Some(sight) => has_marks(sight.path.as_slice(), marks),
+        None => false,
+    }
+}
+
+// It was seen once more, of these controllers.
+fn count_again(sights: &mut Vec<Sight>, number: usize, by: u32)
+    ensures { map path_seen sights.new.items ≡ map path_seen sights.old.items }
+{
+    if let Some(sight) = sights.get_mut(number) {
+        sight.times = sight.times.saturating_add(1);
+        sight.by |= by;
+    }
+}
+
+fn is_stopped(until: Until) -> bool
+    ensures { IsStopped until → result ≡ true }
+{
+    matches!(until, Until::Stopped(_))
 }
 
 /// Counts transactions that are in no message for this reason.
@@ -225,13 +346,28 @@ pub(crate) fn add_odd(
     why: NoPath,
     times: u64,
     from: u64,
-) -> Result<(), AllocError> {
-    for odd in odds.iter_mut() {
-        if odd.why == why {
-            odd.times = odd.times.saturating_add(times);
-            return Ok(());
-        }
+) -> Result<(), AllocError>
+    ensures { OnOk result (odds.new.items ≢ []) }
+{
+    let Some(place) = place_of(odds.as_slice(), why) else {
+        return add_new(odds, why, times, from);
+    };
+    if let Some(odd) = odds.get_mut(place) {
+        odd.times = odd.times.saturating_add(times);
     }
+    Ok(())
+}
+
+// Where this reason stands.
+fn place_of(odds: &[Odd], why: NoPath) -> Option<usize>
+    ensures { IfSome result (λ place. odds.now ≢ []) }
+{
+    odds.iter().position(|odd| odd.why == why)
+}
+
+fn add_new(odds: &mut Vec<Odd>, why: NoPath, times: u64, from: u64) -> Result<(), AllocError>
+    ensures { OnOk result (odds.new.items ≢ []) }
+{
     odds.push(Odd {
         why,
         times,
@@ -240,10 +376,9 @@ pub(crate) fn add_odd(
     Ok(())
 }
 
-// Where a path was put: among those that are new, or with a message of the brief before.
+// The message of the brief before that explains a path: one that a controller lists, or another.
 #[derive(Clone, Copy)]
-enum Place {
-    New(usize),
+enum InBrief {
     Listed(u32),
     Unlisted(u32),
 }
@@ -278,9 +413,9 @@ fn is_collision(drove: Option<&Drove>, transaction: &Transaction) -> bool {
 }
 
 impl TransactionSink for Sights<'_> {
-    ghost use Rattle.decoding.specs.Sinks.{any_sink};
+    ghost use Rattle.lessons.specs.Seen.{seeing_sink};
 
-    ghost sink = { any_sink };
+    ghost sink = { seeing_sink };
 
     fn take(&mut self, transactions: &[Transaction]) -> Result<(), RunError> {
         let drove = match self.driving {

@@ -1,0 +1,15 @@
+use Rattle.std.proofs.Common.{◌<◌, [], ◌∷◌, length, subst, arith}
+use Rattle.capture_check.specs.Views.{recorded}
+use Rattle.capture_check.specs.declared.listening.Transaction.{Transaction}
+use Rattle.lessons.specs.Seen.{Sees}
+use Rattle.lessons.proofs.SeenLemmas.{sees_next}
+use Rattle.lessons.proofs.seen.SightsTransactionSink.take.Goals as goal
+
+pub loop-number-preserved : goal.loop-number-preserved
+loop-number-preserved c =
+    let ts = c.args.transactions.now in
+    let i = c.loop-number.number in
+    let b = c.loop-number.self in
+    let within : i < length ts = omega arith in
+    sees_next c.args.self.now b c.see.new.self ts i c.index-transactions-number.result within c.loop-number.invariant
+    (subst (λ (t : Transaction). Sees b (recorded t ∷ []) c.see.new.self) c.index-transactions-number.is c.in_ok-see.ensures)
