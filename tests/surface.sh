@@ -1,8 +1,9 @@
 #!/usr/bin/env bash
-# The public surface of the libraries, as tools/surface lists it: that it is the one of tests/expected/surface.txt, so that a
-# clause which is weakened or lost shows in the diff of a change. Where a change of the surface is wanted:
+# The public surface of the libraries, as tools/surface lists it: that each file has the part of it of which
+# tests/expected/surface.txt has the checksum, so that a clause which is weakened or lost shows. What differs from a commit is
+# shown by 'tools/surface --diff COMMIT'. Where a change of the surface is wanted:
 #
-#     tools/surface >tests/expected/surface.txt
+#     tools/surface --sums >tests/expected/surface.txt
 #
 # And that each mutant which the gate does not try (tests/mutants) still changes something. The last line is 'N passed, M failed',
 # and the exit status is 1 where a case fails. It needs no program.
@@ -29,8 +30,12 @@ want() {
 
 "$here/tools/surface" >found
 want "tools/surface"
-diff -u --label tests/expected/surface.txt --label found "$tests/expected/surface.txt" found
-want "another surface than tests/expected/surface.txt"
+"$here/tools/surface" --sums >sums
+want "tools/surface --sums"
+diff -u --label tests/expected/surface.txt --label found "$tests/expected/surface.txt" sums
+want "another surface than tests/expected/surface.txt: tools/surface --diff COMMIT shows what differs"
+[[ $(wc -l <sums) == $(grep -c '^== ' found) ]]
+want "a checksum for each file that is listed"
 
 # A copy of what is listed, in which lines are changed.
 mkdir -p copy
