@@ -220,7 +220,7 @@ fault "a word too many" three.plan three.cert a/m b/n
 
 # Help.
 help=$("$twire" bench --help)
-if [[ $? == 0 && $help == "$(cat "$tests/expected/bench_help.txt")" ]]; then
+if [[ $? == 0 && $help == "$(cat "$tests/../docs/help/bench.txt")" ]]; then
     passed=$((passed + 1))
 else
     failed=$((failed + 1))
@@ -233,8 +233,8 @@ expect "the example" 0 "wire 10010000l00000001l00100000ls
 won guard/write_alarm" "" "$examples/two_writers.plan" "$examples/two_writers.cert" main/write_limit,guard/write_alarm --answers 000000000000000000000000000
 
 # What the help shows is what the program writes.
-read -ra words < <(sed -n '/^  twire bench /{N;s/\n//;s/^  twire bench //;p}' "$tests/expected/bench_help.txt")
-expect "the example of the help" 0 "$(sed -n 's/^  \(wire [^ ]*\) .*/\1/p; s/^  \(won [^ ]*\) .*/\1/p' "$tests/expected/bench_help.txt")" "" \
+read -ra words < <(sed -n '/^  twire bench /{N;s/\n//;s/^  twire bench //;p}' "$tests/../docs/help/bench.txt")
+expect "the example of the help" 0 "$(sed -n 's/^  \(wire [^ ]*\) .*/\1/p; s/^  \(won [^ ]*\) .*/\1/p' "$tests/../docs/help/bench.txt")" "" \
     "$tests/../${words[0]}" "${words[@]:1}"
 
 # As many starters as there may be, and the longest run. 32 controllers send 256 headers, all acknowledged; 32 interrupts lose

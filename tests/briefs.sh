@@ -500,14 +500,14 @@ run "brief takes plans alone" brief wrong.brief --hints always
 
 # ---- Help.
 
-want 0 "$(cat "$tests/expected/expand_help.txt")" ""
+want 0 "$(cat "$tests/../docs/help/expand.txt")" ""
 run "help on expand" expand --help
 run "help on expand as a subcommand" help expand
-want 0 "$(cat "$tests/expected/brief_help.txt")" ""
+want 0 "$(cat "$tests/../docs/help/brief.txt")" ""
 run "help on brief" brief --help
 
 # The brief in the help is one.
-sed -n '/^brief 1$/,/^$/p' "$tests/expected/expand_help.txt" >help.brief
+sed -n '/^brief 1$/,/^$/p' "$tests/../docs/help/expand.txt" >help.brief
 want 0 "plan 2
 message page write 1010000 xxxx0000$(printf ' xxxxxxxx%.0s' {1..16}) stop$(printf ' else stop%.0s' {1..18}) ;
 message get write 1010000 xxxxxxxx xxxxxxxx again read 1010000 1..16 stop else stop else stop else stop else stop ;

@@ -262,7 +262,7 @@ for k in {1..20}; do
     { "$twire" help 2>>err; echo "$?" >status; } | head -n 1 >out
     [[ $(cat status) == 0 ]] || break
 done
-want 0 "$(head -n 1 "$tests/expected/help.txt")" ""
+want 0 "$(head -n 1 "$tests/../docs/help/twire.txt")" ""
 compare "the first line of the help alone"
 
 # With a closed standard error the status is left.
@@ -274,36 +274,36 @@ compare "closed standard error"
 
 # Command lines.
 
-cp "$tests/expected/help.txt" help.txt
+cp "$tests/../docs/help/twire.txt" help.txt
 want 0 "$(cat help.txt)" ""
 run "help" --help
 run "short help" -h
 run "help as a subcommand" help
-want 0 "$(cat "$tests/expected/check_help.txt")" ""
+want 0 "$(cat "$tests/../docs/help/check.txt")" ""
 run "help on check" check --help
 run "help on check as a subcommand" help check
-want 0 "$(cat "$tests/expected/certify_help.txt")" ""
+want 0 "$(cat "$tests/../docs/help/certify.txt")" ""
 run "help on certify" certify --help
-want 0 "$(cat "$tests/expected/verify_help.txt")" ""
+want 0 "$(cat "$tests/../docs/help/verify.txt")" ""
 run "help on verify" verify --help
-want 0 "$(cat "$tests/expected/order_help.txt")" ""
+want 0 "$(cat "$tests/../docs/help/order.txt")" ""
 run "help on order" order --help
-want 0 "$(cat "$tests/expected/print_help.txt")" ""
+want 0 "$(cat "$tests/../docs/help/print.txt")" ""
 run "help on print" print --help
-want 0 "$(cat "$tests/expected/capture_help.txt")" ""
+want 0 "$(cat "$tests/../docs/help/capture.txt")" ""
 run "help on capture" capture --help
-want 0 "$(cat "$tests/expected/decode_help.txt")" ""
+want 0 "$(cat "$tests/../docs/help/decode.txt")" ""
 run "help on decode" decode --help
-want 0 "$(cat "$tests/expected/signals_help.txt")" ""
+want 0 "$(cat "$tests/../docs/help/signals.txt")" ""
 run "help on signals" signals --help
-want 0 "$(cat "$tests/expected/learn_help.txt")" ""
+want 0 "$(cat "$tests/../docs/help/learn.txt")" ""
 run "help on learn" learn --help
-want 0 "$(cat "$tests/expected/page_help.txt")" ""
+want 0 "$(cat "$tests/../docs/help/page.txt")" ""
 run "help on page" page --help
 want 2 "" "$(cat help.txt)"
 run "no argument"
 
-awk 'length > 80 { print FILENAME ": " $0 }' "$tests"/expected/*help.txt >out
+awk 'length > 80 { print FILENAME ": " $0 }' "$tests"/../docs/help/*.txt >out
 echo 0 >status
 : >err
 want 0 "" ""
@@ -584,7 +584,7 @@ sed -n '/^  plan 1$/,/^$/s/^  //p' help.txt >help.plan
 "$twire" check help.plan >report 2>err
 echo "$?" >status
 head -n 1 report >out
-want 1 "$(sed -n 's/^  \(pair 0 .*\)/\1/p' "$tests/expected/check_help.txt")" ""
+want 1 "$(sed -n 's/^  \(pair 0 .*\)/\1/p' "$tests/../docs/help/check.txt")" ""
 compare "the plan in the help"
 
 # Each example says in its head how it is checked: a line '# twire check FILE (exit status N)', and below it the lines

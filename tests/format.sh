@@ -201,7 +201,7 @@ unparsed "standard input in place by its path" "'--in-place' wants a file, and s
 unparsed "two files" "unexpected argument 'text' found" text text
 unparsed "no file" "the following required arguments were not provided:"
 want "the help" 0 "$("$twire" format --help >found; echo $?)"
-same "the help" "$tests/expected/format_help.txt" found
+same "the help" "$tests/../docs/help/format.txt" found
 
 # ---- files
 
