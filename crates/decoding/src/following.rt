@@ -20,7 +20,7 @@ impl Decoder {
     ghost use Rattle.vcd_read.specs.Views.{asked};
     ghost use Rattle.decoding.specs.Decoding.{DecodesDump};
     ghost use Rattle.decoding.specs.Dumps.{PassesSoFar};
-    ghost use Rattle.decoding.specs.DecoderViews.{IsNew, Follows, StopsAt, StopsAtPiece, StopsAtEnd};
+    ghost use Rattle.decoding.specs.DecoderViews.{IsNew, Follows, FollowsAll, StopsAt, StopsAtPiece, StopsAtEnd};
 
     /// Nothing of the dump has been read. Levels that last less than this time are left out.
     pub(crate) fn new(
@@ -37,8 +37,8 @@ impl Decoder {
         })
     }
 
-    /// The next piece of the dump. The sink takes the transactions that end in it, before a refusal too. What is wrong with the
-    /// dump then is told beside the refusal.
+    /// The next piece of the dump. The sink takes all transactions that end in it, before a refusal too. What is wrong with
+    /// the dump then is told beside the refusal.
     pub(crate) fn feed<S: TransactionSink>(
         &mut self,
         alloc: Global,
@@ -49,7 +49,7 @@ impl Decoder {
         requires { S.needs }
         ensures fed { OnOk result ((start : S) (least : ℕ) (scl sda : Finder) (text : List ℕ) →
             Follows S.sink start least scl sda text self.old sink.old →
-            Follows S.sink start least scl sda (text ++ piece.now) self.new sink.new) }
+            FollowsAll S.sink start least scl sda (text ++ piece.now) self.new sink.new) }
         ensures passed { OnOk result ((start : S) (least : ℕ) (scl sda : Finder) (text : List ℕ) →
             Follows S.sink start least scl sda text self.old sink.old → PassesSoFar scl sda (text ++ piece.now)) }
         ensures stops { IfErr result (λ error. (start : S) (least : ℕ) (scl sda : Finder) (text : List ℕ) →
@@ -59,8 +59,10 @@ impl Decoder {
         match self.reader.feed(piece) {
             Ok(()) => self.hand_on(alloc, sink),
             Err(error) => {
+                let found = self.follower.follow(alloc, self.reader.samples())?;
                 *wrong = self.reader.take_wrong();
-                let _ = self.hand_on(alloc, sink);
+                // the refusal is answered, also where the sink stops
+                let _ = sink.take(found.as_slice());
                 Err(RunError::from(error))
             }
         }
@@ -71,7 +73,7 @@ impl Decoder {
         requires { S.needs }
         ensures handed { OnOk result ((start : S) (least : ℕ) (scl sda : Finder) (text : List ℕ) →
             Follows S.sink start least scl sda text self.old sink.old →
-            Follows S.sink start least scl sda text self.new sink.new) }
+            FollowsAll S.sink start least scl sda text self.new sink.new) }
         ensures stops { IfErr result (λ error. (start : S) (least : ℕ) (scl sda : Finder) (text : List ℕ) →
             Follows S.sink start least scl sda text self.old sink.old →
             StopsAt S.sink start least scl sda text sink.old error sink.new) }
@@ -94,7 +96,7 @@ impl Decoder {
             Follows S.sink start least scl sda text self sink.old →
             DecodesDump S.sink start least scl sda text sink.new) }
         ensures stops { IfErr result (λ error. (start : S) (least : ℕ) (scl sda : Finder) (text : List ℕ) →
-            Follows S.sink start least scl sda text self sink.old →
+            FollowsAll S.sink start least scl sda text self sink.old →
             StopsAtEnd S.sink start least scl sda text error sink.new) }
     {
         let Decoder {
