@@ -66,10 +66,10 @@ module _ {D : Type 0} (reader : Reader D) (start : D) where
         let long : 0 < length (take n buf) = omega (arith, length-take n buf) in
         let begun : HasBegun reader scl sda start reads on.text before = record { given = on.reading.read; passes = on.passes least scl sda new } in
         at_dump (refused_within few begun call long sound refuses) begins whole taken
-    feed_halts reads n buf before after decoder told end e on few call some most sound least scl sda new (both refuses begins whole taken why) =
+    feed_halts reads n buf before after decoder told end e on few call some most sound least scl sda new (both refuses begins whole taken why memory) =
         let long : 0 < length (take n buf) = omega (arith, length-take n buf) in
         let begun : HasBegun reader scl sda start reads on.text before = record { given = on.reading.read; passes = on.passes least scl sda new } in
-        at_both (refused_within few begun call long sound refuses) begins whole taken why
+        at_both (refused_within few begun call long sound refuses) begins whole taken why memory
     feed_halts reads n buf before after decoder told end e on few call some most sound least scl sda new (within passes begins taken why) =
         let long : 0 < length (take n buf) = omega (arith, length-take n buf) in
         at_sink {reads = suc reads} (omega (arith, few)) (record { given = next_read on.reading.read call long sound; passes = passes }) begins taken why

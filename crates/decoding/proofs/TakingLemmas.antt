@@ -41,6 +41,22 @@ begins_more least scl sda text piece ts begins more =
     let b = begins (on.0 ++ more) in
     (b.0, ap (quiet_transactions least) given ∙ b.1)
 
+memory_or_not : (e : RunError) → (e ≡ error.NoMemory) ⊎ (e ≢ error.NoMemory)
+memory_or_not (error.Plan e) = inr (λ same. cc)
+memory_or_not (error.Brief e) = inr (λ same. cc)
+memory_or_not (error.Vcd e) = inr (λ same. cc)
+memory_or_not (error.Bench e) = inr (λ same. cc)
+memory_or_not error.Workers = inr (λ same. cc)
+memory_or_not error.Read = inr (λ same. cc)
+memory_or_not error.Write = inr (λ same. cc)
+memory_or_not error.NoMemory = inl refl
+
+ok_no_memory : {R : Type 0} (it : R) → Ok it ≢ Err error.NoMemory
+ok_no_memory it same = cc
+
+the_error : {R : Type 0} (e : RunError) (r : Result R RunError) → r ≡ Err e → r ≡ Err error.NoMemory → e ≡ error.NoMemory
+the_error e r is same = cc
+
 pub on_ok : {X E : Type 0} (r : Result X E) {P Q : Type 0} → (P → Q) → OnOk r P → OnOk r Q
 on_ok (Ok x) f h = f h
 on_ok (Err e) f h = tt
@@ -126,22 +142,30 @@ module _ {S : Type 0} (sink : Sink S) (start : S) (least : ℕ) (scl sda : Finde
   piece_stops text piece d told end e f passes (stops_at begin taken why) = within passes begin taken why
 
   -- the piece is refused, and the sink took what ended before, or stopped there
-  refused_with : {R : Type 0} (text piece : List ℕ) (ts more : List Recorded) (told end : S) (e : RunError) (r : Result R RunError) → RefusesBeginning scl sda (text ++ piece) e → BeginsWith least scl sda (text ++ piece) (ts ++ more) → (e ≢ error.NoMemory → AreAllEnded least scl sda (text ++ piece) (ts ++ more)) → HasTaken sink start ts told → OnOk r (sink.takes told more end) → IfErr r (λ other. sink.stops told more other end) → StopsAtPiece sink start least scl sda text piece e end
-  refused_with text piece ts more told end e (Ok it) refuses begun all taken took stops =
-      refused refuses begun all (next_call taken took)
-  refused_with text piece ts more told end e (Err other) refuses begun all taken took stops =
-      both refuses begun all taken stops
+  refused_with : {R : Type 0} (text piece : List ℕ) (ts more : List Recorded) (told end : S) (e answered : RunError) (r : Result R RunError) → (r ≡ Err error.NoMemory → answered ≡ error.NoMemory) → (r ≢ Err error.NoMemory → answered ≡ e) → RefusesBeginning scl sda (text ++ piece) e → BeginsWith least scl sda (text ++ piece) (ts ++ more) → (e ≢ error.NoMemory → AreAllEnded least scl sda (text ++ piece) (ts ++ more)) → HasTaken sink start ts told → OnOk r (sink.takes told more end) → IfErr r (λ other. sink.stops told more other end) → StopsAtPiece sink start least scl sda text piece answered end
+  refused_with text piece ts more told end e answered (Ok it) memory refusal refuses begun all taken took stops =
+      subst (λ (a : RunError). StopsAtPiece sink start least scl sda text piece a end) (sym (refusal (ok_no_memory it)))
+      (refused refuses begun all (next_call taken took))
+  refused_with text piece ts more told end e answered (Err other) memory refusal refuses begun all taken took stops = go (memory_or_not other)
+    where
+      go : (other ≡ error.NoMemory) ⊎ (other ≢ error.NoMemory) → StopsAtPiece sink start least scl sda text piece answered end
+      go (inl is) =
+          subst (λ (a : RunError). StopsAtPiece sink start least scl sda text piece a end) (sym (memory (ap Err is)))
+          (both {error = error.NoMemory} tt begun (λ n. absurd (n refl)) taken stops (λ same. refl))
+      go (inr is_not) =
+          subst (λ (a : RunError). StopsAtPiece sink start least scl sda text piece a end) (sym (refusal (λ same. is_not (the_error other (Err other) refl same))))
+          (both refuses begun all taken stops (λ same. absurd (is_not same)))
 
   -- the piece is refused, or memory ran out and nothing of it was read; and the sink was handed what ended before
-  pub piece_refused : {R : Type 0} (text piece : List ℕ) (d mid : Decoder) (follower : QuietFollower) (samples : List Sample) (items slice : List Transaction) (told end : S) (v : VcdError) (r : Result R RunError) → (f : Follows sink start least scl sda text d told) → mid.follower ≡ d.follower → (v ≡ NoMemory) ⊎ Fed scl sda (text ++ piece) f.cleared (reading_of mid.reader) → (v ≡ NoMemory → reading_of mid.reader ≡ reading_of d.reader) → RefusesBeginning scl sda (text ++ piece) (vcd_error v) → samples ≡ (reading_of mid.reader).kept.samples → slice ≡ items → ((more : List Sample) → map recorded items ++ quiet_behind follower more ≡ quiet_behind mid.follower (samples ++ more)) → (HasHandedOut mid.follower → HasHandedOut follower) → OnOk r (sink.takes told (map recorded slice) end) → IfErr r (λ other. sink.stops told (map recorded slice) other end) → StopsAtPiece sink start least scl sda text piece (vcd_error v) end
-  piece_refused text piece d mid follower samples items slice told end v r f same (inl none) kept refuses these alike followed out took stops =
+  pub piece_refused : {R : Type 0} (text piece : List ℕ) (d mid : Decoder) (follower : QuietFollower) (samples : List Sample) (items slice : List Transaction) (told end : S) (v : VcdError) (answered : RunError) (r : Result R RunError) → (f : Follows sink start least scl sda text d told) → mid.follower ≡ d.follower → (v ≡ NoMemory) ⊎ Fed scl sda (text ++ piece) f.cleared (reading_of mid.reader) → (v ≡ NoMemory → reading_of mid.reader ≡ reading_of d.reader) → RefusesBeginning scl sda (text ++ piece) (vcd_error v) → samples ≡ (reading_of mid.reader).kept.samples → slice ≡ items → ((more : List Sample) → map recorded items ++ quiet_behind follower more ≡ quiet_behind mid.follower (samples ++ more)) → (HasHandedOut mid.follower → HasHandedOut follower) → OnOk r (sink.takes told (map recorded slice) end) → IfErr r (λ other. sink.stops told (map recorded slice) other end) → (r ≡ Err error.NoMemory → answered ≡ error.NoMemory) → (r ≢ Err error.NoMemory → answered ≡ vcd_error v) → StopsAtPiece sink start least scl sda text piece answered end
+  piece_refused text piece d mid follower samples items slice told end v answered r f same (inl none) kept refuses these alike followed out took stops memory refusal =
       let on = read_on text text d mid told f (subst (Fed scl sda text f.cleared) (sym (kept none)) f.fed) same in
       let begun = begins_more least scl sda text piece (on.done ++ map recorded slice) (found text mid follower samples items slice told on these alike followed) in
-      refused_with text piece on.done (map recorded slice) told end (vcd_error v) r refuses begun (λ n. absurd (n (ap vcd_error none))) on.taken took stops
-  piece_refused text piece d mid follower samples items slice told end v r f same (inr fed) kept refuses these alike followed out took stops =
+      refused_with text piece on.done (map recorded slice) told end (vcd_error v) answered r memory refusal refuses begun (λ n. absurd (n (ap vcd_error none))) on.taken took stops
+  piece_refused text piece d mid follower samples items slice told end v answered r f same (inr fed) kept refuses these alike followed out took stops memory refusal =
       let whole = text ++ piece in
       let on = read_on text whole d mid told f fed same in
-      refused_with text piece on.done (map recorded slice) told end (vcd_error v) r refuses
+      refused_with text piece on.done (map recorded slice) told end (vcd_error v) answered r memory refusal refuses
       (found whole mid follower samples items slice told on these alike followed)
       (λ n. found_all whole mid follower samples items slice told on these alike followed (out on.out))
       on.taken took stops

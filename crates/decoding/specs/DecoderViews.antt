@@ -59,6 +59,7 @@ module _ {S : Type 0} (sink : Sink S) (start : S) (least : ℕ) (scl sda : Finde
         (error ≢ NoMemory → AreAllEnded least scl sda (text ++ piece) (ts ++ more)) →
         HasTaken sink start ts last →
         sink.stops last more second_error told →
+        (second_error ≡ NoMemory → error ≡ NoMemory) →
         StopsAtPiece text piece error told
     within : {error : RunError} {ts more : List Recorded} {last told : S} →
         PassesSoFar scl sda (text ++ piece) →

@@ -39,8 +39,8 @@ module _ {S : Type 0} (sink : Sink S) (start : S) (least : ℕ) (scl sda : Finde
       pub decodes : DecodesDump dump told
 
     -- Why the decoding of a dump goes no further. The reading halted, and the sink has taken all transactions that had ended
-    -- in all that was given, or, where memory ran out, the first of them; or there it stopped too. Or the sink stopped at
-    -- those that came next, within the dump or at its end.
+    -- in all that was given, or, where memory ran out, the first of them; or there it stopped too, and the answer is its own
+    -- where it had no memory. Or the sink stopped at those that came next, within the dump or at its end.
     pub data HaltsAtDecoding : RunError → E → S → Type 0 where
       at_dump : {error : RunError} {now : E} {ts : List Recorded} {told : S} →
           (halts : HaltsAtDump second scl sda before error now) →
@@ -54,6 +54,7 @@ module _ {S : Type 0} (sink : Sink S) (start : S) (least : ℕ) (scl sda : Finde
           (error ≢ NoMemory → AreAllEnded least scl sda (given_by_then second halts) (ts ++ more)) →
           HasTaken sink start ts last →
           sink.stops last more second_error told →
+          (second_error ≡ NoMemory → error ≡ NoMemory) →
           HaltsAtDecoding error now told
       at_sink : {error : RunError} {reads : ℕ} {text : List ℕ} {now : E} {ts more : List Recorded} {last told : S} →
           reads ≤ most_reads →

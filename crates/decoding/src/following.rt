@@ -1,5 +1,8 @@
 // A dump that comes in pieces, from its bytes to its transactions.
 
+ghost use Rattle.std.specs.Prelude.{◌≡◌, ◌≢◌, Err};
+ghost use Rattle.run_parts.specs.declared.errors.RunError.TheVariants.{NoMemory};
+
 use crate::runs::Ending;
 use crate::sinks::TransactionSink;
 use pulses::QuietFollower;
@@ -61,9 +64,8 @@ impl Decoder {
             Err(error) => {
                 let found = self.follower.follow(alloc, self.reader.samples())?;
                 *wrong = self.reader.take_wrong();
-                // the refusal is answered, also where the sink stops
-                let _ = sink.take(found.as_slice());
-                Err(RunError::from(error))
+                let taken = sink.take(found.as_slice());
+                Err(refused_with(&taken, RunError::from(error)))
             }
         }
     }
@@ -118,5 +120,17 @@ impl Decoder {
             idle: follower.idle(),
             rises: follower.rises(),
         })
+    }
+}
+
+// What is answered where a dump is refused, and the sink was handed what had ended: the refusal, but where the sink had no
+// memory, since some of it may then be missing.
+fn refused_with(taken: &Result<(), RunError>, refusal: RunError) -> RunError
+    ensures memory { taken.now ≡ Err NoMemory → result ≡ NoMemory }
+    ensures refusal { taken.now ≢ Err NoMemory → result ≡ refusal }
+{
+    match taken {
+        Err(error) if *error == RunError::NoMemory => RunError::NoMemory,
+        _ => refusal,
     }
 }

@@ -34,7 +34,8 @@ pub struct Ending {
 /// # Errors
 ///
 /// `Read` where the reader failed or gave no end, `Vcd` with the first refusal of the dump, also where the sink stops at
-/// what had ended before it, `NoMemory` where an allocation fails, and else what the sink answers where it stops.
+/// what had ended before it, `NoMemory` where an allocation fails, in the sink too, and else what the sink answers where it
+/// stops.
 pub fn decode<J: Input, S: TransactionSink>(
     alloc: Global,
     vcd: &mut J,

@@ -1,4 +1,4 @@
-use Rattle.std.proofs.Common.{List, ℕ, ◌++◌, Err, ap, sym, subst, refl}
+use Rattle.std.proofs.Common.{List, ℕ, ◌++◌, Err, ap, refl, ◌∙◌}
 use Rattle.vcd_read.specs.Probes.{Finder}
 use Rattle.decoding.specs.DecoderViews.{Follows, StopsAt, StopsAtPiece}
 use Rattle.decoding.specs.declared.following.Decoder.{Decoder}
@@ -13,13 +13,13 @@ returns-in_ok-found-in-Err-clause-stops g c = λ start least scl sda text f.
     let sink = g.S.TransactionSink.sink in
     let piece = c.args.piece.now in
     let told = c.args.sink.now in
-    let end = c.take.new.self in
+    let end = c.take-taken.new.self in
     let mid : Decoder = record { reader = c.feed.new.self; follower = c.args.self.now.follower } in
     let error = c.in-Err.error in
-    subst (λ e. StopsAtPiece sink start least scl sda text piece e end) (sym c.from.ensures)
-    (piece_refused sink start least scl sda text piece c.args.self.now mid c.follow.new.self c.samples.result.now c.in_ok-found-in-Err.found.items c.as_slice.result.now told end error c.take.result f refl (c.in-Err.ensures.fed scl sda text f.cleared f.fed) (λ none. c.in-Err.ensures.memory (ap Err none))
+    piece_refused sink start least scl sda text piece c.args.self.now mid c.follow.new.self c.samples.result.now c.in_ok-found-in-Err.found.items c.as_slice.result.now told end error c.refused_with.result c.take-taken.result f refl (c.in-Err.ensures.fed scl sda text f.cleared f.fed) (λ none. c.in-Err.ensures.memory (ap Err none))
     (refuses_beginning scl sda (text ++ piece) error (c.in-Err.ensures.told scl sda text f.cleared f.fed))
-    c.samples.ensures.samples c.as_slice.ensures.value c.in_ok-found-in-Err.ensures.found c.in_ok-found-in-Err.ensures.handed_out c.take.ensures.taken c.take.ensures.stops)
+    c.samples.ensures.samples c.as_slice.ensures.value c.in_ok-found-in-Err.ensures.found c.in_ok-found-in-Err.ensures.handed_out c.take-taken.ensures.taken c.take-taken.ensures.stops
+    c.refused_with.ensures.memory (λ n. c.refused_with.ensures.refusal n ∙ c.from.ensures)
 
 pub returns-in_err-found-in-Err-clause-stops : goal.returns-in_err-found-in-Err-clause-stops
 returns-in_err-found-in-Err-clause-stops g c =
