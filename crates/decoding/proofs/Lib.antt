@@ -1,3 +1,4 @@
 pub mod DumpLemmas
+pub mod EndedLemmas
 pub mod TakingLemmas
 pub mod DecodingLemmas
