@@ -11,7 +11,6 @@ use Rattle.plan_core.specs.declared.plans.Plan.{Plan}
 use Rattle.plan_text.specs.Grammar.{Spells}
 use Rattle.cert_check.specs.Accepts.{IsAnswer}
 use Rattle.verifying.proofs.AcceptLemmas.{answers_texts}
-use Rattle.cert_check.specs.Holds.{accepted_plan}
 use Rattle.cert_check.specs.declared.answers.Answer.TheVariants.{Safe}
 use Rattle.cert_check.specs.declared.answers.Answered.{Answered}
 use Rattle.bus_bench.specs.declared.finishing.Played.{Played}

@@ -1,9 +1,9 @@
 -- What is due of what came of a rehearsal, and how a run ends by how its rehearsal ends.
-use Rattle.std.proofs.Common.{◌≡◌, ◌⊎◌, ◌∙◌, inl, inr, ℕ, Bool, List, Option, Some, None, Result, Ok, Err, IfOk, IfErr, IfSome, refl, ap, sym, subst}
+use Rattle.std.proofs.Common.{◌≡◌, ◌⊎◌, ◌∙◌, inl, inr, ℕ, Bool, List, Option, Some, None, Result, Ok, Err, IfOk, IfErr, IfSome, ap, sym, subst}
 use Rattle.std.specs.Prelude.{Vec}
 use Rattle.std.specs.declared.alloc.Global.{Global}
 use Rattle.bench_run.specs.Lines.{rehearsal_lines}
-use Rattle.bench_run.specs.Outcomes.{IsOutcomeOf, IsUnplayedOf, outcome_lines, outcome_status}
+use Rattle.bench_run.specs.Outcomes.{IsOutcomeOf, IsUnplayedOf, outcome_status}
 use Rattle.bench_run.specs.Rehearsals.{RefusesStarters}
 use Rattle.bench_run.specs.declared.values.Outcome.{Outcome}
 use Rattle.bench_run.specs.declared.values.Outcome.TheVariants as outcome

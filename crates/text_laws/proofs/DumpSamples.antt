@@ -1,11 +1,11 @@
 -- The samples of a dump, stamp by stamp: none is earlier than its stamp, and each has a change.
-use Rattle.std.proofs.Common.{◌≡◌, ℕ, ◌<◌, ◌≤◌, inl, inr, Bool, true, false, ◌&&◌, List, [], ◌∷◌, ◌++◌, Ok, refl, ap, sym, ◌∙◌, subst, arith}
+use Rattle.std.proofs.Common.{◌≡◌, ℕ, ◌<◌, ◌≤◌, inl, inr, Bool, true, false, ◌&&◌, List, [], ◌∷◌, ◌++◌, Ok, refl, sym, subst, arith}
 use Rattle.std.specs.Prelude.{if◌then◌else◌}
 use Rattle.pulses.specs.Laws.{AreInOrder, AreChanges}
 use Rattle.pulses.proofs.LevelLemmas.{same, alike}
 use Rattle.vcd_read.specs.Changes.{same_level}
 use Rattle.vcd_read.specs.Dumps.{samples_of}
-use Rattle.vcd_read.specs.Grammar.{Named, Stamp, AreStamps, level_after, sample_at, stamp_samples, line_for, dump_samples, Spells}
+use Rattle.vcd_read.specs.Grammar.{Named, Stamp, AreStamps, level_after, sample_at, stamp_samples, line_for, Spells}
 use Rattle.vcd_read.specs.Probes.{Finder}
 use Rattle.vcd_read.specs.Tokens.{tokens_of}
 use Rattle.vcd_read.specs.declared.samples.Level.{Level}

@@ -1,4 +1,3 @@
-use Rattle.std.proofs.Common.{ℕ, List, Bool}
 use Rattle.bench_run.specs.Outcomes.{IsOutcomeOf}
 use Rattle.plan_core.specs.PlanContents.{plan_contents}
 use Rattle.plan_core.proofs.PlanLemmas.{limits_of}

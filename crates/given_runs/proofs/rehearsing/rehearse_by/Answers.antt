@@ -1,4 +1,4 @@
-use Rattle.std.proofs.Common.{ℕ, List, Bool, ap, sym, subst, ◌∙◌}
+use Rattle.std.proofs.Common.{ap, sym, subst, ◌∙◌}
 use Rattle.bench_run.specs.Outcomes.{IsOutcomeOf}
 use Rattle.given_plans.specs.declared.plans.Halted.{Halted}
 use Rattle.plan_core.specs.PlanContents.{plan_contents}
