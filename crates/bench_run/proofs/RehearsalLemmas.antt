@@ -1,6 +1,7 @@
 -- What a run knows of the bench that it has played, or has not opened.
-use Rattle.std.proofs.Common.{◌≡◌, ◌≢◌, ◌⊎◌, ◌<◌, ℕ, Bool, Option, Some, None, List, ap, sym, ◌∙◌, subst, inl, inr}
-use Rattle.std.specs.Prelude.{Contains, filter}
+use Rattle.std.proofs.Common.{◌≡◌, ◌≢◌, ◌⊎◌, ◌<◌, ℕ, Bool, Option, Some, None, Result, Ok, Err, IfOk, IfErr, List, ap, sym, ◌∙◌, subst, inl, inr}
+use Rattle.std.specs.Prelude.{Contains, filter, string_bytes, String}
+use Rattle.std.specs.declared.alloc.Global.{Global}
 use Rattle.message_tree.specs.declared.items.Item.{Item}
 use Rattle.plan_core.specs.Contents.{Contents}
 use Rattle.plan_core.specs.Participants.{participant_count}
@@ -10,8 +11,6 @@ use Rattle.plan_core.specs.declared.plans.Plan.{Plan}
 use Rattle.plan_text.specs.Grammar.{Spells}
 use Rattle.cert_check.specs.Accepts.{IsAnswer}
 use Rattle.verifying.proofs.AcceptLemmas.{answers_texts}
-use Rattle.cert_check.specs.Holds.{accepted_plan}
-use Rattle.cert_check.specs.declared.accepted.Accepted.{Accepted}
 use Rattle.cert_check.specs.declared.answers.Answer.TheVariants.{Safe}
 use Rattle.cert_check.specs.declared.answers.Answered.{Answered}
 use Rattle.bus_bench.specs.declared.finishing.Played.{Played}
@@ -31,10 +30,11 @@ use Rattle.run_parts.specs.declared.errors.RunError.{RunError}
 use Rattle.run_parts.specs.declared.errors.RunError.TheVariants as memory
 use Rattle.run_parts.specs.declared.runs.Status.{Status}
 use Rattle.bench_run.specs.Filled.{IsRehearsed}
-use Rattle.bench_run.specs.Outcomes.{IsRunOf, IsRehearsalOf, IsRefusalOf, IsOutcomeOf, outcome_lines, outcome_status}
-use Rattle.bench_run.specs.declared.values.Rehearsal.{Rehearsal}
+use Rattle.bench_run.specs.Lines.{rehearsal_lines}
+use Rattle.bench_run.specs.Outcomes.{IsRunOf, IsPlayedOf, IsRefusalOf, IsOutcomeOf, IsUnplayedOf, outcome_lines, outcome_status}
 use Rattle.bench_run.specs.declared.values.Outcome.{Outcome}
 use Rattle.bench_run.specs.declared.values.Outcome.TheVariants as outcome
+use Rattle.bench_run.specs.declared.values.Unplayed.{Unplayed}
 use Rattle.bench_run.specs.Rehearsals.{Rehearsed, RefusesStarters, IsNotOpened, HaltsAtBench, at_texts, at_starters}
 use Rattle.bench_run.proofs.WonLemmas.{won_below}
 use Rattle.bench_run.specs.Starters.{labels_in, AreNumbersOf, bits_in}
@@ -79,35 +79,36 @@ refuses_starters plan text numbers slice e named same h = by_case e (subst (λ (
     by_case Never k = (numbers, named, due_is (starters_refusal plan numbers) Never k (λ e. cc))
 
 -- the certificate proves the plan, and the bench was played
-pub rehearses : (plan : Plan) (accepted : Accepted) (starters cert : List ℕ) (answers : List Bool) (fill : Bool) (it : Rehearsal) → it.accepted ≡ accepted → it.fill ≡ fill →
-    accepted_plan accepted ≡ plan → IsAnswer (plan_contents plan) cert Safe →
-    IsRunOf (plan_contents (accepted_plan accepted)) starters answers fill it.starters.items it.played →
-    (text : List ℕ) → Spells text (plan_contents plan) → IsRehearsalOf starters answers fill (text, cert) it
-rehearses plan accepted starters cert answers fill it is_it filled same safe run text spelled =
-    let plan_is : accepted_plan it.accepted ≡ plan = ap accepted_plan is_it ∙ same in
-    record {
-      spelled = subst (λ (p : Plan). Spells text (plan_contents p)) (sym plan_is) spelled;
-      certified = answers_texts (plan_contents plan) cert Safe safe text spelled;
-      filled = filled;
-      run = subst (λ (a : Accepted). IsRunOf (plan_contents (accepted_plan a)) starters answers fill it.starters.items it.played) (sym is_it) run;
-    }
+pub rehearses : (plan : Plan) (starters cert : List ℕ) (answers : List Bool) (fill : Bool) (it : Outcome) → IsAnswer (plan_contents plan) cert Safe →
+    IsPlayedOf plan starters answers fill it → IsOutcomeOf (plan_contents plan) starters answers fill cert it
+rehearses plan starters cert answers fill (outcome.Played it) safe h =
+    record { same_plan = ap plan_contents h.0; certified = safe; filled = h.1; run = h.2 }
+rehearses plan starters cert answers fill (outcome.NotAccepted it) safe h = absurd h
+
+-- the same of what came of the plan that was accepted
+pub rehearsed_by : (plan accepted : Plan) (starters cert : List ℕ) (answers : List Bool) (fill : Bool) (r : Result Outcome Unplayed) → accepted ≡ plan → IsAnswer (plan_contents plan) cert Safe →
+    IfOk r (IsPlayedOf accepted starters answers fill) → IfOk r (IsOutcomeOf (plan_contents plan) starters answers fill cert)
+rehearsed_by plan accepted starters cert answers fill (Ok it) same safe h =
+    rehearses plan starters cert answers fill it safe (subst (λ (p : Plan). IsPlayedOf p starters answers fill it) same h)
+rehearsed_by plan accepted starters cert answers fill (Err e) same safe h = tt
+
+pub unplayed_by : (plan accepted : Plan) (starters cert : List ℕ) (r : Result Outcome Unplayed) → accepted ≡ plan → IsAnswer (plan_contents plan) cert Safe →
+    IfErr r (λ e. RefusesStarters (plan_contents accepted) starters e.error × (e.plan ≡ Some accepted)) → IfErr r (IsUnplayedOf plan starters cert)
+unplayed_by plan accepted starters cert (Ok it) same safe h = tt
+unplayed_by plan accepted starters cert (Err e) same safe h =
+    inr (safe, subst (λ (p : Plan). RefusesStarters (plan_contents p) starters e.error) same h.0, h.1 ∙ ap Some same)
 
 -- the certificate has another answer
-pub not_accepted : (plan : Plan) (cert : List ℕ) (it : Answered) → it.plan ≡ plan → (it.answer ≢ Safe) × IsAnswer (plan_contents plan) cert it.answer →
-    (text : List ℕ) → Spells text (plan_contents plan) → IsRefusalOf (text, cert) it
-not_accepted plan cert it same right text spelled = record {
-  spelled = subst (λ (p : Plan). Spells text (plan_contents p)) (sym same) spelled;
-  other = right.0;
-  right = answers_texts (plan_contents plan) cert it.answer right.1 text spelled;
-}
+pub not_accepted : (plan : Plan) (cert : List ℕ) (it : Answered) → it.plan ≡ plan → (it.answer ≢ Safe) × IsAnswer (plan_contents plan) cert it.answer → IsRefusalOf (plan_contents plan) cert it
+not_accepted plan cert it same right = record { same_plan = ap plan_contents same; other = right.0; right = right.1 }
 
--- what is due of what came of it
-pub due_of : (starters answers report : List ℕ) (fill : Bool) (texts : List ℕ × List ℕ) (status : Status) (it : Outcome) →
-    IsOutcomeOf starters (bits_in answers) fill texts it → report ≡ outcome_lines it → status ≡ outcome_status it → Rehearsed starters answers fill texts report status
-due_of starters answers report fill texts status (outcome.Played it) h lines ended = inr (record {
-  plan = plan_contents (accepted_plan it.accepted);
-  spelled = h.spelled;
-  certified = h.certified;
+-- what is due of what came of it, for a text that spells the plan
+pub due_of : (starters answers report : List ℕ) (fill : Bool) (plan : Contents) (text cert : List ℕ) (status : Status) (it : Outcome) → Spells text plan →
+    IsOutcomeOf plan starters (bits_in answers) fill cert it → report ≡ outcome_lines it → status ≡ outcome_status it → Rehearsed starters answers fill (text, cert) report status
+due_of starters answers report fill plan text cert status (outcome.Played it) spelled h lines ended = inr (record {
+  plan = plan;
+  spelled = spelled;
+  certified = answers_texts plan cert Safe h.certified text spelled;
   played = record {
     numbers = it.starters.items;
     named = h.run.named;
@@ -115,26 +116,38 @@ due_of starters answers report fill texts status (outcome.Played it) h lines end
     wire = it.played.wire.items;
     won = it.played.won.items;
     rehearsed = h.run.rehearsed;
-    lines = lines;
+    lines = lines ∙ ap (λ (p : Contents). rehearsal_lines p it.played.wire.items it.played.won.items) h.same_plan;
   };
   ended = ended;
 })
-due_of starters answers report fill texts status (outcome.NotAccepted it) h lines ended = inl (record {
+due_of starters answers report fill plan text cert status (outcome.NotAccepted it) spelled h lines ended = inl (record {
   answer = it.answer;
   other = h.other;
-  right = h.right;
+  right = answers_texts plan cert it.answer h.right text spelled;
   line = lines;
   ended = ended;
 })
 
-pub not_opened : (plan accepted : Plan) (starters cert : List ℕ) (error : RunError) → accepted ≡ plan → IsAnswer (plan_contents plan) cert Safe →
-    RefusesStarters (plan_contents accepted) starters error →
-    (text : List ℕ) → Spells text (plan_contents plan) → (error ≡ memory.NoMemory) ⊎ IsNotOpened starters (text, cert) error
-not_opened plan accepted starters cert error same safe refused text spelled = inr (record {
+-- the same of what was written of it
+pub due_when_written : (starters answers : List ℕ) (fill : Bool) (plan : Contents) (cert : List ℕ) (it : Outcome) (r : Result (String Global × Status) RunError) →
+    IsOutcomeOf plan starters (bits_in answers) fill cert it → IfOk r (λ x. string_bytes x.0 ≡ outcome_lines it) → IfOk r (λ x. x.1 ≡ outcome_status it) →
+    IfOk r (λ x. (text : List ℕ) → Spells text plan → Rehearsed starters answers fill (text, cert) (string_bytes x.0) x.1)
+due_when_written starters answers fill plan cert it (Ok x) h lines ended = λ text spelled. due_of starters answers (string_bytes x.0) fill plan text cert x.1 it spelled h lines ended
+due_when_written starters answers fill plan cert it (Err e) h lines ended = tt
+
+-- what was not written, since an allocation failed
+pub no_report : {X : Type 0} (plan : Contents) (starters cert : List ℕ) (r : Result X RunError) → IfErr r (λ e. e ≡ memory.NoMemory) →
+    IfErr r (λ e. (text : List ℕ) → Spells text plan → (e ≡ memory.NoMemory) ⊎ IsNotOpened starters (text, cert) e)
+no_report plan starters cert (Ok x) h = tt
+no_report plan starters cert (Err e) h = λ text spelled. inl h
+
+pub not_opened : (plan : Plan) (starters cert text : List ℕ) (it : Unplayed) → Spells text (plan_contents plan) → IsUnplayedOf plan starters cert it → (it.error ≡ memory.NoMemory) ⊎ IsNotOpened starters (text, cert) it.error
+not_opened plan starters cert text it spelled (inl none) = inl none.0
+not_opened plan starters cert text it spelled (inr h) = inr (record {
   plan = plan_contents plan;
   spelled = spelled;
-  certified = answers_texts (plan_contents plan) cert Safe safe text spelled;
-  refused = subst (λ (p : Plan). RefusesStarters (plan_contents p) starters error) same refused;
+  certified = answers_texts (plan_contents plan) cert Safe h.0 text spelled;
+  refused = h.1;
 })
 
 -- whoever has won is a participant

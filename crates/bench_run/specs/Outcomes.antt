@@ -1,22 +1,25 @@
 -- What a rehearsal comes to, and its lines.
-use Rattle.std.specs.Prelude.{◌≡◌, ◌≢◌, ℕ, ◌<◌, Bool, List, Contains, None, ⊤}
+use Rattle.std.specs.Prelude.{◌≡◌, ◌≢◌, ◌⊎◌, ℕ, ◌<◌, Bool, List, Contains, Some, None, ⊤}
 use Rattle.plan_core.specs.Contents.{Contents}
 use Rattle.plan_core.specs.Participants.{participant_count}
 use Rattle.plan_core.specs.PlanContents.{plan_contents}
-use Rattle.plan_text.specs.Grammar.{Spells}
-use Rattle.verifying.specs.Accepts.{IsCertified, AnswersBytes}
+use Rattle.plan_core.specs.declared.plans.Plan.{Plan}
+use Rattle.cert_check.specs.Accepts.{IsAnswer}
 use Rattle.cert_check.specs.Holds.{accepted_plan}
 use Rattle.cert_check.specs.declared.answers.Answer.TheVariants.{Safe}
 use Rattle.cert_check.specs.declared.answers.Answered.{Answered}
 use Rattle.bus_bench.specs.declared.finishing.Played.{Played}
 use Rattle.plays.specs.Starters.{starters_refusal}
 use Rattle.report.specs.Answers.{verify_line, answer_status}
+use Rattle.run_parts.specs.declared.errors.RunError.TheVariants.{NoMemory}
 use Rattle.run_parts.specs.declared.runs.Status.{Status}
 use Rattle.run_parts.specs.declared.runs.Status.TheVariants.{Good}
 use Rattle.bench_run.specs.Filled.{IsRehearsed}
 use Rattle.bench_run.specs.Lines.{rehearsal_lines}
+use Rattle.bench_run.specs.Rehearsals.{RefusesStarters}
 use Rattle.bench_run.specs.Starters.{labels_in, AreNumbersOf}
 use Rattle.bench_run.specs.declared.values.Rehearsal.{Rehearsal}
+use Rattle.bench_run.specs.declared.values.Unplayed.{Unplayed}
 use Rattle.bench_run.specs.declared.values.Outcome.{Outcome}
 use Rattle.bench_run.specs.declared.values.Outcome.TheVariants as outcome
 
@@ -31,22 +34,37 @@ pub record IsRunOf (plan : Contents) (starters : List ℕ) (answers : List Bool)
 abbrev pub AreParticipants : Contents → List ℕ → Type 0
 AreParticipants plan won = (p : ℕ) → Contains won p → p < participant_count plan
 
--- the texts are those of this plan and of a certificate that proves it safe, and this is the run of its starters
-pub record IsRehearsalOf (starters : List ℕ) (answers : List Bool) (fill : Bool) (texts : List ℕ × List ℕ) (it : Rehearsal) : Type 0 where
-  pub spelled : Spells texts.0 (plan_contents (accepted_plan it.accepted))
-  pub certified : IsCertified texts.0 texts.1
+-- the text of the certificate proves that this plan is safe, and this is the run of its starters
+pub record IsRehearsalOf (plan : Contents) (starters : List ℕ) (answers : List Bool) (fill : Bool) (cert : List ℕ) (it : Rehearsal) : Type 0 where
+  pub same_plan : plan_contents (accepted_plan it.accepted) ≡ plan
+  pub certified : IsAnswer plan cert Safe
   pub filled : it.fill ≡ fill
-  pub run : IsRunOf (plan_contents (accepted_plan it.accepted)) starters answers fill it.starters.items it.played
+  pub run : IsRunOf plan starters answers fill it.starters.items it.played
 
--- the first text is that of this plan, and both have another answer than `accepted safe`
-pub record IsRefusalOf (texts : List ℕ × List ℕ) (it : Answered) : Type 0 where
-  pub spelled : Spells texts.0 (plan_contents it.plan)
+-- this is the run of the starters of this plan
+abbrev pub IsPlayedOf : Plan → List ℕ → List Bool → Bool → Outcome → Type 0
+IsPlayedOf plan starters answers fill (outcome.Played it) =
+    (accepted_plan it.accepted ≡ plan) × (it.fill ≡ fill) × IsRunOf (plan_contents plan) starters answers fill it.starters.items it.played
+IsPlayedOf plan starters answers fill (outcome.NotAccepted it) = ⊥
+
+-- the text of the certificate has another answer for this plan
+pub record IsRefusalOf (plan : Contents) (cert : List ℕ) (it : Answered) : Type 0 where
+  pub same_plan : plan_contents it.plan ≡ plan
   pub other : it.answer ≢ Safe
-  pub right : AnswersBytes texts.0 texts.1 it.answer
+  pub right : IsAnswer plan cert it.answer
 
-abbrev pub IsOutcomeOf : List ℕ → List Bool → Bool → List ℕ × List ℕ → Outcome → Type 0
-IsOutcomeOf starters answers fill texts (outcome.Played it) = IsRehearsalOf starters answers fill texts it
-IsOutcomeOf starters answers fill texts (outcome.NotAccepted it) = IsRefusalOf texts it
+abbrev pub IsOutcomeOf : Contents → List ℕ → List Bool → Bool → List ℕ → Outcome → Type 0
+IsOutcomeOf plan starters answers fill cert (outcome.Played it) = IsRehearsalOf plan starters answers fill cert it
+IsOutcomeOf plan starters answers fill cert (outcome.NotAccepted it) = IsRefusalOf plan cert it
+
+-- An allocation failed. Or the text of the certificate proves that the plan is safe, no bench is opened for the starters, and the
+-- plan is handed back.
+abbrev pub IsUnplayedOf : Plan → List ℕ → List ℕ → Unplayed → Type 0
+IsUnplayedOf plan starters cert it =
+    ((it.error ≡ NoMemory) × (it.plan ≡ None))
+    ⊎ (IsAnswer (plan_contents plan) cert Safe
+    × RefusesStarters (plan_contents plan) starters it.error
+    × (it.plan ≡ Some plan))
 
 -- whoever has won is a participant
 abbrev pub HasWinners : Outcome → Type 0

@@ -21,13 +21,13 @@ use Rattle.bench_run.specs.Starters.{labels_in, AreNumbersOf, bits_in}
 
 -- The text of the starters names participants that may start together. They played with these answers, each with `fill`
 -- where it might choose, until the run had ended, and the report has the lines of that.
-pub record IsPlayedOut (plan : Contents) (starters answers : List ℕ) (fill : Bool) (report : List ℕ) : Type 0 where
+pub record IsPlayedOut (plan : Contents) (starters : List ℕ) (answers : List Bool) (fill : Bool) (report : List ℕ) : Type 0 where
   pub numbers : List ℕ
   pub named : AreNumbersOf plan (labels_in starters) numbers
   pub fit : starters_refusal plan numbers ≡ None
   pub wire : List Item
   pub won : List ℕ
-  pub rehearsed : IsRehearsed (record { plan = plan; starters = numbers; answers = bits_in answers }) fill wire won
+  pub rehearsed : IsRehearsed (record { plan = plan; starters = numbers; answers = answers }) fill wire won
   pub lines : report ≡ rehearsal_lines plan wire won
 
 -- the texts are those of a plan and of a certificate that proves it safe, and the bench was played out
@@ -35,7 +35,7 @@ pub record IsPlayed (starters answers : List ℕ) (fill : Bool) (texts : List �
   pub plan : Contents
   pub spelled : Spells texts.0 plan
   pub certified : IsCertified texts.0 texts.1
-  pub played : IsPlayedOut plan starters answers fill report
+  pub played : IsPlayedOut plan starters (bits_in answers) fill report
   pub ended : status ≡ Good
 
 -- the texts have another answer than `accepted safe`, and the report is its line

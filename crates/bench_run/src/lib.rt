@@ -20,4 +20,4 @@ pub use gates::{Gate, NoGate};
 pub use lines::{outcome_report, push_wire_line, push_won_line, status_of_outcome};
 pub use rehearsing::rehearse;
 pub use runs::run_bench;
-pub use values::{Outcome, Rehearsal};
+pub use values::{Outcome, Rehearsal, Unplayed};

@@ -1,16 +1,15 @@
 // What comes of a plan and the bytes of a certificate.
 
-ghost use Rattle.std.specs.Prelude.{◌≡◌, ◌⊎◌, ℕ, List, IfOk, IfErr};
+ghost use Rattle.std.specs.Prelude.{◌≡◌, IfOk, IfErr, Some};
 ghost use Rattle.plan_core.specs.PlanContents.{plan_contents};
-ghost use Rattle.plan_text.specs.Grammar.{Spells};
 ghost use Rattle.cert_check.specs.Holds.{accepted_plan};
-ghost use Rattle.bench_run.specs.Outcomes.{AreParticipants, HasWinners, IsOutcomeOf, IsRunOf};
-ghost use Rattle.bench_run.specs.Rehearsals.{RefusesStarters, IsNotOpened};
+ghost use Rattle.bench_run.specs.Outcomes.{AreParticipants, HasWinners, IsOutcomeOf, IsPlayedOf, IsRunOf, IsUnplayedOf};
+ghost use Rattle.bench_run.specs.Rehearsals.{RefusesStarters};
 
 use crate::gates::Gate;
 use crate::rounds::play_all;
 use crate::starters::numbers_of;
-use crate::values::{Outcome, Rehearsal};
+use crate::values::{Outcome, Rehearsal, Unplayed};
 use bus_bench::{Played, open_bench};
 use cert_check::{Accepted, accept_certificate};
 use plan_core::Plan;
@@ -26,7 +25,7 @@ use std::time::Clock;
 ///
 /// # Errors
 ///
-/// `Bench` with the refusal of the starters of an accepted plan. `NoMemory` where an allocation fails.
+/// `Bench` with the refusal of the starters of an accepted plan, which is handed back. `NoMemory` where an allocation fails.
 pub fn rehearse<R: Threads + Wait + Clock + Sync, G: Gate + Sync>(
     rt: &R,
     alloc: Global,
@@ -36,24 +35,43 @@ pub fn rehearse<R: Threads + Wait + Clock + Sync, G: Gate + Sync>(
     fill: bool,
     answers: &[bool],
     gate: &G,
-) -> Result<Outcome, RunError>
-    ensures found { IfOk result (λ it. (text : List ℕ) → Spells text (plan_contents plan) →
-        IsOutcomeOf starters.now answers.now fill (text, cert.now) it) }
+) -> Result<Outcome, Unplayed>
+    ensures found { IfOk result (IsOutcomeOf (plan_contents plan) starters.now answers.now fill cert.now) }
     ensures winners { IfOk result HasWinners }
-    ensures refused { IfErr result (λ error. (text : List ℕ) → Spells text (plan_contents plan) →
-        (error ≡ RunError.NoMemory) ⊎ IsNotOpened starters.now (text, cert.now) error) }
+    ensures refused { IfErr result (IsUnplayedOf plan starters.now cert.now) }
 {
     match accept_certificate(alloc, plan, cert)? {
-        Ok(accepted) => {
-            let (numbers, played) = play(rt, alloc, &accepted, starters, fill, answers, gate)?;
-            Ok(Outcome::Played(Rehearsal {
-                accepted,
-                starters: numbers,
-                fill,
-                played,
-            }))
-        }
+        Ok(accepted) => rehearse_accepted(rt, alloc, accepted, starters, fill, answers, gate),
         Err(answered) => Ok(Outcome::NotAccepted(answered)),
+    }
+}
+
+// The same of a plan that was accepted.
+fn rehearse_accepted<R: Threads + Wait + Clock + Sync, G: Gate + Sync>(
+    rt: &R,
+    alloc: Global,
+    accepted: Accepted,
+    starters: &str,
+    fill: bool,
+    answers: &[bool],
+    gate: &G,
+) -> Result<Outcome, Unplayed>
+    ensures played { IfOk result (IsPlayedOf (accepted_plan accepted) starters.now answers.now fill) }
+    ensures winners { IfOk result HasWinners }
+    ensures refused { IfErr result (λ e.
+        RefusesStarters (plan_contents (accepted_plan accepted)) starters.now e.error × (e.plan ≡ Some (accepted_plan accepted))) }
+{
+    match play(rt, alloc, &accepted, starters, fill, answers, gate) {
+        Ok((starters, played)) => Ok(Outcome::Played(Rehearsal {
+            accepted,
+            starters,
+            fill,
+            played,
+        })),
+        Err(error) => Err(Unplayed {
+            error,
+            plan: Some(accepted.into_plan()),
+        }),
     }
 }
 

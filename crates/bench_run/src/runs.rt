@@ -4,12 +4,14 @@ ghost use Rattle.std.specs.Prelude.{◌≡◌, ◌⊎◌, ℕ, List, IfOk, IfErr
 ghost use Rattle.plan_core.specs.PlanContents.{plan_contents};
 ghost use Rattle.plan_text.specs.Grammar.{Spells};
 ghost use Rattle.run_parts.specs.Runs.{ReadsBoth, Reports, Stops};
+ghost use Rattle.bench_run.specs.Outcomes.{HasWinners, outcome_lines, outcome_status};
 ghost use Rattle.bench_run.specs.Rehearsals.{Rehearsed, IsNotOpened, HaltsAtBench};
 
 use crate::gates::Gate;
 use crate::lines::{outcome_report, status_of_outcome};
 use crate::rehearsing::rehearse;
 use crate::starters::bits_of;
+use crate::values::Outcome;
 use plan_core::Plan;
 use plan_text::read_plan;
 use run_parts::devices::reading::READS;
@@ -82,7 +84,19 @@ fn rehearsed<R: Threads + Wait + Clock + Sync, G: Gate + Sync>(
         (error ≡ RunError.NoMemory) ⊎ IsNotOpened starters.now (text, cert.now) error) }
 {
     let bits = bits_of(alloc, answers)?;
-    let outcome = rehearse(rt, alloc, plan, cert, starters, fill, bits.as_slice(), gate)?;
-    let report = outcome_report(alloc, &outcome)?;
-    Ok((report, status_of_outcome(&outcome)))
+    match rehearse(rt, alloc, plan, cert, starters, fill, bits.as_slice(), gate) {
+        Ok(outcome) => report_on(alloc, &outcome),
+        Err(unplayed) => Err(unplayed.error),
+    }
+}
+
+// The lines of what came of it, and the status.
+fn report_on(alloc: Global, outcome: &Outcome) -> Result<(String, Status), RunError>
+    requires { HasWinners outcome.now }
+    ensures lines { IfOk result (λ r. string_bytes r.0 ≡ outcome_lines outcome.now) }
+    ensures status { IfOk result (λ r. r.1 ≡ outcome_status outcome.now) }
+    ensures memory { IfErr result (λ error. error ≡ RunError.NoMemory) }
+{
+    let report = outcome_report(alloc, outcome)?;
+    Ok((report, status_of_outcome(outcome)))
 }

@@ -1,7 +1,13 @@
 // What a rehearsal comes to.
 
+ghost use Rattle.std.specs.Prelude.{◌≡◌, None};
+ghost use Rattle.run_parts.specs.declared.errors.RunError.TheVariants.{NoMemory};
+
 use bus_bench::Played;
 use cert_check::{Accepted, Answered};
+use plan_core::Plan;
+use run_parts::RunError;
+use std::alloc::AllocError;
 
 /// A rehearsal: the plan that was accepted, who started, by participant number, what they sent for open bits, and how the
 /// run went.
@@ -20,4 +26,22 @@ pub enum Outcome {
     Played(Rehearsal),
     /// The certificate does not prove that the plan is safe.
     NotAccepted(Answered),
+}
+
+/// Why a plan is not rehearsed, and the plan, where its starters are refused.
+#[derive(Drop)]
+pub struct Unplayed {
+    pub error: RunError,
+    pub plan: Option<Plan>,
+}
+
+impl From<AllocError> for Unplayed {
+    ghost from_gives = { λ _ e. (e.error ≡ NoMemory) × (e.plan ≡ None) };
+
+    fn from(_error: AllocError) -> Unplayed {
+        Unplayed {
+            error: RunError::NoMemory,
+            plan: None,
+        }
+    }
 }

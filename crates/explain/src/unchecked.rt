@@ -1,5 +1,9 @@
 // What a check did not look at: messages that no controller lists, and pairs that `never` leaves out.
 
+ghost use Rattle.std.specs.Prelude.{◌≡◌, true, false};
+ghost use Rattle.explain.specs.Unchecked.{IsAllChecked, IsListed};
+ghost use Rattle.plan_core.specs.PlanContents.{plan_contents};
+
 use bus_rows::{begin, say};
 use growing_text::{Lines, Text};
 use plan_core::Plan;
@@ -11,7 +15,10 @@ use std::alloc::{AllocError, Global};
 const NAMED: usize = 10;
 
 /// Whether a check looks at something of each message: some controller lists it, and there are pairs.
-pub fn is_all_checked(plan: &Plan) -> bool {
+pub fn is_all_checked(plan: &Plan) -> bool
+    ensures all { result ≡ true → IsAllChecked (plan_contents plan.now) }
+    ensures not_all { result ≡ false → IsAllChecked (plan_contents plan.now) → ⊥ }
+{
     for message in 0..plan.messages() {
         if !is_sent(plan, message) {
             return false;
@@ -36,7 +43,10 @@ pub fn unsent_in(alloc: Global, plan: &Plan) -> Result<Vec<u32>, AllocError> {
 }
 
 // Whether some controller has the message.
-fn is_sent(plan: &Plan, message: u32) -> bool {
+fn is_sent(plan: &Plan, message: u32) -> bool
+    ensures some { result ≡ true → IsListed (plan_contents plan.now) message }
+    ensures none { result ≡ false → IsListed (plan_contents plan.now) message → ⊥ }
+{
     for c in 0..plan.controllers() {
         if plan.controller_messages(c).contains(&message) {
             return true;

@@ -65,6 +65,10 @@ judged_so : (plan : Contents) (verdicts : List Verdict) → AreVerdicts plan ver
 judged_so plan verdicts right (inl all) = (Good, safe_plan plan verdicts right all)
 judged_so plan verdicts right (inr fails) = (Bad, λ safe. fails (safe_verdicts plan verdicts right safe))
 
+-- some status judges of a plan
+pub some_status : (plan : Contents) (verdicts : List Verdict) → AreVerdicts plan verdicts → (status : Status) × Judges status plan
+some_status plan verdicts right = judged_so plan verdicts right (are_safe verdicts)
+
 certified_plan : (plan : Contents) (verdicts : List Verdict) (status : Status) → IsWithinLimits plan → AreVerdicts plan verdicts → Judges status plan → CertifiedPlan plan (cert_text (certificate_for verdicts)) status
 certified_plan plan verdicts status limits right judged = record { limits = limits; verdicts = verdicts; right = right; written = refl; judged = judged }
 

@@ -1,4 +1,5 @@
 mod CaptureLemmas
 mod DueLemmas
+mod RehearsalLemmas
 mod RunLemmas
 mod TextLemmas

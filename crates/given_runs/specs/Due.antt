@@ -1,10 +1,12 @@
 -- The report that is due for a plan, however it was given, and the status of a run that writes it.
-use Rattle.std.specs.Prelude.{◌≡◌, ℕ, List, false}
+use Rattle.std.specs.Prelude.{◌≡◌, ◌≢◌, ◌⊎◌, ℕ, Bool, List, false}
+use Rattle.bench_run.specs.Rehearsals.{IsPlayedOut}
 use Rattle.brief_text.specs.Briefs.{Means}
 use Rattle.brief_tokens.specs.Names.{has_brief_word}
 use Rattle.certificate.specs.Texts.{cert_text}
 use Rattle.cert_check.specs.Accepts.{IsAnswer}
 use Rattle.cert_check.specs.declared.answers.Answer.{Answer}
+use Rattle.cert_check.specs.declared.answers.Answer.TheVariants.{Safe}
 use Rattle.order.specs.Orders as orders
 use Rattle.pair_walk.specs.declared.walk_pair.Verdict.{Verdict}
 use Rattle.plan_core.specs.Contents.{Contents}
@@ -17,7 +19,7 @@ use Rattle.run_parts.specs.declared.runs.Status.{Status}
 use Rattle.run_parts.specs.declared.runs.Status.TheVariants.{Good}
 use Rattle.spellings.specs.Canonical.{plan_text}
 use Rattle.vcd_read.specs.Probes.{Finder}
-use Rattle.verdicts.specs.Certificates.{certificate_for}
+use Rattle.verdicts.specs.Certificates.{IsCertificateText, certificate_for}
 use Rattle.verdicts.specs.Verdicts.{AreVerdicts}
 use Rattle.verifying.specs.Answers.{answer_status, verify_line}
 
@@ -63,3 +65,28 @@ pub record AnsweredPlan (plan : Contents) (cert report : List ℕ) (status : Sta
   pub right : IsAnswer plan cert answer
   pub line : report ≡ verify_line answer
   pub ended : status ≡ answer_status answer
+
+-- bench: the text of the certificate proves the plan, these starters were played out, and the report has the lines of that
+pub record PlayedPlan (starters : List ℕ) (answers : List Bool) (fill : Bool) (plan : Contents) (cert report : List ℕ) (status : Status) : Type 0 where
+  pub certified : IsAnswer plan cert Safe
+  pub played : IsPlayedOut plan starters answers fill report
+  pub good : status ≡ Good
+
+-- the text of the certificate has another answer for the plan, and the report is its line
+pub record UnplayedPlan (plan : Contents) (cert report : List ℕ) (status : Status) : Type 0 where
+  pub answer : Answer
+  pub other : answer ≢ Safe
+  pub right : IsAnswer plan cert answer
+  pub line : report ≡ verify_line answer
+  pub ended : status ≡ answer_status answer
+
+abbrev pub RehearsedPlan : List ℕ → List Bool → Bool → Contents → List ℕ → List ℕ → Status → Type 0
+RehearsedPlan starters answers fill plan cert report status =
+    UnplayedPlan plan cert report status ⊎ PlayedPlan starters answers fill plan cert report status
+
+-- bench without a certificate: the same with the text of the certificate for the verdicts of the plan; the status judges of it
+pub record SelfRehearsedPlan (starters : List ℕ) (answers : List Bool) (fill : Bool) (plan : Contents) (report : List ℕ) (status : Status) : Type 0 where
+  pub cert : List ℕ
+  pub own : IsCertificateText plan cert
+  pub due : RehearsedPlan starters answers fill plan cert report status
+  pub judged : Judges status plan

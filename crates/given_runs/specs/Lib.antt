@@ -1,3 +1,4 @@
 pub mod Due
 pub mod Inputs
 pub mod Written
+pub mod Starting

@@ -1,7 +1,12 @@
 -- How the writing ends of a report that is due for a plan. Only private contracts and proofs use this.
 use Rattle.std.specs.Prelude.{◌≡◌, ◌⊎◌, ℕ, List}
+use Rattle.bench_run.specs.Outcomes.{outcome_lines, outcome_status}
+use Rattle.bench_run.specs.Rehearsals.{RefusesStarters}
+use Rattle.bench_run.specs.declared.values.Outcome.{Outcome}
 use Rattle.brief_tokens.specs.Names.{LacksBrief}
+use Rattle.cert_check.specs.Accepts.{IsAnswer}
 use Rattle.cert_check.specs.declared.answers.Answer.{Answer}
+use Rattle.cert_check.specs.declared.answers.Answer.TheVariants.{Safe}
 use Rattle.decoding.specs.Dumps.{HaltsAtDump}
 use Rattle.given_runs.specs.Due.{AbbreviatedPlan, CapturedPlan}
 use Rattle.plan_core.specs.Contents.{Contents}
@@ -41,6 +46,14 @@ LacksOrStops plan writer before error now =
 -- the line and the status of this answer
 abbrev pub IsOfAnswer : Answer → List ℕ → Status → Type 0
 IsOfAnswer answer report status = (report ≡ verify_line answer) × (status ≡ answer_status answer)
+
+-- the lines and the status of what came of a rehearsal
+abbrev pub IsOfOutcome : Outcome → List ℕ → Status → Type 0
+IsOfOutcome outcome report status = (report ≡ outcome_lines outcome) × (status ≡ outcome_status outcome)
+
+-- An allocation failed. Or the text of the certificate proves that the plan is safe, and no bench is opened for the starters.
+abbrev pub LacksBench : Contents → List ℕ → List ℕ → RunError → Type 0
+LacksBench plan starters cert error = (error ≡ NoMemory) ⊎ (IsAnswer plan cert Safe × RefusesStarters plan starters error)
 
 -- The dump halted, and the writer is as it was; or it was read, and the writing of its report ended early.
 abbrev pub StopsCapturing : {E Out : Type 0} → ℕ → Finder → Finder → Contents → Reader E → Writer Out → E × Out → RunError → E × Out → Type 0

@@ -8,6 +8,7 @@ mod capturing;
 mod certifying;
 mod checking;
 mod ordering;
+mod rehearsing;
 mod rewriting;
 mod texts;
 mod verifying_given;
@@ -16,6 +17,9 @@ pub use capturing::{GivenCapture, GivenLive, capture_given, live_given};
 pub use certifying::certify_given;
 pub use checking::{GivenCheck, check_given, find_checked};
 pub use ordering::{GivenOrder, find_ordered, order_given};
+pub use rehearsing::{
+    GivenOutcome, Unrehearsed, bench_given, find_rehearsed, find_self_rehearsed, self_bench_given,
+};
 pub use rewriting::{expand_given, print_given};
 pub use texts::{Formatted, Unabbreviated, brief_given, find_formatted};
 pub use verifying_given::{GivenAnswer, find_answered, verify_given};

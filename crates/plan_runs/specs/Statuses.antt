@@ -1,7 +1,8 @@
 -- The status of a run over what gives a plan, whatever form its report has.
-use Rattle.std.specs.Prelude.{◌≡◌, ℕ, Bool, false, List}
+use Rattle.std.specs.Prelude.{◌≡◌, ℕ, Bool, true, List}
 use Rattle.cert_check.specs.Accepts.{IsAnswer}
 use Rattle.cert_check.specs.declared.answers.Answer.{Answer}
+use Rattle.explain.specs.Unchecked.{IsAllChecked}
 use Rattle.given_plans.specs.Sources.{GiveThePlan, ReadsTexts}
 use Rattle.plan_core.specs.Contents.{Contents}
 use Rattle.plan_core.specs.Faults.{IsSafe}
@@ -11,10 +12,14 @@ use Rattle.run_parts.specs.declared.runs.Status.{Status}
 use Rattle.run_parts.specs.declared.runs.Status.TheVariants.{Good, Bad, Refused}
 use Rattle.verifying.specs.Answers.{answer_status}
 
--- Good where the plan is safe for every lawful set; Bad where it is not, and in a strict run perhaps where it is
+-- the plan is safe for every lawful set, and a strict run looks at all of it
+abbrev pub IsGoodIn : Bool → Contents → Type 0
+IsGoodIn strict plan = IsSafe plan × (strict ≡ true → IsAllChecked plan)
+
+-- Good where that is so, and Bad where it is not
 abbrev pub JudgesIn : Bool → Status → Contents → Type 0
-JudgesIn strict Good plan = IsSafe plan
-JudgesIn strict Bad plan = strict ≡ false → IsSafe plan → ⊥
+JudgesIn strict Good plan = IsGoodIn strict plan
+JudgesIn strict Bad plan = IsGoodIn strict plan → ⊥
 JudgesIn strict Refused plan = ⊥
 
 -- the readers gave texts, each to its end, and the plan that these give is such
@@ -24,6 +29,10 @@ pub record OfGivenPlan {D : Type 0} (reader : Reader D) (IsSuch : Contents → T
   pub plan : Contents
   pub given : GiveThePlan texts plan
   pub holds : IsSuch plan
+
+-- it is this plan, and it is such
+abbrev pub IsOf : Contents → (Contents → Type 0) → Contents → Type 0
+IsOf this IsSuch plan = (plan ≡ this) × IsSuch this
 
 -- the readers gave what gives a plan, and a certificate; the status is that of the answer to it
 pub record IsAnswered {D E : Type 0} (first : Reader D) (second : Reader E) (before : List D × E) (status : Status) (now : List D × E) : Type 0 where

@@ -6,9 +6,8 @@ ghost use Rattle.cert_check.specs.Accepts.{IsAnswer};
 ghost use Rattle.given_plans.specs.Sources.{DueFor, GiveThePlan, ReadsTexts, bytes_of};
 ghost use Rattle.given_runs.specs.Due.{AnsweredPlan, CheckedPlan, OrderedPlan};
 ghost use Rattle.given_runs.specs.Inputs.{DueForBoth, ReadsTextsAndOne};
-ghost use Rattle.plan_core.specs.Contents.{Contents};
 ghost use Rattle.plan_core.specs.PlanContents.{plan_contents};
-ghost use Rattle.plan_runs.specs.Statuses.{IsAnswered, JudgesIn, OfGivenPlan};
+ghost use Rattle.plan_runs.specs.Statuses.{IsAnswered, IsOf, JudgesIn, OfGivenPlan};
 ghost use Rattle.report.specs.Checks.{Judges};
 ghost use Rattle.run_parts.specs.Runs.{ReadsText, Reports};
 ghost use Rattle.run_parts.specs.declared.runs.Status.{Status};
@@ -99,7 +98,7 @@ fn check_by_form<R: AllocGlobal + Threads + Sync, I: Input, O: Output, G: Gate +
     gate: &G,
     extras: Extras,
 ) -> Result<Ran, Halt>
-    ensures { IfOk result (λ it. OfGivenPlan I.reader (Judges it.status)
+    ensures { IfOk result (λ it. OfGivenPlan I.reader (IsOf (plan_contents it.found.checked.plan) (Judges it.status))
         plans.old.readers.items plans.new.readers.items) }
 {
     if look.explain.is_none() && extras.is_exact() {
@@ -128,7 +127,7 @@ fn check_exactly<R: AllocGlobal + Threads + Sync, I: Input, O: Output, G: Gate +
 ) -> Result<Ran, Halt>
     ensures report { IfOk result (λ it. Reports (ReadsTexts I.reader) (DueFor CheckedPlan) O.writer
         plans.old.readers.items out.old it.status plans.new.readers.items out.new) }
-    ensures status { IfOk result (λ it. OfGivenPlan I.reader (Judges it.status)
+    ensures status { IfOk result (λ it. OfGivenPlan I.reader (IsOf (plan_contents it.found.checked.plan) (Judges it.status))
         plans.old.readers.items plans.new.readers.items) }
 {
     let alloc = rt.alloc();
@@ -190,7 +189,7 @@ fn check_in_form<R: AllocGlobal + Threads + Sync, I: Input, O: Output, G: Gate +
     gate: &G,
     extras: Extras,
 ) -> Result<Ran, Halt>
-    ensures status { IfOk result (λ it. OfGivenPlan I.reader (Judges it.status)
+    ensures status { IfOk result (λ it. OfGivenPlan I.reader (IsOf (plan_contents it.found.checked.plan) (Judges it.status))
         plans.old.readers.items plans.new.readers.items) }
 {
     let alloc = rt.alloc();
@@ -291,7 +290,7 @@ fn message_lines(
 
 // The status of a run with this status over a plan. One that is strict is good where all of the plan was looked at.
 fn judged(status: Status, plan: &Plan, strict: bool) -> Status
-    ensures { (about : Contents) → Judges status about → JudgesIn strict result about }
+    ensures { Judges status (plan_contents plan.now) → JudgesIn strict result (plan_contents plan.now) }
 {
     match status {
         Status::Good if strict && !is_all_checked(plan) => Status::Bad,

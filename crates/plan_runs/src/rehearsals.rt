@@ -1,30 +1,38 @@
-// The run of a bench: it finds what comes of a plan and its certificate, and writes that in the form that is wanted.
+// The run of a bench: it finds what comes of a plan and its certificate, and writes that in the form that is wanted. The exact
+// form is that of `given_runs`, by its call.
 
-ghost use Rattle.std.specs.Prelude.{IfOk};
-ghost use Rattle.bench_run.specs.Outcomes.{HasWinners};
+ghost use Rattle.std.specs.Prelude.{◌≡◌, IfOk};
+ghost use Rattle.bench_run.specs.Outcomes.{HasWinners, outcome_status};
+ghost use Rattle.given_plans.specs.Sources.{DueFor, ReadsTexts};
+ghost use Rattle.given_runs.specs.Due.{RehearsedPlan, SelfRehearsedPlan};
+ghost use Rattle.given_runs.specs.Inputs.{DueForBoth, ReadsTextsAndOne};
+ghost use Rattle.plan_runs.specs.Statuses.{IsAnswered, OfGivenPlan};
+ghost use Rattle.report.specs.Checks.{Judges};
+ghost use Rattle.run_parts.specs.Runs.{Reports};
 
 use crate::checking::{remark_on_answer, tell_answer};
 use crate::drawings::draw_outcome;
-use bench_run::{NoGate, Outcome, Rehearsal, outcome_report, rehearse, status_of_outcome};
+use bench_run::{Outcome, Rehearsal, outcome_report, status_of_outcome};
 use bus_bench::opening::MOST_SLOTS;
-use bus_rows::Paint;
-use explain::{explain_answer, explain_rehearsal, mistake_of};
-use given_plans::{GivenPlan, Provenance};
+use cert_check::Answered;
+use explain::{explain_rehearsal, mistake_of};
+use given_plans::GivenPlan;
+use given_runs::{
+    GivenOutcome, Unrehearsed, bench_given, find_rehearsed, find_self_rehearsed, self_bench_given,
+};
 use hints::{Hints, on_no_answers, on_starters, unknown_starter};
 use message_tree::Item;
 use objects::write_rehearsal;
 use plan_core::Plan;
 use plan_words::PlanWords;
-use report::{Input, Output, RunError, read_within};
+use report::{Input, Output, RunError, Status};
 use run_ends::{Canvas, Ended, Extras, Halt, Remark, Sources, Style};
-use run_parts::devices::reading::READS;
 use run_parts::write_lines;
 use std::alloc::{AllocError, Global};
 use std::rt::Files;
 use std::sync::Wait;
 use std::thread::Threads;
 use std::time::Clock;
-use verdicts::{certificate_text, faults};
 
 /// Who starts, what they send for open bits, and what the targets answer: bits by slot, and what follows them.
 #[derive(Clone, Copy)]
@@ -38,42 +46,8 @@ pub struct Play<'a> {
     pub wave: Option<&'a str>,
 }
 
-/// Rehearses a plan by the certificate that is made of it here. The canvas is for the waves, where they are wanted.
-pub fn bench_alone<
-    R: Files + Print + Eprint + AllocGlobal + Threads + Wait + Clock + Sync,
-    I: Input,
-    O: Output,
->(
-    rt: &R,
-    plans: &mut Sources<'_, I>,
-    out: &mut O,
-    play: Play<'_>,
-    extras: Extras,
-    canvas: Option<Canvas<'_, '_>>,
-) -> Result<Ended, Halt> {
-    let GivenPlan { plan, provenance } = plans.find(rt.alloc())?;
-    let cert = certificate_of(rt.alloc(), &plan)?;
-    let cert = cert.as_slice();
-    rehearse_by(
-        rt,
-        plan,
-        &provenance,
-        cert,
-        plans,
-        out,
-        play,
-        extras,
-        canvas,
-    )
-}
-
-// The certificate of a plan.
-fn certificate_of(alloc: Global, plan: &Plan) -> Result<Vec<u8>, AllocError> {
-    let faults = faults(alloc, plan)?;
-    certificate_text(alloc, plan, &faults)
-}
-
-/// Rehearses the plan of the first reader, with the certificate of the second.
+/// Rehearses the plan that the first readers give, with the certificate of the second. The canvas is for the waves, where they
+/// are wanted.
 pub fn bench<
     R: Files + Print + Eprint + AllocGlobal + Threads + Wait + Clock + Sync,
     I: Input,
@@ -87,43 +61,377 @@ pub fn bench<
     play: Play<'_>,
     extras: Extras,
     canvas: Option<Canvas<'_, '_>>,
-) -> Result<Ended, Halt> {
-    let GivenPlan { plan, provenance } = plans.find(rt.alloc())?;
-    let cert = read_within(rt.alloc(), cert, READS)?;
-    let cert = cert.as_slice();
-    rehearse_by(
-        rt,
-        plan,
-        &provenance,
-        cert,
-        plans,
-        out,
-        play,
-        extras,
-        canvas,
-    )
+) -> Result<Ended, Halt>
+    ensures status { IfOk result (λ it. IsAnswered I.reader J.reader
+        (plans.old.readers.items, cert.old) it.status (plans.new.readers.items, cert.new)) }
+{
+    let answers = bits_of(rt.alloc(), play.answers, play.rest)?;
+    let told = bench_by_form(rt, plans, cert, out, play, answers.as_slice(), extras)?;
+    end(rt, told, canvas)
 }
 
-// Rehearses a plan with this certificate.
-fn rehearse_by<
+/// Rehearses the plan that the readers give by the certificate that is made of it here.
+pub fn bench_alone<
     R: Files + Print + Eprint + AllocGlobal + Threads + Wait + Clock + Sync,
     I: Input,
     O: Output,
 >(
     rt: &R,
-    plan: Plan,
-    provenance: &Provenance,
-    cert: &[u8],
-    plans: &Sources<'_, I>,
+    plans: &mut Sources<'_, I>,
     out: &mut O,
     play: Play<'_>,
     extras: Extras,
     canvas: Option<Canvas<'_, '_>>,
-) -> Result<Ended, Halt> {
-    let said = said_of(rt.alloc(), plans.words(&plan, provenance), play, extras)?;
-    let outcome = outcome_of(rt, plan, cert, play, said)?;
-    let words = plans.words(plan_of(&outcome), provenance);
-    tell_outcome(rt, &outcome, words, cert, out, play, extras, canvas)
+) -> Result<Ended, Halt>
+    ensures status { IfOk result (λ it. OfGivenPlan I.reader (Judges it.status)
+        plans.old.readers.items plans.new.readers.items) }
+{
+    let answers = bits_of(rt.alloc(), play.answers, play.rest)?;
+    let told = alone_by_form(rt, plans, out, play, answers.as_slice(), extras)?;
+    end(rt, told, canvas)
+}
+
+// A rehearsal that was written: what came of it, its status, and what is to be said to people.
+#[derive(Drop)]
+struct Told {
+    found: GivenOutcome,
+    status: Status,
+    remark: Remark,
+}
+
+// Draws the waves.
+fn end<R: Files + Print + Eprint + Clock + AllocGlobal>(
+    rt: &R,
+    told: Told,
+    canvas: Option<Canvas<'_, '_>>,
+) -> Result<Ended, Halt>
+    ensures { IfOk result (λ it. it.status ≡ told.status) }
+{
+    let Told {
+        found,
+        status,
+        remark,
+    } = told;
+    if let Some(canvas) = canvas {
+        draw_outcome(rt, &found.outcome, canvas)?;
+    }
+    Ok(Ended { status, remark })
+}
+
+// ---- by a certificate
+
+// The one place where the form is chosen.
+fn bench_by_form<R: AllocGlobal + Threads + Wait + Clock + Sync, I: Input, J: Input, O: Output>(
+    rt: &R,
+    plans: &mut Sources<'_, I>,
+    cert: &mut J,
+    out: &mut O,
+    play: Play<'_>,
+    answers: &[bool],
+    extras: Extras,
+) -> Result<Told, Halt>
+    ensures { IfOk result (λ it. IsAnswered I.reader J.reader
+        (plans.old.readers.items, cert.old) it.status (plans.new.readers.items, cert.new)) }
+{
+    if !play.explain && extras.is_exact() {
+        bench_exactly(rt, plans, cert, out, play, answers, extras)
+    } else {
+        bench_in_form(rt, plans, cert, out, play, answers, extras)
+    }
+}
+
+// The exact report, by the run of `given_runs`.
+fn bench_exactly<R: AllocGlobal + Threads + Wait + Clock + Sync, I: Input, J: Input, O: Output>(
+    rt: &R,
+    plans: &mut Sources<'_, I>,
+    cert: &mut J,
+    out: &mut O,
+    play: Play<'_>,
+    answers: &[bool],
+    extras: Extras,
+) -> Result<Told, Halt>
+    ensures report { IfOk result (λ it.
+        Reports (ReadsTextsAndOne I.reader J.reader) (DueForBoth (RehearsedPlan play.entry.starters.now answers.now play.entry.fill)) O.writer
+        (plans.old.readers.items, cert.old) out.old it.status (plans.new.readers.items, cert.new) out.new) }
+    ensures status { IfOk result (λ it. IsAnswered I.reader J.reader
+        (plans.old.readers.items, cert.old) it.status (plans.new.readers.items, cert.new)) }
+{
+    let Play { starters, fill, .. } = play;
+    match bench_readers(
+        rt,
+        plans.readers.as_mut_slice(),
+        cert,
+        out,
+        starters,
+        fill,
+        answers,
+    ) {
+        Ok((found, status)) => Ok(told_of(rt.alloc(), found, status, plans, extras)),
+        Err(stopped) => Err(halt_of(rt.alloc(), stopped, plans, play, extras)),
+    }
+}
+
+// The same over the readers themselves.
+fn bench_readers<R: AllocGlobal + Threads + Wait + Clock + Sync, I: Input, J: Input, O: Output>(
+    rt: &R,
+    readers: &mut [I],
+    cert: &mut J,
+    out: &mut O,
+    starters: &str,
+    fill: bool,
+    answers: &[bool],
+) -> Result<(GivenOutcome, Status), Unrehearsed>
+    ensures report { IfOk result (λ it.
+        Reports (ReadsTextsAndOne I.reader J.reader) (DueForBoth (RehearsedPlan starters.now answers.now fill)) O.writer
+        (readers.old, cert.old) out.old it.1 (readers.new, cert.new) out.new) }
+    ensures answered { IfOk result (λ it. IsAnswered I.reader J.reader
+        (readers.old, cert.old) it.1 (readers.new, cert.new)) }
+{
+    bench_given(rt, rt.alloc(), readers, cert, out, starters, fill, answers)
+}
+
+// The report in another form, which has the same status.
+fn bench_in_form<R: AllocGlobal + Threads + Wait + Clock + Sync, I: Input, J: Input, O: Output>(
+    rt: &R,
+    plans: &mut Sources<'_, I>,
+    cert: &mut J,
+    out: &mut O,
+    play: Play<'_>,
+    answers: &[bool],
+    extras: Extras,
+) -> Result<Told, Halt>
+    ensures { IfOk result (λ it. IsAnswered I.reader J.reader
+        (plans.old.readers.items, cert.old) it.status (plans.new.readers.items, cert.new)) }
+{
+    let Play { starters, fill, .. } = play;
+    match find_by(
+        rt,
+        plans.readers.as_mut_slice(),
+        cert,
+        starters,
+        fill,
+        answers,
+    ) {
+        Ok(found) => tell_found(rt.alloc(), found, plans, out, play.explain, extras),
+        Err(stopped) => Err(halt_of(rt.alloc(), stopped, plans, play, extras)),
+    }
+}
+
+// What is found by the readers themselves.
+fn find_by<R: AllocGlobal + Threads + Wait + Clock + Sync, I: Input, J: Input>(
+    rt: &R,
+    readers: &mut [I],
+    cert: &mut J,
+    starters: &str,
+    fill: bool,
+    answers: &[bool],
+) -> Result<GivenOutcome, Unrehearsed>
+    ensures answered { IfOk result (λ it. IsAnswered I.reader J.reader
+        (readers.old, cert.old) (outcome_status it.outcome) (readers.new, cert.new)) }
+    ensures winners { IfOk result (λ it. HasWinners it.outcome) }
+{
+    find_rehearsed(rt, rt.alloc(), readers, cert, starters, fill, answers)
+}
+
+// ---- without a certificate
+
+fn alone_by_form<R: AllocGlobal + Threads + Wait + Clock + Sync, I: Input, O: Output>(
+    rt: &R,
+    plans: &mut Sources<'_, I>,
+    out: &mut O,
+    play: Play<'_>,
+    answers: &[bool],
+    extras: Extras,
+) -> Result<Told, Halt>
+    ensures { IfOk result (λ it. OfGivenPlan I.reader (Judges it.status)
+        plans.old.readers.items plans.new.readers.items) }
+{
+    if !play.explain && extras.is_exact() {
+        alone_exactly(rt, plans, out, play, answers, extras)
+    } else {
+        alone_in_form(rt, plans, out, play, answers, extras)
+    }
+}
+
+// The exact report, by the run of `given_runs`.
+fn alone_exactly<R: AllocGlobal + Threads + Wait + Clock + Sync, I: Input, O: Output>(
+    rt: &R,
+    plans: &mut Sources<'_, I>,
+    out: &mut O,
+    play: Play<'_>,
+    answers: &[bool],
+    extras: Extras,
+) -> Result<Told, Halt>
+    ensures report { IfOk result (λ it.
+        Reports (ReadsTexts I.reader) (DueFor (SelfRehearsedPlan play.entry.starters.now answers.now play.entry.fill)) O.writer
+        plans.old.readers.items out.old it.status plans.new.readers.items out.new) }
+    ensures status { IfOk result (λ it. OfGivenPlan I.reader (Judges it.status)
+        plans.old.readers.items plans.new.readers.items) }
+{
+    let Play { starters, fill, .. } = play;
+    match bench_readers_alone(
+        rt,
+        plans.readers.as_mut_slice(),
+        out,
+        starters,
+        fill,
+        answers,
+    ) {
+        Ok((found, status)) => Ok(told_of(rt.alloc(), found, status, plans, extras)),
+        Err(stopped) => Err(halt_of(rt.alloc(), stopped, plans, play, extras)),
+    }
+}
+
+fn bench_readers_alone<R: AllocGlobal + Threads + Wait + Clock + Sync, I: Input, O: Output>(
+    rt: &R,
+    readers: &mut [I],
+    out: &mut O,
+    starters: &str,
+    fill: bool,
+    answers: &[bool],
+) -> Result<(GivenOutcome, Status), Unrehearsed>
+    ensures report { IfOk result (λ it.
+        Reports (ReadsTexts I.reader) (DueFor (SelfRehearsedPlan starters.now answers.now fill)) O.writer
+        readers.old out.old it.1 readers.new out.new) }
+    ensures judged { IfOk result (λ it. OfGivenPlan I.reader (Judges it.1) readers.old readers.new) }
+{
+    self_bench_given(rt, rt.alloc(), readers, out, starters, fill, answers)
+}
+
+// The report in another form, which has the same status.
+fn alone_in_form<R: AllocGlobal + Threads + Wait + Clock + Sync, I: Input, O: Output>(
+    rt: &R,
+    plans: &mut Sources<'_, I>,
+    out: &mut O,
+    play: Play<'_>,
+    answers: &[bool],
+    extras: Extras,
+) -> Result<Told, Halt>
+    ensures { IfOk result (λ it. OfGivenPlan I.reader (Judges it.status)
+        plans.old.readers.items plans.new.readers.items) }
+{
+    let Play { starters, fill, .. } = play;
+    match find_alone(rt, plans.readers.as_mut_slice(), starters, fill, answers) {
+        Ok(found) => tell_found(rt.alloc(), found, plans, out, play.explain, extras),
+        Err(stopped) => Err(halt_of(rt.alloc(), stopped, plans, play, extras)),
+    }
+}
+
+fn find_alone<R: AllocGlobal + Threads + Wait + Clock + Sync, I: Input>(
+    rt: &R,
+    readers: &mut [I],
+    starters: &str,
+    fill: bool,
+    answers: &[bool],
+) -> Result<GivenOutcome, Unrehearsed>
+    ensures judged { IfOk result (λ it. OfGivenPlan I.reader (Judges (outcome_status it.outcome)) readers.old readers.new) }
+    ensures winners { IfOk result (λ it. HasWinners it.outcome) }
+{
+    find_self_rehearsed(rt, rt.alloc(), readers, starters, fill, answers)
+}
+
+// ---- what is written of it, and what is said
+
+// What was written, and what is to be said of it.
+fn told_of<I: Input>(
+    alloc: Global,
+    found: GivenOutcome,
+    status: Status,
+    plans: &Sources<'_, I>,
+    extras: Extras,
+) -> Told
+    ensures { result.status ≡ status }
+{
+    let remark = remark_on_found(alloc, &found, plans, extras);
+    Told {
+        found,
+        status,
+        remark,
+    }
+}
+
+// Writes what came of it, in this form.
+fn tell_found<I: Input, O: Output>(
+    alloc: Global,
+    found: GivenOutcome,
+    plans: &Sources<'_, I>,
+    out: &mut O,
+    explain: bool,
+    extras: Extras,
+) -> Result<Told, Halt>
+    requires { HasWinners found.outcome }
+    ensures { IfOk result (λ it. it.status ≡ outcome_status found.outcome) }
+{
+    write_in_form(alloc, &found, plans, out, explain, extras)?;
+    let status = status_of_outcome(&found.outcome);
+    Ok(told_of(alloc, found, status, plans, extras))
+}
+
+fn write_in_form<I: Input, O: Output>(
+    alloc: Global,
+    found: &GivenOutcome,
+    plans: &Sources<'_, I>,
+    out: &mut O,
+    explain: bool,
+    extras: Extras,
+) -> Result<(), RunError>
+    requires { HasWinners found.now.outcome }
+{
+    let outcome = &found.outcome;
+    let words = plans.words(plan_of(outcome), &found.provenance);
+    match outcome {
+        Outcome::Played(rehearsal) => match extras.style() {
+            Style::Objects => write_rehearsal(alloc, rehearsal, words, explain, out),
+            Style::Lines(_) if explain => explain_rehearsal(alloc, rehearsal, words, out),
+            Style::Lines(_) => write_report_of(alloc, outcome, out),
+        },
+        Outcome::NotAccepted(it) => {
+            write_refusal(
+                alloc,
+                it,
+                words,
+                found.cert.as_slice(),
+                out,
+                explain,
+                extras,
+            )
+        }
+    }
+}
+
+// Writes the answer to the certificate, and what is wrong with that, where it is to be explained.
+fn write_refusal<O: Output>(
+    alloc: Global,
+    it: &Answered,
+    words: PlanWords<'_>,
+    cert: &[u8],
+    out: &mut O,
+    explain: bool,
+    extras: Extras,
+) -> Result<(), RunError> {
+    let mistake = if explain {
+        mistake_of(alloc, &it.plan, cert, it.answer)?
+    } else {
+        None
+    };
+    tell_answer(
+        alloc,
+        words,
+        it.answer,
+        it.refusal.as_ref(),
+        mistake,
+        out,
+        extras,
+    )?;
+    Ok(())
+}
+
+fn write_report_of<O: Output>(alloc: Global, outcome: &Outcome, out: &mut O) -> Result<(), RunError>
+    requires { HasWinners outcome.now }
+{
+    let report = outcome_report(alloc, outcome)?;
+    write_lines(out, report.as_bytes(), status_of_outcome(outcome))?;
+    Ok(())
 }
 
 // The plan of which this is the outcome.
@@ -134,6 +442,71 @@ fn plan_of(outcome: &Outcome) -> &Plan {
     }
 }
 
+// What is to be said of what came of it.
+fn remark_on_found<I: Input>(
+    alloc: Global,
+    found: &GivenOutcome,
+    plans: &Sources<'_, I>,
+    extras: Extras,
+) -> Remark {
+    match &found.outcome {
+        Outcome::Played(rehearsal) => remark_on(alloc, rehearsal, extras),
+        Outcome::NotAccepted(it) => {
+            let words = plans.words(&it.plan, &found.provenance);
+            remark_on_answer(alloc, words, it.answer, it.refusal.as_ref(), extras)
+        }
+    }
+}
+
+fn remark_on(alloc: Global, rehearsal: &Rehearsal, extras: Extras) -> Remark {
+    if extras.hints && is_unanswered(rehearsal.played.wire.as_slice()) {
+        Remark::hints(on_no_answers(alloc))
+    } else {
+        Remark::Nothing
+    }
+}
+
+// Whether targets were to answer, and none acknowledged.
+fn is_unanswered(wire: &[Item]) -> bool {
+    wire.contains(&Item::Heard(true)) && !wire.contains(&Item::Heard(false))
+}
+
+// ---- where it goes no further
+
+// How the run ends.
+fn halt_of<I: Input>(
+    alloc: Global,
+    stopped: Unrehearsed,
+    plans: &Sources<'_, I>,
+    play: Play<'_>,
+    extras: Extras,
+) -> Halt {
+    let Unrehearsed { halted, given } = stopped;
+    match given {
+        Some(given) => halt_at_starters(alloc, halted.error, &given, plans, play, extras),
+        None => plans.halt(halted),
+    }
+}
+
+// The plan is given, and no bench was opened for its starters.
+fn halt_at_starters<I: Input>(
+    alloc: Global,
+    error: RunError,
+    given: &GivenPlan,
+    plans: &Sources<'_, I>,
+    play: Play<'_>,
+    extras: Extras,
+) -> Halt {
+    if error == RunError::NoMemory {
+        return Halt::Run(error);
+    }
+    let words = plans.words(&given.plan, &given.provenance);
+    match said_of(alloc, words, play, extras) {
+        Ok(Said { label, hints }) => Halt::Starters(error, label, hints),
+        Err(_) => Halt::Run(RunError::NoMemory),
+    }
+}
+
 // What is to be said of starters where they are refused: the label that the plan does not have, and hints.
 #[derive(Drop)]
 struct Said {
@@ -141,7 +514,6 @@ struct Said {
     hints: Hints,
 }
 
-// It is found before the rehearsal, which keeps the plan.
 fn said_of(
     alloc: Global,
     words: PlanWords<'_>,
@@ -160,67 +532,6 @@ fn said_of(
     Ok(Said { label, hints })
 }
 
-// What comes of it.
-fn outcome_of<R: AllocGlobal + Threads + Wait + Clock + Sync>(
-    rt: &R,
-    plan: Plan,
-    cert: &[u8],
-    play: Play<'_>,
-    said: Said,
-) -> Result<Outcome, Halt>
-    ensures { IfOk result HasWinners }
-{
-    match outcome_of_plan(rt, plan, cert, play) {
-        Ok(outcome) => Ok(outcome),
-        Err(error @ RunError::Bench(_)) => {
-            let Said { label, hints } = said;
-            Err(Halt::Starters(error, label, hints))
-        }
-        Err(error) => Err(Halt::Run(error)),
-    }
-}
-
-fn outcome_of_plan<R: AllocGlobal + Threads + Wait + Clock + Sync>(
-    rt: &R,
-    plan: Plan,
-    cert: &[u8],
-    play: Play<'_>,
-) -> Result<Outcome, RunError>
-    ensures { IfOk result HasWinners }
-{
-    let answers = bits_of(rt.alloc(), play.answers, play.rest)?;
-    rehearse(
-        rt,
-        rt.alloc(),
-        plan,
-        cert,
-        play.starters,
-        play.fill,
-        answers.as_slice(),
-        &NoGate,
-    )
-}
-
-// Writes what came of it, and draws the waves.
-fn tell_outcome<R: Files + Print + Eprint + Clock + AllocGlobal, O: Output>(
-    rt: &R,
-    outcome: &Outcome,
-    words: PlanWords<'_>,
-    cert: &[u8],
-    out: &mut O,
-    play: Play<'_>,
-    extras: Extras,
-    canvas: Option<Canvas<'_, '_>>,
-) -> Result<Ended, Halt>
-    requires { HasWinners outcome.now }
-{
-    let ended = write_outcome(rt.alloc(), outcome, words, cert, out, play.explain, extras)?;
-    if let Some(canvas) = canvas {
-        draw_outcome(rt, outcome, canvas)?;
-    }
-    Ok(ended)
-}
-
 // The bits of all slots. Past the end of the answers a bench takes 1.
 fn bits_of(alloc: Global, answers: &str, rest: bool) -> Result<Vec<bool>, AllocError> {
     let mut bits = Vec::new(alloc);
@@ -233,81 +544,4 @@ fn bits_of(alloc: Global, answers: &str, rest: bool) -> Result<Vec<bool>, AllocE
         }
     }
     Ok(bits)
-}
-
-// Writes what came of it.
-fn write_outcome<O: Output>(
-    alloc: Global,
-    outcome: &Outcome,
-    words: PlanWords<'_>,
-    cert: &[u8],
-    out: &mut O,
-    explain: bool,
-    extras: Extras,
-) -> Result<Ended, Halt>
-    requires { HasWinners outcome.now }
-{
-    match outcome {
-        Outcome::Played(rehearsal) => {
-            match extras.style() {
-                Style::Objects => write_rehearsal(alloc, rehearsal, words, explain, out)?,
-                Style::Lines(_) if explain => explain_outcome(alloc, outcome, words, out)?,
-                Style::Lines(_) => write_report_of(alloc, outcome, out)?,
-            }
-            Ok(Ended {
-                status: status_of_outcome(outcome),
-                remark: remark_on(alloc, rehearsal, extras),
-            })
-        }
-        Outcome::NotAccepted(it) => {
-            let mistake = if explain {
-                mistake_of(alloc, &it.plan, cert, it.answer)?
-            } else {
-                None
-            };
-            let refusal = it.refusal.as_ref();
-            let status = tell_answer(alloc, words, it.answer, refusal, mistake, out, extras)?;
-            Ok(Ended {
-                status,
-                remark: remark_on_answer(alloc, words, it.answer, refusal, extras),
-            })
-        }
-    }
-}
-
-fn explain_outcome<O: Output>(
-    alloc: Global,
-    outcome: &Outcome,
-    words: PlanWords<'_>,
-    out: &mut O,
-) -> Result<(), RunError>
-    requires { HasWinners outcome.now }
-{
-    match outcome {
-        Outcome::Played(rehearsal) => explain_rehearsal(alloc, rehearsal, words, out),
-        Outcome::NotAccepted(it) => {
-            explain_answer(alloc, words, it.answer, None, Paint::Plain, out)
-        }
-    }
-}
-
-fn write_report_of<O: Output>(alloc: Global, outcome: &Outcome, out: &mut O) -> Result<(), RunError>
-    requires { HasWinners outcome.now }
-{
-    let report = outcome_report(alloc, outcome)?;
-    write_lines(out, report.as_bytes(), status_of_outcome(outcome))?;
-    Ok(())
-}
-
-fn remark_on(alloc: Global, rehearsal: &Rehearsal, extras: Extras) -> Remark {
-    if extras.hints && is_unanswered(rehearsal.played.wire.as_slice()) {
-        Remark::hints(on_no_answers(alloc))
-    } else {
-        Remark::Nothing
-    }
-}
-
-// Whether targets were to answer, and none acknowledged.
-fn is_unanswered(wire: &[Item]) -> bool {
-    wire.contains(&Item::Heard(true)) && !wire.contains(&Item::Heard(false))
 }

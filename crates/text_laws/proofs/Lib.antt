@@ -22,3 +22,4 @@ pub mod Heads
 pub mod BriefHeads
 pub mod FirstKinds
 pub mod ExactHeads
+pub mod DumpSamples

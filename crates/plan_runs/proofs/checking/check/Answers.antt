@@ -1,8 +1,10 @@
-use Rattle.plan_runs.proofs.StatusLemmas.{of_given}
+use Rattle.plan_core.specs.PlanContents.{plan_contents}
+use Rattle.plan_runs.proofs.StatusLemmas.{of_this}
 use Rattle.plan_runs.specs.Statuses.{JudgesIn}
 use Rattle.report.specs.Checks.{Judges}
 use Rattle.plan_runs.proofs.checking.check.Goals as goal
 
 pub returns : goal.returns
 returns g c =
-    record { status = of_given g.I.Input.reader (Judges c.in_ok-found.field-0.status) (JudgesIn c.args.look.strict c.judged.result) c.args.plans.now.readers.items c.check_by_form.new.plans.readers.items (λ plan h. c.judged.ensures plan h) c.in_ok-found.ensures }
+    let ran = c.in_ok-found in
+    record { status = of_this g.I.Input.reader (plan_contents ran.field-0.found.checked.plan) (Judges ran.field-0.status) (JudgesIn c.args.look.strict c.judged.result) c.args.plans.now.readers.items c.check_by_form.new.plans.readers.items c.judged.ensures ran.ensures }
