@@ -2,7 +2,7 @@
 
 use crate::items::Items;
 use crate::values::{BEGINNING, Diagnostic, Severity, Span};
-use explain::unsent_in;
+use plan_findings::unsent_in;
 use plan_text::places::Kind;
 use plan_words::PlanWords;
 use std::alloc::{AllocError, Global};

@@ -1,10 +1,10 @@
 // Lines below the wire of a rehearsal.
 
 use crate::cells::{Cell, cells_of};
-use crate::tracks::Track;
 use bus_rows::{ALIKE, Labels, begin, begin_titled, beside, pad, room_after};
 use growing_text::{Lines, Text};
 use message_tree::Item;
+use plan_findings::Track;
 use std::alloc::{AllocError, Global};
 
 // How many columns labels have at most that stand beside rows, and how many where each longer one has a line of its own.

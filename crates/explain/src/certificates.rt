@@ -1,10 +1,9 @@
 // Lines below the answer to a certificate.
 
-use crate::breaks::{Break, Reason};
 use crate::group_lines::{tell_alone, tell_two};
-use crate::mistakes::Mistake;
 use bus_rows::{BYTES, Side, begin, row_of, say, say_all, tell_places, tell_rows};
 use growing_text::{Lines, Text};
+use plan_findings::{Break, Mistake, Reason};
 use plan_words::PlanWords;
 use std::alloc::{AllocError, Global};
 

@@ -1,10 +1,10 @@
 // Lines of unsafe pairs, and below the count of them.
 
-use crate::offers::{Offer, push_ranges};
 use bus_rows::{
     ALIKE, Meeting, Rule, Side, begin, bus_row, deed, row_of, say, say_all, tell_places, tell_rows,
 };
 use growing_text::{Lines, Text};
+use plan_findings::{Offer, push_ranges};
 use plan_words::PlanWords;
 use std::alloc::{AllocError, Global};
 

@@ -1,12 +1,11 @@
 // Lines of a group of unsafe pairs, and of one pair by itself.
 
 use crate::faults::{tell_offer, tell_pair};
-use crate::offers::offer_for_group;
 use bus_rows::{Meeting, begin, meeting_of, say_all};
 use causes::Group;
 use certificate::Fault;
 use growing_text::{Lines, Text};
-use message_tree::Kind;
+use plan_findings::{offer_for_group, why_unsafe};
 use plan_words::PlanWords;
 use remedies::Grouped;
 use std::alloc::{AllocError, Global};
@@ -129,17 +128,6 @@ fn push_meets(words: &mut Text, groups: &Grouped, g: usize) {
 fn push_pairs(words: &mut Text, count: usize) {
     words.push_number(count as u64);
     words.push(if count == 1 { " pair" } else { " pairs" });
-}
-
-/// Why those are unsafe of whom one does this next, and the other that.
-pub fn why_unsafe(first: Kind, second: Kind) -> &'static str {
-    match (first, second) {
-        (Kind::Claim, _) | (_, Kind::Claim) => "an interrupt has the same header",
-        (Kind::Again, Kind::Stop) | (Kind::Stop, Kind::Again) => "one ends, one repeats START",
-        (Kind::Again, _) | (_, Kind::Again) => "one goes on, one repeats START",
-        (Kind::Stop, _) | (_, Kind::Stop) => "lengths differ",
-        _ => "one sends, one listens",
-    }
 }
 
 /// What stands above the groups that are not explained, where there are so many groups in all.

@@ -1,59 +1,15 @@
-// What a check did not look at: messages that no controller lists, and pairs that `never` leaves out.
-
-ghost use Rattle.std.specs.Prelude.{◌≡◌, true, false};
-ghost use Rattle.explain.specs.Unchecked.{IsAllChecked, IsListed};
-ghost use Rattle.plan_core.specs.PlanContents.{plan_contents};
+// What a check did not look at, in lines: messages that no controller lists, and pairs that `never` leaves out.
 
 use bus_rows::{begin, say};
 use growing_text::{Lines, Text};
 use plan_core::Plan;
+use plan_findings::unsent_in;
 use plan_words::{FileLine, PlanWords};
 use remedies::kept_apart;
 use std::alloc::{AllocError, Global};
 
 // How many messages are named, those of one family once.
 const NAMED: usize = 10;
-
-/// Whether a check looks at something of each message: some controller lists it, and there are pairs.
-pub fn is_all_checked(plan: &Plan) -> bool
-    ensures all { result ≡ true → IsAllChecked (plan_contents plan.now) }
-    ensures not_all { result ≡ false → IsAllChecked (plan_contents plan.now) → ⊥ }
-{
-    for message in 0..plan.messages() {
-        if !is_sent(plan, message) {
-            return false;
-        }
-    }
-    plan.pair_count() != 0
-}
-
-/// The messages that no controller lists.
-///
-/// # Errors
-///
-/// Where an allocation fails.
-pub fn unsent_in(alloc: Global, plan: &Plan) -> Result<Vec<u32>, AllocError> {
-    let mut unsent = Vec::new(alloc);
-    for message in 0..plan.messages() {
-        if !is_sent(plan, message) {
-            unsent.push(message)?;
-        }
-    }
-    Ok(unsent)
-}
-
-// Whether some controller has the message.
-fn is_sent(plan: &Plan, message: u32) -> bool
-    ensures some { result ≡ true → IsListed (plan_contents plan.now) message }
-    ensures none { result ≡ false → IsListed (plan_contents plan.now) message → ⊥ }
-{
-    for c in 0..plan.controllers() {
-        if plan.controller_messages(c).contains(&message) {
-            return true;
-        }
-    }
-    false
-}
 
 /// What is said below the last line of a check: that nothing was checked where there are no pairs, which messages nobody sends,
 /// and how many pairs `never` leaves out.

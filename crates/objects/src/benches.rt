@@ -3,8 +3,8 @@
 use crate::fields::add_one_at;
 use bench_run::Rehearsal;
 use bus_rows::{Labels, labels_of};
-use explain::{Track, WireTracks, tracks_of};
 use object_lines::ObjectLines;
+use plan_findings::{Track, WireTracks, tracks_of};
 use plan_words::PlanWords;
 use report::{Output, RunError};
 use std::alloc::Global;

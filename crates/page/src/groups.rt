@@ -3,7 +3,7 @@
 use crate::offers::Offered;
 use bus_rows::{Meeting, deed, meeting_of};
 use causes::Group;
-use explain::{offer_for_group, why_unsafe};
+use plan_findings::{offer_for_group, why_unsafe};
 use plan_words::PlanWords;
 use remedies::Grouped;
 use report::Checked;

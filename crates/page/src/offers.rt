@@ -1,6 +1,6 @@
 // What is offered to mend unsafe pairs, as the page has it: in the words of a report.
 
-use explain::{Offer, offers_for_all};
+use plan_findings::{Offer, offers_for_all};
 use plan_words::PlanWords;
 use remedies::{Grouped, Mends};
 use report::Checked;

@@ -2,7 +2,7 @@
 use Rattle.std.specs.Prelude.{◌≡◌, ℕ, Bool, true, List}
 use Rattle.cert_check.specs.Accepts.{IsAnswer}
 use Rattle.cert_check.specs.declared.answers.Answer.{Answer}
-use Rattle.explain.specs.Unchecked.{IsAllChecked}
+use Rattle.plan_findings.specs.Unchecked.{IsAllChecked}
 use Rattle.given_plans.specs.Sources.{GiveThePlan, ReadsTexts}
 use Rattle.plan_core.specs.Contents.{Contents}
 use Rattle.plan_core.specs.Faults.{IsSafe}

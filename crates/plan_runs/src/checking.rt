@@ -19,7 +19,7 @@ use bus_rows::{Paint, called_by};
 use cert_check::{Answer, Answered, Judged, check_certificate_at};
 use certificate::Refusal;
 use diagnostics::{Diagnostic, Messages, diagnose_check};
-use explain::{Detail, Mistake, explain_answer, explain_check, is_all_checked, mistake_of};
+use explain::{explain_answer, explain_check};
 use files::Comparing;
 use given_plans::{GivenPlan, Halted, Provenance};
 use given_runs::{
@@ -32,6 +32,7 @@ use lint::{Oddity, oddities};
 use objects::{write_answer, write_check, write_order, write_scores};
 use order::{Called, Order, order_report, order_summary, scores_of};
 use plan_core::Plan;
+use plan_findings::{Detail, Mistake, is_all_checked, mistake_of};
 use plan_words::{PlanWords, sides_of};
 use remedies::{Reasons, count_groups, kept_apart, reasons_of};
 use report::{

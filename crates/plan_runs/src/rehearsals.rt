@@ -15,7 +15,7 @@ use crate::drawings::draw_outcome;
 use bench_run::{Outcome, Rehearsal, outcome_report, status_of_outcome};
 use bus_bench::opening::MOST_SLOTS;
 use cert_check::Answered;
-use explain::{explain_rehearsal, mistake_of};
+use explain::explain_rehearsal;
 use given_plans::GivenPlan;
 use given_runs::{
     GivenOutcome, Unrehearsed, bench_given, find_rehearsed, find_self_rehearsed, self_bench_given,
@@ -24,6 +24,7 @@ use hints::{Hints, on_no_answers, on_starters, unknown_starter};
 use message_tree::Item;
 use objects::write_rehearsal;
 use plan_core::Plan;
+use plan_findings::mistake_of;
 use plan_words::PlanWords;
 use report::{Input, Output, RunError, Status};
 use run_ends::{Canvas, Ended, Extras, Halt, Remark, Sources, Style};

@@ -3,11 +3,11 @@
 use command_words::{LaidOut, Request};
 use dump_runs::{Capture, Lesson, decode, explain_capture, learn, learn_with_names, list_signals};
 use dump_tokens::{Bus, BusLines, Drive, Drives, Limits};
-use explain::Detail;
 use files::{FilesRead, Form};
 use hints::Named;
 use lessons::Likeness;
 use page_runs::{write_page_alone, write_page_with};
+use plan_findings::Detail;
 use plan_runs::{Layout, Look, Play, Rewriting, bench, bench_alone, check, order, verify};
 use report::{Input, Output};
 use run_ends::{About, Canvas, Ended, Extras, Halt, NamedSources, Sources, names_of, no_lines};

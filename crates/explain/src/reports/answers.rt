@@ -1,11 +1,11 @@
 // The answer to a certificate, explained.
 
 use crate::certificates::below_mistake;
-use crate::mistakes::Mistake;
 use crate::reports::write_block;
 use bus_rows::Paint;
 use cert_check::Answer;
 use growing_text::Text;
+use plan_findings::Mistake;
 use plan_words::PlanWords;
 use report::{Output, RunError, answer_line};
 use std::alloc::Global;

@@ -2,7 +2,6 @@
 
 use crate::faults::below_unsafe;
 use crate::group_lines::{above_rest, of_group, of_rest};
-use crate::offers::offers_for_all;
 use crate::plans::below_safe;
 use crate::reports::{BLOCK, write_block};
 use crate::unchecked::below_checked;
@@ -10,19 +9,13 @@ use bus_rows::{Paint, meeting_of};
 use certificate::Fault;
 use growing_text::Text;
 use plan_core::Plan;
+use plan_findings::{Detail, offers_for_all};
 use plan_words::PlanWords;
 use remedies::{Grouped, Mends, Reasons, both_of};
 use report::{Checked, Output, RunError, push_count, push_fault};
 use std::alloc::{AllocError, Global};
 use std::mem;
 use verdicts::Faults;
-
-/// What is written of unsafe pairs: whether each of them is, and how many groups are explained.
-#[derive(Clone, Copy)]
-pub struct Detail {
-    pub pairs: bool,
-    pub groups: u32,
-}
 
 /// Writes the report of a check. The words are those of its plan. Where there are reasons, they stand at its end with what was
 /// not checked, and before its last line an example of each group of unsafe pairs, with the bytes of both participants.

@@ -6,10 +6,10 @@ ghost use Rattle.bench_run.specs.Outcomes.{AreParticipants};
 
 use crate::benches::below_wire;
 use crate::reports::write_block;
-use crate::tracks::tracks_of;
 use bench_run::{Rehearsal, push_wire_line, push_won_line};
 use bus_rows::called_by;
 use growing_text::Text;
+use plan_findings::tracks_of;
 use plan_words::PlanWords;
 use report::{Output, RunError};
 use std::alloc::{AllocError, Global};

@@ -1,7 +1,7 @@
 use Rattle.std.proofs.Common.{ℕ, ◌<◌}
-use Rattle.explain.specs.Unchecked.{IsListed}
+use Rattle.plan_findings.specs.Unchecked.{IsListed}
 use Rattle.plan_core.specs.PlanContents.{plan_contents}
-use Rattle.explain.proofs.unchecked.is_all_checked.Given as goal
+use Rattle.plan_findings.proofs.unchecked.is_all_checked.Given as goal
 
 -- some controller lists each message so far
 abbrev pub invariant-loop-message : goal.invariant-loop-message

@@ -242,7 +242,7 @@ fn push_parting(ways: &mut Text, mends: &GroupMends, is_only: bool) {
 }
 
 /// Adds runs of slots, the first of them by first and last ones.
-pub(crate) fn push_ranges(words: &mut Text, ranges: &[(usize, usize)]) {
+pub fn push_ranges(words: &mut Text, ranges: &[(usize, usize)]) {
     for (k, range) in ranges.iter().enumerate() {
         if k < RANGES {
             words.push(if k == 0 { " " } else { ", " });

@@ -1,7 +1,7 @@
 use Rattle.std.proofs.Common.{ℕ, ◌<◌}
-use Rattle.explain.proofs.UncheckedLemmas.{Lacks}
+use Rattle.plan_findings.proofs.UncheckedLemmas.{Lacks}
 use Rattle.plan_core.specs.PlanContents.{plan_contents}
-use Rattle.explain.proofs.unchecked.is_sent.Given as goal
+use Rattle.plan_findings.proofs.unchecked.is_sent.Given as goal
 
 -- no controller so far lists it
 abbrev pub invariant-loop-c : goal.invariant-loop-c

@@ -8,7 +8,7 @@ use Rattle.std.proofs.lemmas.List.Folds.{list_any_at}
 use Rattle.std.proofs.lemmas.Map.Entries.{length-values_of}
 use Rattle.std.proofs.lemmas.Map.Views.{Contains-from_any}
 use Rattle.std.proofs.lemmas.Option.{slice_get_within}
-use Rattle.explain.specs.Unchecked.{IsListed}
+use Rattle.plan_findings.specs.Unchecked.{IsListed}
 use Rattle.plan_core.specs.Contents.{Contents}
 
 -- the list at this place does not have the message
