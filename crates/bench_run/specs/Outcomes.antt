@@ -10,7 +10,7 @@ use Rattle.cert_check.specs.declared.answers.Answer.TheVariants.{Safe}
 use Rattle.cert_check.specs.declared.answers.Answered.{Answered}
 use Rattle.bus_bench.specs.declared.finishing.Played.{Played}
 use Rattle.plays.specs.Starters.{starters_refusal}
-use Rattle.report.specs.Answers.{verify_line, answer_status}
+use Rattle.verifying.specs.Answers.{verify_line, answer_status}
 use Rattle.run_parts.specs.declared.errors.RunError.TheVariants.{NoMemory}
 use Rattle.run_parts.specs.declared.runs.Status.{Status}
 use Rattle.run_parts.specs.declared.runs.Status.TheVariants.{Good}

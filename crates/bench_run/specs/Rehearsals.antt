@@ -7,7 +7,7 @@ use Rattle.verifying.specs.Accepts.{IsCertified, AnswersBytes}
 use Rattle.cert_check.specs.declared.answers.Answer.{Answer}
 use Rattle.cert_check.specs.declared.answers.Answer.TheVariants.{Safe}
 use Rattle.plays.specs.Starters.{starters_refusal}
-use Rattle.report.specs.Answers.{verify_line, answer_status}
+use Rattle.verifying.specs.Answers.{verify_line, answer_status}
 use Rattle.run_parts.specs.PlanTexts.{RefusesPlan, SpellsPlan}
 use Rattle.run_parts.specs.Devices.{Reader}
 use Rattle.run_parts.specs.Runs.{ReadsBoth, HaltsAtBoth}

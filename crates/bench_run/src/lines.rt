@@ -9,9 +9,9 @@ use crate::values::Outcome;
 use bus_bench::Played;
 use certificate::push_wire;
 use plan_core::Plan;
-use report::{Status, answer_line, status_of_answer};
-use run_parts::push_labels;
+use run_parts::{Status, push_labels};
 use std::alloc::{AllocError, Global};
+use verifying::{answer_line, status_of_answer};
 
 /// The wire and those who were live at its end; or the line of `run_verify`, where the plan was not accepted.
 pub fn outcome_report(alloc: Global, outcome: &Outcome) -> Result<String, AllocError>

@@ -8,13 +8,12 @@ use certificate::{Cert, CertError, CertText, print_cert, read_cert};
 use growing_text::Text;
 use plan_core::Plan;
 use plan_text::{PlanError, read_plan};
-use report::{answer_line, status_of_answer};
 use run_parts::{RunError, Status};
 use std::alloc::{AllocError, Global};
 use std::str;
 use std::thread::Threads;
 use verdicts::{NoGate, Table, TableError, table, table_with};
-use verifying::{AcceptError, accept};
+use verifying::{AcceptError, accept, answer_line, status_of_answer};
 
 // ---- in place of `verify`
 

@@ -5,11 +5,11 @@ ghost use Rattle.std.specs.Prelude.{◌≡◌, ◌⊎◌, IsOkAnd};
 ghost use Rattle.run_parts.specs.Statuses.{status_code};
 
 use files::{Reread, Sheet};
-use report::{RunError, Status};
 use run_ends::{
     About, Closing, Ended, Extras, Halt, Inputs, NamedSources, Remark, advise, no_drive,
     no_timescale, refuse,
 };
+use run_parts::{RunError, Status};
 use std::io;
 use std::rt::Files;
 use std::time::Clock;

@@ -11,8 +11,8 @@ use crate::values::Diagnostic;
 use lint::Oddity;
 use plan_words::PlanWords;
 use remedies::{Grouped, grouped_of};
-use report::Checked;
 use std::alloc::{AllocError, Global};
+use verdicts::Checked;
 
 /// What is wrong with the plan that was checked, which these texts give: its unsafe pairs, those that are alike together, in the
 /// order of their groups; what is likely a mistake; and for a strict check, what was not looked at.

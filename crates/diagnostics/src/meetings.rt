@@ -9,8 +9,8 @@ use places::Offered;
 use plan_findings::why_unsafe;
 use plan_words::PlanWords;
 use remedies::{Alike, Grouped};
-use report::Checked;
 use std::alloc::{AllocError, Global};
+use verdicts::Checked;
 
 /// Adds one for the pairs of each group whose participants are called alike: at what the first one sends, and at what the
 /// other one does.

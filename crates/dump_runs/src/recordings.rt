@@ -26,11 +26,11 @@ use hints::Hints;
 use lessons::{BriefBefore, Learned, Likeness, Sights, brief_of};
 use plan_core::Plan;
 use plan_words::PlanWords;
-use report::{CaptureReport, Input, Output, RunError, Status, Telling};
+use report::{CaptureReport, Telling};
 use run_ends::{
     Canvas, Ended, Halt, Recorded, Remark, Sources, Style, halted, open_dump, write_wave,
 };
-use run_parts::write_lines;
+use run_parts::{Input, Output, RunError, Status, write_lines};
 use signals::{Dump, Listed, Recorder, SignalDump, needs_picking};
 use std::alloc::Global;
 use std::rt::Files;

@@ -11,11 +11,11 @@ ghost use Rattle.run_parts.specs.declared.errors.RunError.TheVariants.{NoMemory}
 ghost use Rattle.verdicts.specs.Faults.{AreFaults, fault_list};
 
 use given_plans::{GivenPlan, Halted, Provenance, find_among};
-use report::{Checked, check_found, check_report, status_of};
+use report::{check_found, check_report, status_of};
 use run_parts::{Input, Output, RunError, Status, write_lines};
 use std::alloc::Global;
 use std::thread::Threads;
-use verdicts::{Gate, MOST_WORKERS};
+use verdicts::{Checked, Gate, MOST_WORKERS};
 
 /// A plan that was checked, and what it was read from.
 #[derive(Drop)]

@@ -15,10 +15,11 @@ use crate::checking::{GivenCheck, find_checked};
 use given_plans::Halted;
 use order::{Order, order_of, order_report};
 use plan_core::Plan;
-use report::{NoGate, status_of};
+use report::status_of;
 use run_parts::{Input, Output, RunError, Status, write_lines};
 use std::alloc::Global;
 use std::thread::Threads;
+use verdicts::NoGate;
 
 /// A plan that was checked, and who wins its pairs.
 #[derive(Drop)]

@@ -11,10 +11,12 @@ use hints::Named;
 use lint::{Oddity, oddities};
 use plan_core::Plan;
 use plan_words::{BriefFiles, PlanWords};
-use report::{Checked, NoGate, RunError, Watched, check_found};
+use report::check_found;
 use run_ends::{Halt, NamedSources, Sources};
+use run_parts::{RunError, Watched};
 use std::alloc::{AllocError, Global};
 use std::thread::Threads;
+use verdicts::{Checked, NoGate};
 
 /// The texts of a plan, to be read.
 pub(crate) type Texts<'a> = Sources<'a, Watched<&'a [u8]>>;

@@ -15,7 +15,7 @@ use crate::rpc::{
     message_of, number_in, text_in,
 };
 use growing_text::Text;
-use report::Status;
+use run_parts::Status;
 use serde_json::Value;
 use std::alloc::{AllocError, Global};
 use std::rt::Files;

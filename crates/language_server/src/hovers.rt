@@ -12,9 +12,9 @@ use order::{Order, order_of, scores_of};
 use plan_core::Plan;
 use plan_text::places::Kind;
 use plan_words::{PlanWords, Sides, sides_of};
-use report::Checked;
 use std::alloc::{AllocError, Global};
 use std::thread::Threads;
+use verdicts::Checked;
 
 // The rows of so many messages of a family are shown.
 const MOST: usize = 3;

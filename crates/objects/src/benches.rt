@@ -6,7 +6,7 @@ use bus_rows::{Labels, labels_of};
 use object_lines::ObjectLines;
 use plan_findings::{Track, WireTracks, tracks_of};
 use plan_words::PlanWords;
-use report::{Output, RunError};
+use run_parts::{Output, RunError};
 use std::alloc::Global;
 
 /// Writes the objects of a rehearsal of the plan of these words, explained where that is wanted.

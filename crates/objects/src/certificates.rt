@@ -8,7 +8,7 @@ use object_lines::ObjectLines;
 use plan_core::Plan;
 use plan_findings::{Break, Mistake, Reason};
 use plan_words::PlanWords;
-use report::{Output, RunError};
+use run_parts::{Output, RunError};
 use std::alloc::Global;
 
 /// Writes the object of the answer to a certificate of the plan of these words, which may be refused there, and what is

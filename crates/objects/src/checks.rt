@@ -12,8 +12,9 @@ use plan_core::Plan;
 use plan_findings::{Detail, unsent_in};
 use plan_words::PlanWords;
 use remedies::{GroupMends, Grouped, Mends, Never, Reasons, Safety};
-use report::{Checked, Output, RunError};
+use run_parts::{Output, RunError};
 use std::alloc::Global;
+use verdicts::Checked;
 
 /// Writes an object for each unsafe pair of a plan that was checked, one for each group of them, one for each likely mistake in the
 /// briefs that mean it, and one for the plan. The words are those of the plan. There are groups where there are reasons. Then the

@@ -7,9 +7,9 @@ use crate::pairs::{Pairs, Unsafe};
 use crate::parties::{Controllers, Interrupts, Messages, Nevers, Participants};
 use crate::recording::Recorded;
 use crate::ways::{Way, Ways};
-use report::Checked;
 use serde::Serialize;
 use std::alloc::{AllocError, Global};
+use verdicts::Checked;
 
 // All of it. Messages, controllers, interrupts, participants and pairs have their numbers in the plan, from 0.
 #[derive(Clone, Copy, Serialize)]

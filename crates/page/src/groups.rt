@@ -6,9 +6,9 @@ use causes::Group;
 use plan_findings::{offer_for_group, why_unsafe};
 use plan_words::PlanWords;
 use remedies::Grouped;
-use report::Checked;
 use serde::{Described, Serialize, Serializer};
 use std::alloc::{AllocError, Global};
+use verdicts::Checked;
 
 /// The groups of the unsafe pairs of a plan, in the order of their numbers.
 #[derive(Clone, Copy)]

@@ -3,9 +3,9 @@
 use plan_findings::{Offer, offers_for_all};
 use plan_words::PlanWords;
 use remedies::{Grouped, Mends};
-use report::Checked;
 use serde::Serialize;
 use std::alloc::{AllocError, Global};
+use verdicts::Checked;
 
 /// An offer: what is said, the items below it, and what is said after these, if anything is.
 #[derive(Drop, Serialize)]

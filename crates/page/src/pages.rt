@@ -15,8 +15,8 @@ use memchr::{memchr, memchr3};
 use order::Order;
 use plan_words::PlanWords;
 use remedies::{Grouped, Mends};
-use report::Checked;
 use std::alloc::{AllocError, Global};
+use verdicts::Checked;
 
 /// What a page shows.
 #[derive(Clone, Copy)]

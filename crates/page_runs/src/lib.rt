@@ -14,17 +14,16 @@ use page::{Page, Recording, Texts, page_of};
 use plan_core::Plan;
 use plan_words::PlanWords;
 use remedies::{Mends, grouped_of, mends_of};
-use report::{
-    Checked, Input, NoGate, Output, RunError, Status, Watched, check_found, check_report, status_of,
-};
+use report::{check_found, check_report, status_of};
 use run_ends::{Ended, Halt, Recorded, Remark, Sources, halted, open_dump};
-use run_parts::write_lines;
+use run_parts::{Input, Output, RunError, Status, Watched, write_lines};
 use signals::{Dump, Recorder};
 use spellings::print_plan;
 use std::alloc::{AllocError, Global};
 use std::str;
 use std::thread::Threads;
 use transaction_lines::{CaptureLines, Layout, Selection};
+use verdicts::{Checked, NoGate};
 
 /// Writes the page of a plan.
 pub fn write_page_alone<R: AllocGlobal + Threads + Sync, I: Input, O: Output>(

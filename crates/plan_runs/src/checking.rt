@@ -35,17 +35,16 @@ use plan_core::Plan;
 use plan_findings::{Detail, Mistake, is_all_checked, mistake_of};
 use plan_words::{PlanWords, sides_of};
 use remedies::{Reasons, count_groups, kept_apart, reasons_of};
-use report::{
-    Checked, Gate, Input, Output, RunError, Status, answer_line, check_report, read_within,
-    status_of, status_of_answer,
-};
+use report::{check_report, status_of};
 use run_ends::{Canvas, Ended, Extras, Format, Halt, Remark, Sources, Style};
 use run_parts::devices::reading::READS;
-use run_parts::write_lines;
+use run_parts::{Input, Output, RunError, Status, read_within, write_lines};
 use std::alloc::{AllocError, Global};
 use std::rt::Files;
 use std::thread::Threads;
 use std::time::Clock;
+use verdicts::{Checked, Gate};
+use verifying::{answer_line, status_of_answer};
 
 // So many unsafe pairs are seen without groups.
 const FEW: usize = 20;

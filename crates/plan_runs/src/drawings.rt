@@ -2,10 +2,11 @@
 
 use bench_run::Outcome;
 use hints::{NoWaves, on_no_waves};
-use report::{Checked, Status};
 use run_ends::{Canvas, Halt, say, write_wave};
+use run_parts::Status;
 use std::rt::Files;
 use std::time::Clock;
+use verdicts::Checked;
 use waves::{wave_of_bench, wave_of_check};
 
 /// Draws the fault of an unsafe pair of a plan that was checked.

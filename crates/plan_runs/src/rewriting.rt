@@ -12,9 +12,8 @@ use given_runs::{
 use growing_text::{Text, push_shown};
 use hints::on_no_brief;
 use plan_text::NoBrief;
-use report::{Input, Output, RunError, Status};
 use run_ends::{Ended, Halt, Remark, Sources, Takes};
-use run_parts::write_lines;
+use run_parts::{Input, Output, RunError, Status, write_lines};
 use spellings::brief_word;
 use std::alloc::{AllocError, Global};
 

@@ -7,8 +7,8 @@ use crate::groups::{Grouped, grouped_of};
 use crate::mends::{Mends, mends_of};
 use crate::safety::{Safety, safety_of};
 use plan_words::PlanWords;
-use report::Checked;
 use std::alloc::{AllocError, Global};
+use verdicts::Checked;
 
 /// What explains the verdict on a plan.
 #[derive(Drop)]

@@ -4,7 +4,7 @@ use Rattle.plan_core.specs.PlanContents.{plan_contents}
 use Rattle.report.specs.Checks.{Judges, Checked}
 use Rattle.report.specs.FaultLines.{fault_report}
 use Rattle.report.specs.Found.{CheckOf}
-use Rattle.report.specs.declared.found.Checked as value
+use Rattle.verdicts.specs.declared.checked.Checked as value
 use Rattle.report.proofs.LineLemmas.{report_is}
 use Rattle.run_parts.specs.declared.runs.Status.{Status}
 use Rattle.verdicts.specs.Faults.{AreFaults, fault_list}

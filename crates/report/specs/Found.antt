@@ -2,7 +2,7 @@
 use Rattle.std.specs.Prelude.{ℕ, List}
 use Rattle.plan_core.specs.PlanContents.{plan_contents}
 use Rattle.plan_text.specs.Grammar.{Spells}
-use Rattle.report.specs.declared.found.Checked as value
+use Rattle.verdicts.specs.declared.checked.Checked as value
 use Rattle.verdicts.specs.Faults.{AreFaults, fault_list}
 pub use Rattle.verifying.specs.Verified.{AnswerOf}
 

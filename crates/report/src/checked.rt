@@ -8,12 +8,11 @@ ghost use Rattle.run_parts.specs.PlanTexts.{RefusesPlan};
 ghost use Rattle.run_parts.specs.Runs.{ReadsText, HaltsAtText};
 ghost use Rattle.verdicts.specs.Faults.{AreFaults, fault_list};
 
-use crate::found::Checked;
 use plan_core::Plan;
 use run_parts::{Input, RunError};
 use std::alloc::{AllocError, Global};
 use std::thread::Threads;
-use verdicts::{Faults, Gate, MOST_WORKERS, faults_with};
+use verdicts::{Checked, Faults, Gate, MOST_WORKERS, faults_with};
 use verifying::find_plan;
 
 /// Checks the plan that the reader gives.

@@ -8,10 +8,10 @@ ghost use Rattle.verdicts.specs.Faults.{fault_list};
 ghost use Rattle.report.specs.FaultLines.{fault_report};
 ghost use Rattle.report.specs.Lines.{fault_text, fault_line, last_line};
 
-use crate::found::Checked;
 use certificate::{Fault, push_wire};
 use plan_core::Plan;
 use std::alloc::{AllocError, Global};
+use verdicts::Checked;
 
 /// The report of a check: a line for each pair that is not safe, in the order of the pairs, and one that counts them.
 pub fn check_report(alloc: Global, checked: &Checked) -> Result<String, AllocError>

@@ -19,11 +19,12 @@ use hints::{
 };
 use plan_text::PlanError;
 use refusal_objects::Detail;
-use report::{Probe, RunError, Status};
+use run_parts::{RunError, Status};
 use std::alloc::{AllocError, Global};
 use std::io::{self, Read, Seek};
 use std::time::Clock;
 use transaction_lines::Seen;
+use vcd_read::Probe;
 
 /// What hints say of a run beside its files.
 #[derive(Clone, Copy)]

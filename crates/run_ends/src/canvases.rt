@@ -3,8 +3,7 @@
 use crate::endings::Halt;
 use crate::extras::Extras;
 use files::{FilesRead, Form, Sheet};
-use report::{Status, Watched};
-use run_parts::write_lines;
+use run_parts::{Status, Watched, write_lines};
 use std::rt::Files;
 use std::time::Clock;
 

@@ -2,7 +2,7 @@
 
 use crate::endings::Halt;
 use dump_tokens::Bus;
-use report::{Input, RunError};
+use run_parts::{Input, RunError};
 use signals::Dump;
 use std::alloc::Global;
 

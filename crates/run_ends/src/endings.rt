@@ -8,7 +8,7 @@ use given_plans::{Halted, RefusedText};
 use hints::{Earlier, Hints, RefusedIn, first_stand, missing_semicolon_at};
 use plan_text::PlanError;
 use refusal_objects::{Detail, EarlierAt, TextDetail};
-use report::{RunError, Status};
+use run_parts::{RunError, Status};
 use std::alloc::{AllocError, Global};
 use std::io;
 use transaction_lines::Seen;

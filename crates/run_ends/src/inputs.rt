@@ -8,7 +8,7 @@ use files::{FileId, Reread, Source, is_standard_input, missing, open_file, rerea
 use hints::Named;
 use plan_words::BriefFiles;
 use refusal_objects::Detail;
-use report::{Input as _, RunError};
+use run_parts::{Input as _, RunError};
 use std::io;
 use std::rt::Files;
 use std::time::Clock;

@@ -8,7 +8,7 @@ use growing_text::{Text, push_shown};
 use plan_text::PlanError;
 use plan_words::called;
 use refusal_objects::Detail;
-use report::RunError;
+use run_parts::RunError;
 use std::alloc::{AllocError, Global};
 use vcd_read::{VcdError, Wrong};
 

@@ -10,7 +10,7 @@ use given_plans::{GivenPlan, Halted, Provenance, find_among, find_in_briefs};
 use lexer::{Letters, Lexeme, Lexer, Symbol};
 use plan_core::Plan;
 use plan_words::{BriefFiles, PlanWords};
-use report::{Input, RunError};
+use run_parts::{Input, RunError};
 use std::alloc::Global;
 
 /// The text that a run is over, or the briefs that give its plan, one after another.

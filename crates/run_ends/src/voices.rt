@@ -6,7 +6,7 @@ use plan_words::called;
 use refusal_objects::{
     Detail, TextDetail, code_of, drive_object, hint_objects, refusal_object, timescale_object,
 };
-use report::RunError;
+use run_parts::RunError;
 use std::alloc::{AllocError, Global};
 
 /// How refusals and hints are written.

@@ -2,7 +2,7 @@
 
 use crate::gates::{Flag, Yields};
 use bench_run::{Gate, run_bench};
-use report::{Status, Watched};
+use run_parts::{Status, Watched};
 use std::alloc::Global;
 use std::sync::Wait;
 use std::sync::atomic::{AtomicU64, Ordering};

@@ -1,15 +1,15 @@
 // Runs over streams that fail: a reader at each of its calls, and a writer after each number of bytes.
 
 use bench_run::{NoGate, run_bench};
-use report::{
-    FaultyReader, FaultyWriter, Probe, RunError, Status, find_plan, live_capture, read_within,
-    run_capture, run_certify, run_check, run_verify,
-};
+use report::{FaultyReader, FaultyWriter, live_capture, run_capture, run_certify, run_check};
+use run_parts::{RunError, Status, read_within};
 use spellings::{run_brief, run_expand, run_print};
 use std::alloc::{AllocError, Global};
 use std::sync::Wait;
 use std::thread::Threads;
 use std::time::Clock;
+use vcd_read::Probe;
+use verifying::{find_plan, run_verify};
 
 #[derive(Clone, Copy)]
 enum Run {

@@ -9,11 +9,11 @@ use growing_text::visible;
 use hints::Named;
 use language_server::serve;
 use refusal_objects::Detail;
-use report::{RunError, Watched};
 use run_ends::{
     Extras, Format as Written, NamedSources, Voice, both_read, one_read, open_both, open_sources,
     refused,
 };
+use run_parts::{RunError, Watched};
 use std::env::{self, VarError};
 use std::io;
 use std::rt::{Env, Files};

@@ -2,8 +2,8 @@
 
 use crate::drawing::wave_of;
 use bench_run::Rehearsal;
-use report::Checked;
 use std::alloc::{AllocError, Global};
+use verdicts::Checked;
 
 /// The waves of an unsafe pair of a plan that was checked, up to the slot of its first fault: of the pair with this number, or
 /// of the first one. There are none where that pair is safe, or is none of the plan.

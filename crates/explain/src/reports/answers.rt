@@ -7,8 +7,9 @@ use cert_check::Answer;
 use growing_text::Text;
 use plan_findings::Mistake;
 use plan_words::PlanWords;
-use report::{Output, RunError, answer_line};
+use run_parts::{Output, RunError};
 use std::alloc::Global;
+use verifying::answer_line;
 
 /// Writes the line of the answer to a certificate of a plan, and below it what is wrong, where that was found.
 ///

@@ -12,10 +12,11 @@ use plan_core::Plan;
 use plan_findings::{Detail, offers_for_all};
 use plan_words::PlanWords;
 use remedies::{Grouped, Mends, Reasons, both_of};
-use report::{Checked, Output, RunError, push_count, push_fault};
+use report::{push_count, push_fault};
+use run_parts::{Output, RunError};
 use std::alloc::{AllocError, Global};
 use std::mem;
-use verdicts::Faults;
+use verdicts::{Checked, Faults};
 
 /// Writes the report of a check. The words are those of its plan. Where there are reasons, they stand at its end with what was
 /// not checked, and before its last line an example of each group of unsafe pairs, with the bytes of both participants.

@@ -11,7 +11,7 @@ use bus_rows::called_by;
 use growing_text::Text;
 use plan_findings::tracks_of;
 use plan_words::PlanWords;
-use report::{Output, RunError};
+use run_parts::{Output, RunError};
 use std::alloc::{AllocError, Global};
 
 /// Writes the report of a rehearsal, and below the wire what each of the starters put in each slot. The words are those of its

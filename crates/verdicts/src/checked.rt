@@ -3,8 +3,8 @@
 ghost use Rattle.plan_core.specs.PlanContents.{plan_contents};
 ghost use Rattle.verdicts.specs.Faults.{AreFaults, fault_list};
 
+use crate::listed::Faults;
 use plan_core::Plan;
-use verdicts::Faults;
 
 /// A plan and the faults of its pairs, and no others.
 #[derive(Drop)]
