@@ -2,7 +2,7 @@
 
 use crate::lines::push_count;
 use crate::telling::ByteTelling;
-use capture_check::Transaction;
+use capture_check::{Rises, Transaction};
 use decoding::TransactionSink;
 use run_parts::{Output, RunError, write_report};
 use std::alloc::Global;
@@ -17,11 +17,13 @@ pub struct ByteCounts {
     pub transactions: u64,
     /// How many of them a STOP ended.
     pub stopped: u64,
+    /// How often SCL has risen.
+    pub rises: Rises,
 }
 
 /// Writes the lines of transactions as they come, and counts them.
 #[derive(Drop)]
-pub struct ByteWriting<'a, O> {
+pub(crate) struct ByteWriting<'a, O> {
     pub(crate) out: &'a mut O,
     // the lines that have not been written, and the counts
     pub(crate) telling: ByteTelling,
@@ -30,15 +32,18 @@ pub struct ByteWriting<'a, O> {
 }
 
 impl<'a, O: Output> ByteWriting<'a, O> {
-    ghost use Rattle.std.specs.Prelude.{◌≡◌, ◌⊎◌, [], ◌++◌, OnOk, IfErr, string_bytes};
+    ghost use Rattle.std.specs.Prelude.{◌≡◌, ◌⊎◌, [], ◌++◌, IfOk, OnOk, IfErr, string_bytes};
     ghost use Rattle.byte_lines.specs.Lines.{count_line};
     ghost use Rattle.run_parts.specs.Writing.{WritesAll, WritingStops};
+    ghost use Rattle.run_parts.specs.declared.errors.RunError.TheVariants.{NoMemory};
 
     /// Nothing has been written. Where it is live, the lines of all that has ended are written before the dump is read on,
     /// and else in blocks.
-    pub fn new(alloc: Global, live: bool, out: &'a mut O) -> ByteWriting<'a, O>
+    pub(crate) fn new(alloc: Global, live: bool, out: &'a mut O) -> ByteWriting<'a, O>
         ensures lines { string_bytes result.telling.lines ≡ [] }
+        ensures transactions { result.telling.transactions ≡ 0 }
         ensures stopped { result.telling.stopped ≡ 0 }
+        ensures live { result.live ≡ live }
     {
         ByteWriting {
             out,
@@ -53,6 +58,7 @@ impl<'a, O: Output> ByteWriting<'a, O> {
         ensures written { OnOk result (
             WritesAll O.writer self.old.out.now (string_bytes self.old.telling.lines) self.new.out.now) }
         ensures lines { OnOk result (string_bytes self.new.telling.lines ≡ []) }
+        ensures transactions { self.new.telling.transactions ≡ self.old.telling.transactions }
         ensures stopped { self.new.telling.stopped ≡ self.old.telling.stopped }
         ensures live { self.new.live ≡ self.old.live }
         ensures stops { IfErr result (λ error.
@@ -64,20 +70,25 @@ impl<'a, O: Output> ByteWriting<'a, O> {
     }
 
     /// Writes the lines that are left, and answers what all of them tell.
-    ///
-    /// # Errors
-    ///
-    /// `Write` where the writer failed or took no bytes, and `NoMemory` where an allocation fails.
-    pub fn finish(&mut self) -> Result<ByteCounts, RunError>
+    pub(crate) fn finish(&mut self, rises: Rises) -> Result<ByteCounts, RunError>
+        ensures same_writer { self.new.out.ghost_name ≡ self.old.out.ghost_name }
         ensures written { OnOk result (WritesAll O.writer self.old.out.now
             (string_bytes self.old.telling.lines ++ count_line self.old.telling.stopped) self.new.out.now) }
+        ensures transactions { IfOk result (λ it. it.transactions ≡ self.old.telling.transactions) }
+        ensures stopped { IfOk result (λ it. it.stopped ≡ self.old.telling.stopped) }
+        ensures stops { IfErr result (λ error. ((error ≡ NoMemory) × (self.new.out.now ≡ self.old.out.now))
+            ⊎ WritingStops O.writer self.old.out.now
+            (string_bytes self.old.telling.lines ++ count_line self.old.telling.stopped) error self.new.out.now) }
     {
         push_count(&mut self.telling.lines, self.telling.stopped)?;
-        self.write()?;
-        Ok(ByteCounts {
-            transactions: self.telling.transactions,
-            stopped: self.telling.stopped,
-        })
+        match self.write() {
+            Ok(()) => Ok(ByteCounts {
+                transactions: self.telling.transactions,
+                stopped: self.telling.stopped,
+                rises,
+            }),
+            Err(error) => Err(error),
+        }
     }
 }
 

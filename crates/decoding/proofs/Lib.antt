@@ -1,3 +1,4 @@
 pub mod DumpLemmas
 pub mod TakingLemmas
 pub mod DecodingLemmas
+pub mod PartLemmas
