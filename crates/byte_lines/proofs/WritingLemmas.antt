@@ -1,5 +1,5 @@
 -- What lines that are written as they come say, once the writer has them.
-use Rattle.std.proofs.Common.{◌≡◌, ◌≤◌, ◌⊎◌, inl, inr, ℕ, ◌+◌, Bool, true, false, List, [], ◌++◌, length, length-append, Ok, string_bytes, ap, sym, ◌∙◌, subst, refl, append_assoc, append-nil, arith}
+use Rattle.std.proofs.Common.{◌≡◌, ◌≤◌, ◌⊎◌, inl, inr, ℕ, ◌+◌, Bool, true, false, List, [], ◌++◌, length, length-append, Result, Ok, Err, IfOk, IfErr, OnOk, string_bytes, ap, sym, ◌∙◌, subst, refl, append_assoc, append-nil, arith}
 use Rattle.byte_lines.specs.Decoded.{DecodeOf}
 use Rattle.byte_lines.specs.DecodedRuns.{FirstLines, LinesOfDump, TellsDecoded, HaltsDecoded}
 use Rattle.byte_lines.specs.DecodedRuns.{at_dump as halts_at_dump, at_both as halts_at_both, at_writer, at_end as halts_at_end, at_report}
@@ -218,10 +218,10 @@ module _ {O : Type 0} (writer : Writer O) where
             (subst (λ (us : List Recorded). IsLeft writer start.out.now (decode_lines us ++ count_line (stopped in_dump)) (decode_lines at_its_end.kept ++ count_line (stopped in_dump)) told.out.now) (sym at_its_end.split)
             (more_left in_dump at_its_end.kept told (count_line (stopped in_dump)) at_its_end))
 
-        whole : DecodeOf least scl sda all.dump (decode_report in_dump)
+        abbrev whole : DecodeOf least scl sda all.dump (decode_report in_dump)
         whole = record { samples = all.decodes.samples; read = all.decodes.read; lines = refl }
 
-        pub ends_decoded : (it : ByteCounts) (end : O) → it.transactions ≡ told.telling.transactions → it.stopped ≡ told.telling.stopped → WritesAll writer told.out.now (string_bytes told.telling.lines ++ count_line told.telling.stopped) end → TellsDecoded least scl sda second writer before start.out.now it now end
+        ends_decoded : (it : ByteCounts) (end : O) → it.transactions ≡ told.telling.transactions → it.stopped ≡ told.telling.stopped → WritesAll writer told.out.now (string_bytes told.telling.lines ++ count_line told.telling.stopped) end → TellsDecoded least scl sda second writer before start.out.now it now end
         ends_decoded it end same_transactions same_stopped written = record {
           dump = all.dump;
           read = all.read;
@@ -235,14 +235,32 @@ module _ {O : Type 0} (writer : Writer O) where
         }
 
         -- memory ran out for the last line
-        pub no_last : Halts error.NoMemory now told.out.now
+        no_last : Halts error.NoMemory now told.out.now
         no_last =
             halts_at_end all.read
             (told_of_dump all.dump all.decodes.samples in_dump [] told all.decodes.read (sym (append-nil in_dump)) at_its_end)
             (told_lines in_dump told at_its_end)
 
-        pub last_fails : (e : RunError) (end : O) → WritingStops writer told.out.now (string_bytes told.telling.lines ++ count_line told.telling.stopped) e end → Halts e now end
+        last_fails : (e : RunError) (end : O) → WritingStops writer told.out.now (string_bytes told.telling.lines ++ count_line told.telling.stopped) e end → Halts e now end
         last_fails e end stops =
             at_report all.read whole
             (part_stops writer start.out.now (decode_report in_dump) [] (decode_lines at_its_end.kept ++ count_line (stopped in_dump)) told.out.now end e last_left
             (subst (λ (lines : List ℕ). WritingStops writer told.out.now lines e end) last_lines stops))
+
+        -- ---- how the writing of what is left ends
+
+        abbrev left : List ℕ
+        left = string_bytes told.telling.lines ++ count_line told.telling.stopped
+
+        pub ends : (r : Result ByteCounts RunError) (end : O) → IfOk r (λ it. it.transactions ≡ told.telling.transactions) → IfOk r (λ it. it.stopped ≡ told.telling.stopped) → OnOk r (WritesAll writer told.out.now left end) → IfOk r (λ it. TellsDecoded least scl sda second writer before start.out.now it now end)
+        ends (Ok it) end same_transactions same_stopped written = ends_decoded it end same_transactions same_stopped written
+        ends (Err e) end same_transactions same_stopped written = tt
+
+        halts_last : (e : RunError) (end : O) → ((e ≡ error.NoMemory) × (end ≡ told.out.now)) ⊎ WritingStops writer told.out.now left e end → Halts e now end
+        halts_last e end (inl memory) =
+            subst (λ (out : O). Halts e now out) (sym memory.1) (subst (λ (d : RunError). Halts d now told.out.now) (sym memory.0) no_last)
+        halts_last e end (inr stops) = last_fails e end stops
+
+        pub halts : (r : Result ByteCounts RunError) (end : O) → IfErr r (λ e. ((e ≡ error.NoMemory) × (end ≡ told.out.now)) ⊎ WritingStops writer told.out.now left e end) → IfErr r (λ e. Halts e now end)
+        halts (Ok it) end why = tt
+        halts (Err e) end why = halts_last e end why

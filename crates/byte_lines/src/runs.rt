@@ -65,7 +65,11 @@ pub fn write_decoded<J: Input, O: Output>(
     ensures stops { IfErr result (λ error.
         HaltsDecoded least (asked scl.entry) (asked sda.entry) J.reader O.writer vcd.old out.old error vcd.new out.new) }
 {
-    let mut lines = ByteWriting::new(alloc, live, &mut *out);
+    let mut lines = ByteWriting {
+        out,
+        telling: ByteTelling::new(alloc),
+        live,
+    };
     match decode(alloc, vcd, scl, sda, least, &mut lines, wrong) {
         Ok(ending) => lines.finish(ending.rises),
         Err(error) => Err(error),

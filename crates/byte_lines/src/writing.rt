@@ -5,7 +5,6 @@ use crate::telling::ByteTelling;
 use capture_check::{Rises, Transaction};
 use decoding::TransactionSink;
 use run_parts::{Output, RunError, write_report};
-use std::alloc::Global;
 
 // How many bytes are kept before they are written.
 const BLOCK: usize = 65_536;
@@ -21,7 +20,8 @@ pub struct ByteCounts {
     pub rises: Rises,
 }
 
-/// Writes the lines of transactions as they come, and counts them.
+/// Writes the lines of transactions as they come, and counts them. Where it is live, the lines of all that has ended are written
+/// before the dump is read on, and else in blocks.
 #[derive(Drop)]
 pub(crate) struct ByteWriting<'a, O> {
     pub(crate) out: &'a mut O,
@@ -31,26 +31,11 @@ pub(crate) struct ByteWriting<'a, O> {
     pub(crate) live: bool,
 }
 
-impl<'a, O: Output> ByteWriting<'a, O> {
+impl<O: Output> ByteWriting<'_, O> {
     ghost use Rattle.std.specs.Prelude.{◌≡◌, ◌⊎◌, [], ◌++◌, IfOk, OnOk, IfErr, string_bytes};
     ghost use Rattle.byte_lines.specs.Lines.{count_line};
     ghost use Rattle.run_parts.specs.Writing.{WritesAll, WritingStops};
     ghost use Rattle.run_parts.specs.declared.errors.RunError.TheVariants.{NoMemory};
-
-    /// Nothing has been written. Where it is live, the lines of all that has ended are written before the dump is read on,
-    /// and else in blocks.
-    pub(crate) fn new(alloc: Global, live: bool, out: &'a mut O) -> ByteWriting<'a, O>
-        ensures lines { string_bytes result.telling.lines ≡ [] }
-        ensures transactions { result.telling.transactions ≡ 0 }
-        ensures stopped { result.telling.stopped ≡ 0 }
-        ensures live { result.live ≡ live }
-    {
-        ByteWriting {
-            out,
-            telling: ByteTelling::new(alloc),
-            live,
-        }
-    }
 
     // Writes the lines that are kept.
     fn write(&mut self) -> Result<(), RunError>

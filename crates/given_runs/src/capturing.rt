@@ -7,18 +7,14 @@ ghost use Rattle.given_runs.specs.Due.{CapturedPlan};
 ghost use Rattle.given_runs.specs.Inputs.{DueForBoth, HaltsAtEither, ReadsTextsAndOne};
 ghost use Rattle.given_runs.specs.Written.{StopsCapturing, Wrote};
 ghost use Rattle.plan_core.specs.PlanContents.{plan_contents};
-ghost use Rattle.report.specs.Captures.{CaptureOf};
 ghost use Rattle.report.specs.LiveCaptures.{TellsLive};
 ghost use Rattle.run_parts.specs.Runs.{ReadsText, Reports, Stops};
 ghost use Rattle.run_parts.specs.Writing.{WritesAll, WritingStops};
 ghost use Rattle.vcd_read.specs.Views.{asked};
 
-use capture_check::Rises;
-use decoding::{Explaining, decode};
 use given_plans::{GivenPlan, Halted, find_among};
-use plan_core::Plan;
-use report::{CaptureCounts, CaptureReport, Telling, live_capture};
-use run_parts::{Input, Output, RunError, write_lines};
+use report::{CaptureCounts, CaptureReport, live_capture, read_capture};
+use run_parts::{Input, Output, write_lines};
 use std::alloc::Global;
 use std::thread::Threads;
 use vcd_read::{Probe, Wrong};
@@ -28,8 +24,6 @@ use vcd_read::{Probe, Wrong};
 pub struct GivenCapture {
     pub given: GivenPlan,
     pub captured: CaptureReport,
-    /// How often SCL has risen.
-    pub rises: Rises,
 }
 
 /// Explains the capture that the second reader gives, a value change dump, by the plan that the first ones give, and writes the
@@ -88,7 +82,7 @@ fn capture_plan<R: Threads + Sync, J: Input, O: Output>(
     ensures no_text { IfErr result (λ e. IfSome e.text (λ it. ⊥)) }
 {
     match read_capture(rt, alloc, &given.plan, vcd, scl, sda, least, wrong) {
-        Ok((captured, rises)) => write_capture(given, captured, rises, out),
+        Ok(captured) => write_capture(given, captured, out),
         Err(error) => Err(Halted::from(error)),
     }
 }
@@ -97,7 +91,6 @@ fn capture_plan<R: Threads + Sync, J: Input, O: Output>(
 fn write_capture<O: Output>(
     given: GivenPlan,
     captured: CaptureReport,
-    rises: Rises,
     out: &mut O,
 ) -> Result<GivenCapture, Halted>
     ensures status { IfOk result (λ it. it.captured.status ≡ captured.status) }
@@ -106,40 +99,9 @@ fn write_capture<O: Output>(
     ensures no_text { IfErr result (λ e. IfSome e.text (λ it. ⊥)) }
 {
     match write_lines(out, captured.report.as_bytes(), captured.status) {
-        Ok(_) => Ok(GivenCapture {
-            given,
-            captured,
-            rises,
-        }),
+        Ok(_) => Ok(GivenCapture { given, captured }),
         Err(error) => Err(Halted::from(error)),
     }
-}
-
-// The report of the dump that a reader gives, the status of a run with that report, and how often SCL has risen.
-fn read_capture<R: Threads + Sync, J: Input>(
-    rt: &R,
-    alloc: Global,
-    plan: &Plan,
-    vcd: &mut J,
-    scl: Probe<'_>,
-    sda: Probe<'_>,
-    least: u64,
-    wrong: &mut Option<Wrong>,
-) -> Result<(CaptureReport, Rises), RunError>
-    ensures all { IfOk result (λ it. (dump : List ℕ) × ReadsText J.reader vcd.old dump vcd.new
-        × CaptureOf least (asked scl.entry) (asked sda.entry) (plan_contents plan.now) dump (string_bytes it.0.report) it.0.status) }
-    ensures stops { IfErr result (λ error. HaltsAtDump J.reader (asked scl.entry) (asked sda.entry) vcd.old error vcd.new) }
-{
-    let mut explaining = Explaining {
-        rt,
-        alloc,
-        plan,
-        sink: Telling::new(alloc),
-    };
-    let ending = decode(alloc, vcd, scl, sda, least, &mut explaining, wrong)?;
-    let telling = explaining.sink;
-    let captured = telling.finish()?;
-    Ok((captured, ending.rises))
 }
 
 /// A plan that is given, and what a run has told of a capture by it while it read that.

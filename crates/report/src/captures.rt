@@ -16,7 +16,7 @@ use run_parts::devices::reading::READS;
 use run_parts::{Input, Output, RunError, Status, read_within, write_lines};
 use std::alloc::Global;
 use std::thread::Threads;
-use vcd_read::Probe;
+use vcd_read::{Probe, Wrong};
 
 /// Explains the capture that the second reader gives, a value change dump, by the plan that the first reader gives: a
 /// line for each transaction, and one that counts those that a STOP ended and those of them that nobody explains. `scl`
@@ -85,12 +85,18 @@ pub fn run_capture_of<I: Input, J: Input, O: Output>(
 {
     let text = read_within(alloc, plan, READS)?;
     let plan = read_plan(alloc, text.as_slice())?;
-    let captured = read_capture(rt, alloc, &plan, vcd, scl, sda, least)?;
+    let captured = read_capture(rt, alloc, &plan, vcd, scl, sda, least, &mut None)?;
     write_lines(out, captured.report.as_bytes(), captured.status)
 }
 
-// The report of the dump that a reader gives, and the status of a run with that report.
-fn read_capture<J: Input>(
+/// The report of the dump that a reader gives, by a plan that was read, and the status of a run with that report. Where the dump
+/// is refused, `wrong` then has what is wrong, as far as there was memory for it.
+///
+/// # Errors
+///
+/// `Read` where the reader failed or gave no end, `Vcd` with the first refusal of the dump, and `NoMemory` where an allocation
+/// fails.
+pub fn read_capture<J: Input>(
     rt: &(impl Threads + Sync),
     alloc: Global,
     plan: &Plan,
@@ -98,6 +104,7 @@ fn read_capture<J: Input>(
     scl: Probe<'_>,
     sda: Probe<'_>,
     least: u64,
+    wrong: &mut Option<Wrong>,
 ) -> Result<CaptureReport, RunError>
     ensures all { IfOk result (λ it. (dump : List ℕ) × ReadsText J.reader vcd.old dump vcd.new
         × CaptureOf least (asked scl.entry) (asked sda.entry) (plan_contents plan.now) dump (string_bytes it.report) it.status) }
@@ -109,8 +116,9 @@ fn read_capture<J: Input>(
         plan,
         sink: Telling::new(alloc),
     };
-    decode(alloc, vcd, scl, sda, least, &mut explaining, &mut None)?;
-    let telling = explaining.sink;
+    let ending = decode(alloc, vcd, scl, sda, least, &mut explaining, wrong)?;
+    let mut telling = explaining.sink;
+    telling.rises = ending.rises;
     let captured = telling.finish()?;
     Ok(captured)
 }
