@@ -65,9 +65,10 @@ pub fn write_decoded<J: Input, O: Output>(
     ensures stops { IfErr result (λ error.
         HaltsDecoded least (asked scl.entry) (asked sda.entry) J.reader O.writer vcd.old out.old error vcd.new out.new) }
 {
+    let mut telling = ByteTelling::new(alloc);
     let mut lines = ByteWriting {
         out,
-        telling: ByteTelling::new(alloc),
+        telling: &mut telling,
         live,
     };
     match decode(alloc, vcd, scl, sda, least, &mut lines, wrong) {

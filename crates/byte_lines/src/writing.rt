@@ -23,15 +23,15 @@ pub struct ByteCounts {
 /// Writes the lines of transactions as they come, and counts them. Where it is live, the lines of all that has ended are written
 /// before the dump is read on, and else in blocks.
 #[derive(Drop)]
-pub(crate) struct ByteWriting<'a, O> {
-    pub(crate) out: &'a mut O,
+pub(crate) struct ByteWriting<'o, 't, O> {
+    pub(crate) out: &'o mut O,
     // the lines that have not been written, and the counts
-    pub(crate) telling: ByteTelling,
+    pub(crate) telling: &'t mut ByteTelling,
     // whether no line is kept after a call
     pub(crate) live: bool,
 }
 
-impl<O: Output> ByteWriting<'_, O> {
+impl<O: Output> ByteWriting<'_, '_, O> {
     ghost use Rattle.std.specs.Prelude.{◌≡◌, ◌⊎◌, [], ◌++◌, IfOk, OnOk, IfErr, string_bytes};
     ghost use Rattle.byte_lines.specs.Lines.{count_line};
     ghost use Rattle.run_parts.specs.Writing.{WritesAll, WritingStops};
@@ -41,13 +41,13 @@ impl<O: Output> ByteWriting<'_, O> {
     fn write(&mut self) -> Result<(), RunError>
         ensures same_writer { self.new.out.ghost_name ≡ self.old.out.ghost_name }
         ensures written { OnOk result (
-            WritesAll O.writer self.old.out.now (string_bytes self.old.telling.lines) self.new.out.now) }
-        ensures lines { OnOk result (string_bytes self.new.telling.lines ≡ []) }
-        ensures transactions { self.new.telling.transactions ≡ self.old.telling.transactions }
-        ensures stopped { self.new.telling.stopped ≡ self.old.telling.stopped }
+            WritesAll O.writer self.old.out.now (string_bytes self.old.telling.now.lines) self.new.out.now) }
+        ensures lines { OnOk result (string_bytes self.new.telling.now.lines ≡ []) }
+        ensures transactions { self.new.telling.now.transactions ≡ self.old.telling.now.transactions }
+        ensures stopped { self.new.telling.now.stopped ≡ self.old.telling.now.stopped }
         ensures live { self.new.live ≡ self.old.live }
         ensures stops { IfErr result (λ error.
-            WritingStops O.writer self.old.out.now (string_bytes self.old.telling.lines) error self.new.out.now) }
+            WritingStops O.writer self.old.out.now (string_bytes self.old.telling.now.lines) error self.new.out.now) }
     {
         write_report(&mut *self.out, self.telling.lines.as_bytes())?;
         self.telling.lines.clear();
@@ -58,12 +58,12 @@ impl<O: Output> ByteWriting<'_, O> {
     pub(crate) fn finish(&mut self, rises: Rises) -> Result<ByteCounts, RunError>
         ensures same_writer { self.new.out.ghost_name ≡ self.old.out.ghost_name }
         ensures written { OnOk result (WritesAll O.writer self.old.out.now
-            (string_bytes self.old.telling.lines ++ count_line self.old.telling.stopped) self.new.out.now) }
-        ensures transactions { IfOk result (λ it. it.transactions ≡ self.old.telling.transactions) }
-        ensures stopped { IfOk result (λ it. it.stopped ≡ self.old.telling.stopped) }
+            (string_bytes self.old.telling.now.lines ++ count_line self.old.telling.now.stopped) self.new.out.now) }
+        ensures transactions { IfOk result (λ it. it.transactions ≡ self.old.telling.now.transactions) }
+        ensures stopped { IfOk result (λ it. it.stopped ≡ self.old.telling.now.stopped) }
         ensures stops { IfErr result (λ error. ((error ≡ NoMemory) × (self.new.out.now ≡ self.old.out.now))
             ⊎ WritingStops O.writer self.old.out.now
-            (string_bytes self.old.telling.lines ++ count_line self.old.telling.stopped) error self.new.out.now) }
+            (string_bytes self.old.telling.now.lines ++ count_line self.old.telling.now.stopped) error self.new.out.now) }
     {
         push_count(&mut self.telling.lines, self.telling.stopped)?;
         match self.write() {
@@ -77,7 +77,7 @@ impl<O: Output> ByteWriting<'_, O> {
     }
 }
 
-impl<O: Output> TransactionSink for ByteWriting<'_, O> {
+impl<O: Output> TransactionSink for ByteWriting<'_, '_, O> {
     ghost use Rattle.byte_lines.specs.Writing.{writing_sink};
 
     ghost sink = { writing_sink O.writer };

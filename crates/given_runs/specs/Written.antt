@@ -2,13 +2,10 @@
 use Rattle.std.specs.Prelude.{◌≡◌, ◌⊎◌, ℕ, List}
 use Rattle.brief_tokens.specs.Names.{LacksBrief}
 use Rattle.cert_check.specs.declared.answers.Answer.{Answer}
-use Rattle.decoding.specs.Dumps.{HaltsAtDump}
-use Rattle.given_runs.specs.Due.{AbbreviatedPlan, CapturedPlan}
+use Rattle.given_runs.specs.Due.{AbbreviatedPlan}
 use Rattle.plan_core.specs.Contents.{Contents}
 use Rattle.plan_text.specs.declared.briefs.NoBrief.{NoBrief}
-use Rattle.run_parts.specs.Devices.{Reader, Writer}
-use Rattle.run_parts.specs.Runs.{ReadsText}
-use Rattle.vcd_read.specs.Probes.{Finder}
+use Rattle.run_parts.specs.Devices.{Writer}
 use Rattle.run_parts.specs.Writing.{WritesAll, WritingStops}
 use Rattle.run_parts.specs.declared.errors.RunError.{RunError}
 use Rattle.run_parts.specs.declared.errors.RunError.TheVariants.{Brief, NoMemory}
@@ -41,9 +38,3 @@ LacksOrStops plan writer before error now =
 -- the line and the status of this answer
 abbrev pub IsOfAnswer : Answer → List ℕ → Status → Type 0
 IsOfAnswer answer report status = (report ≡ verify_line answer) × (status ≡ answer_status answer)
-
--- The dump halted, and the writer is as it was; or it was read, and the writing of its report ended early.
-abbrev pub StopsCapturing : {E Out : Type 0} → ℕ → Finder → Finder → Contents → Reader E → Writer Out → E × Out → RunError → E × Out → Type 0
-StopsCapturing least scl sda plan reader writer before error now =
-    (HaltsAtDump reader scl sda before.0 error now.0 × (now.1 ≡ before.1))
-    ⊎ ((dump : List ℕ) × ReadsText reader before.0 dump now.0 × StoppedWithin (CapturedPlan least scl sda plan dump) writer before.1 error now.1)
