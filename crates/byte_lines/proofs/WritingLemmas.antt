@@ -27,9 +27,9 @@ use Rattle.vcd_read.specs.Probes.{Finder}
 module _ {O : Type 0} (writer : Writer O) where
   -- nothing was told and nothing is kept
   pub record IsSilent (start : ByteWriting O) : Type 0 where
-    pub lines : string_bytes start.telling.now.lines ≡ []
-    pub transactions : start.telling.now.transactions ≡ 0
-    pub stopped : start.telling.now.stopped ≡ 0
+    pub lines : string_bytes start.telling.lines ≡ []
+    pub transactions : start.telling.transactions ≡ 0
+    pub stopped : start.telling.stopped ≡ 0
 
   -- the lines of the first of these transactions were written, in parts, and the others are kept
   pub record HasWritten (start : ByteWriting O) (ts : List Recorded) (now : ByteWriting O) : Type 0 where
@@ -37,9 +37,9 @@ module _ {O : Type 0} (writer : Writer O) where
     pub told : List Recorded
     pub kept : List Recorded
     pub split : ts ≡ told ++ kept
-    pub lines : string_bytes now.telling.now.lines ≡ decode_lines kept
-    pub transactions : now.telling.now.transactions ≡ length ts
-    pub stopped : now.telling.now.stopped ≡ stopped ts
+    pub lines : string_bytes now.telling.lines ≡ decode_lines kept
+    pub transactions : now.telling.transactions ≡ length ts
+    pub stopped : now.telling.stopped ≡ stopped ts
     pub written : (rest : List ℕ) → IsLeft writer start.out.now (decode_lines told ++ rest) rest now.out.now
 
   module _ (start : ByteWriting O) (silent : IsSilent start) where
@@ -207,9 +207,9 @@ module _ {O : Type 0} (writer : Writer O) where
         same_to_end = at_its_end.same_writer
 
         -- what is left to be written
-        last_lines : string_bytes told.telling.now.lines ++ count_line told.telling.now.stopped ≡ decode_lines at_its_end.kept ++ count_line (stopped in_dump)
+        last_lines : string_bytes told.telling.lines ++ count_line told.telling.stopped ≡ decode_lines at_its_end.kept ++ count_line (stopped in_dump)
         last_lines =
-            ap (λ (lines : List ℕ). lines ++ count_line told.telling.now.stopped) at_its_end.lines
+            ap (λ (lines : List ℕ). lines ++ count_line told.telling.stopped) at_its_end.lines
             ∙ ap (λ (n : ℕ). decode_lines at_its_end.kept ++ count_line n) at_its_end.stopped
 
         last_left : IsLeft writer start.out.now (decode_report in_dump) ((decode_lines at_its_end.kept ++ count_line (stopped in_dump)) ++ []) told.out.now
@@ -221,7 +221,7 @@ module _ {O : Type 0} (writer : Writer O) where
         abbrev whole : DecodeOf least scl sda all.dump (decode_report in_dump)
         whole = record { samples = all.decodes.samples; read = all.decodes.read; lines = refl }
 
-        ends_decoded : (it : ByteCounts) (end : O) → it.transactions ≡ told.telling.now.transactions → it.stopped ≡ told.telling.now.stopped → WritesAll writer told.out.now (string_bytes told.telling.now.lines ++ count_line told.telling.now.stopped) end → TellsDecoded least scl sda second writer before start.out.now it now end
+        ends_decoded : (it : ByteCounts) (end : O) → it.transactions ≡ told.telling.transactions → it.stopped ≡ told.telling.stopped → WritesAll writer told.out.now (string_bytes told.telling.lines ++ count_line told.telling.stopped) end → TellsDecoded least scl sda second writer before start.out.now it now end
         ends_decoded it end same_transactions same_stopped written = record {
           dump = all.dump;
           read = all.read;
@@ -241,7 +241,7 @@ module _ {O : Type 0} (writer : Writer O) where
             (told_of_dump all.dump all.decodes.samples in_dump [] told all.decodes.read (sym (append-nil in_dump)) at_its_end)
             (told_lines in_dump told at_its_end)
 
-        last_fails : (e : RunError) (end : O) → WritingStops writer told.out.now (string_bytes told.telling.now.lines ++ count_line told.telling.now.stopped) e end → Halts e now end
+        last_fails : (e : RunError) (end : O) → WritingStops writer told.out.now (string_bytes told.telling.lines ++ count_line told.telling.stopped) e end → Halts e now end
         last_fails e end stops =
             at_report all.read whole
             (part_stops writer start.out.now (decode_report in_dump) [] (decode_lines at_its_end.kept ++ count_line (stopped in_dump)) told.out.now end e last_left
@@ -250,9 +250,9 @@ module _ {O : Type 0} (writer : Writer O) where
         -- ---- how the writing of what is left ends
 
         abbrev left : List ℕ
-        left = string_bytes told.telling.now.lines ++ count_line told.telling.now.stopped
+        left = string_bytes told.telling.lines ++ count_line told.telling.stopped
 
-        pub ends : (r : Result ByteCounts RunError) (end : O) → IfOk r (λ it. it.transactions ≡ told.telling.now.transactions) → IfOk r (λ it. it.stopped ≡ told.telling.now.stopped) → OnOk r (WritesAll writer told.out.now left end) → IfOk r (λ it. TellsDecoded least scl sda second writer before start.out.now it now end)
+        pub ends : (r : Result ByteCounts RunError) (end : O) → IfOk r (λ it. it.transactions ≡ told.telling.transactions) → IfOk r (λ it. it.stopped ≡ told.telling.stopped) → OnOk r (WritesAll writer told.out.now left end) → IfOk r (λ it. TellsDecoded least scl sda second writer before start.out.now it now end)
         ends (Ok it) end same_transactions same_stopped written = ends_decoded it end same_transactions same_stopped written
         ends (Err e) end same_transactions same_stopped written = tt
 

@@ -11,27 +11,27 @@ use Rattle.run_parts.specs.declared.errors.RunError.TheVariants.{NoMemory}
 
 -- the lines that were kept, and those of these transactions
 abbrev pub lines_with : {O : Type 0} → ByteWriting O → List Recorded → List ℕ
-lines_with before ts = string_bytes before.telling.now.lines ++ decode_lines ts
+lines_with before ts = string_bytes before.telling.lines ++ decode_lines ts
 
 module _ {O : Type 0} (writer : Writer O) (before : ByteWriting O) (ts : List Recorded) where
   -- nothing was written, and all these lines are kept, which is not so where it is live
   pub record KeepsLines (after : ByteWriting O) : Type 0 where
     pub blocks : before.live ≡ false
     pub same : after.out.now ≡ before.out.now
-    pub lines : string_bytes after.telling.now.lines ≡ lines_with before ts
+    pub lines : string_bytes after.telling.lines ≡ lines_with before ts
 
   -- all these lines were written, and none is kept
   pub record WritesLines (after : ByteWriting O) : Type 0 where
     pub written : WritesAll writer before.out.now (lines_with before ts) after.out.now
-    pub lines : string_bytes after.telling.now.lines ≡ []
+    pub lines : string_bytes after.telling.lines ≡ []
 
   -- these lines are kept, or they were written, and the transactions were counted
   pub record TakesLines (after : ByteWriting O) : Type 0 where
     pub same_writer : after.out.ghost_name ≡ before.out.ghost_name
     pub live : after.live ≡ before.live
     pub lines : KeepsLines after ⊎ WritesLines after
-    pub transactions : after.telling.now.transactions ≡ before.telling.now.transactions + length ts
-    pub stopped : after.telling.now.stopped ≡ before.telling.now.stopped + stopped ts
+    pub transactions : after.telling.transactions ≡ before.telling.transactions + length ts
+    pub stopped : after.telling.stopped ≡ before.telling.stopped + stopped ts
 
   -- the writer failed at these lines
   pub record FailsAtLines (error : RunError) (after : ByteWriting O) : Type 0 where

@@ -8,7 +8,7 @@ ghost use Rattle.run_parts.specs.Runs.{ReadsText};
 ghost use Rattle.vcd_read.specs.Views.{asked};
 
 use crate::telling::{ByteReport, ByteTelling};
-use crate::writing::{ByteCounts, ByteWriting};
+use crate::writing::{ByteCounts, ByteWriting, write_last};
 use decoding::decode;
 use run_parts::{Input, Output, RunError};
 use std::alloc::Global;
@@ -65,14 +65,19 @@ pub fn write_decoded<J: Input, O: Output>(
     ensures stops { IfErr result (λ error.
         HaltsDecoded least (asked scl.entry) (asked sda.entry) J.reader O.writer vcd.old out.old error vcd.new out.new) }
 {
-    let mut telling = ByteTelling::new(alloc);
     let mut lines = ByteWriting {
         out,
-        telling: &mut telling,
+        telling: ByteTelling::new(alloc),
         live,
     };
-    match decode(alloc, vcd, scl, sda, least, &mut lines, wrong) {
-        Ok(ending) => lines.finish(ending.rises),
+    let ended = decode(alloc, vcd, scl, sda, least, &mut lines, wrong);
+    let ByteWriting {
+        out,
+        telling,
+        live: _,
+    } = lines;
+    match ended {
+        Ok(ending) => write_last(out, telling, ending.rises),
         Err(error) => Err(error),
     }
 }

@@ -9,6 +9,17 @@ use run_parts::{Input, RunError, Watched};
 use std::alloc::Global;
 use vcd_read::{Probe, Wrong};
 
+/// Whether the definitions of a dump have to be known before it is read for this bus.
+pub fn reads_ahead(bus: Bus<'_>) -> bool {
+    let BusLines {
+        scl,
+        sda,
+        scope,
+        ..
+    } = bus.lines;
+    bus.needs_scale() || needs_picking(scl, sda, scope)
+}
+
 /// A dump, and what its definitions say, where that has to be known ahead.
 pub struct Dump<'a, 'l, J> {
     again: Watched<Again<'a, J>>,
@@ -50,13 +61,7 @@ impl<'a, 'l, J: Input> Dump<'a, 'l, J> {
     /// `Read` where the reader fails, and `NoMemory`.
     pub fn open(alloc: Global, vcd: &'a mut J, bus: Bus<'l>) -> Result<Dump<'a, 'l, J>, RunError> {
         let lines = bus.lines;
-        let BusLines {
-            scl,
-            sda,
-            scope,
-            ..
-        } = lines;
-        if !bus.needs_scale() && !needs_picking(scl, sda, scope) {
+        if !reads_ahead(bus) {
             return Ok(Dump {
                 again: Watched::new(Again::unread(alloc, vcd)),
                 lines,
@@ -64,7 +69,7 @@ impl<'a, 'l, J: Input> Dump<'a, 'l, J> {
                 wrong: None,
             });
         }
-        let (again, picked) = pick(alloc, vcd, scl, sda, scope)?;
+        let (again, picked) = pick(alloc, vcd, lines.scl, lines.sda, lines.scope)?;
         Ok(Dump::picked(again, lines, picked))
     }
 

@@ -5,23 +5,23 @@ use Rattle.vcd_read.specs.Views.{asked}
 use Rattle.byte_lines.proofs.runs.write_decoded.Goals as goal
 
 -- What the writer is comes back with the reference, whose name has stayed: that is the fact that `search` finds.
-pub returns-clause-stops : goal.returns-clause-stops
-returns-clause-stops g c =
-    let silent : IsSilent g.O.Output.writer _ = record { lines = c.new-telling.ensures.lines; transactions = c.new-telling.ensures.transactions; stopped = c.new-telling.ensures.stopped } in
+pub returns-in-Err-clause-stops : goal.returns-in-Err-clause-stops
+returns-in-Err-clause-stops g c =
+    let silent : IsSilent g.O.Output.writer _ = record { lines = c.new.ensures.lines; transactions = c.new.ensures.transactions; stopped = c.new.ensures.stopped } in
     let why = halts_decoded g.O.Output.writer _ silent c.args.least (asked c.args.scl) (asked c.args.sda) g.J.Input.reader c.args.vcd.now c.decode.new.vcd c.in-Err.error c.decode.new.sink c.in-Err.ensures.stops in
     let same = sym why.0 in
     subst (λ out. HaltsDecoded c.args.least (asked c.args.scl) (asked c.args.sda) g.J.Input.reader g.O.Output.writer c.args.vcd.now c.args.out.now c.in-Err.error c.decode.new.vcd out) (sym (search rules)) why.1
 
 pub returns-in-Ok-clause-report : goal.returns-in-Ok-clause-report
 returns-in-Ok-clause-report g c =
-    let silent : IsSilent g.O.Output.writer _ = record { lines = c.new-telling.ensures.lines; transactions = c.new-telling.ensures.transactions; stopped = c.new-telling.ensures.stopped } in
-    let all = ends g.O.Output.writer _ silent c.args.least (asked c.args.scl) (asked c.args.sda) g.J.Input.reader c.args.vcd.now c.decode.new.vcd c.decode.new.sink c.in-Ok.ensures.all c.finish.result c.finish.new.self.out.now c.finish.ensures.transactions c.finish.ensures.stopped c.finish.ensures.written in
-    let same = sym (c.finish.ensures.same_writer ∙ same_to_end g.O.Output.writer _ silent c.args.least (asked c.args.scl) (asked c.args.sda) g.J.Input.reader c.args.vcd.now c.decode.new.vcd c.decode.new.sink c.in-Ok.ensures.all) in
-    subst (λ out. IfOk c.finish.result (λ it. TellsDecoded c.args.least (asked c.args.scl) (asked c.args.sda) g.J.Input.reader g.O.Output.writer c.args.vcd.now c.args.out.now it c.decode.new.vcd out)) (sym (search rules)) all
+    let silent : IsSilent g.O.Output.writer _ = record { lines = c.new.ensures.lines; transactions = c.new.ensures.transactions; stopped = c.new.ensures.stopped } in
+    let all = ends g.O.Output.writer _ silent c.args.least (asked c.args.scl) (asked c.args.sda) g.J.Input.reader c.args.vcd.now c.decode.new.vcd c.decode.new.sink c.in-Ok.ensures.all c.write_last.result c.write_last.new.out c.write_last.ensures.transactions c.write_last.ensures.stopped c.write_last.ensures.written in
+    let same = sym (same_to_end g.O.Output.writer _ silent c.args.least (asked c.args.scl) (asked c.args.sda) g.J.Input.reader c.args.vcd.now c.decode.new.vcd c.decode.new.sink c.in-Ok.ensures.all) in
+    subst (λ out. IfOk c.write_last.result (λ it. TellsDecoded c.args.least (asked c.args.scl) (asked c.args.sda) g.J.Input.reader g.O.Output.writer c.args.vcd.now c.args.out.now it c.decode.new.vcd out)) (sym (search rules)) all
 
 pub returns-in-Ok-clause-stops : goal.returns-in-Ok-clause-stops
 returns-in-Ok-clause-stops g c =
-    let silent : IsSilent g.O.Output.writer _ = record { lines = c.new-telling.ensures.lines; transactions = c.new-telling.ensures.transactions; stopped = c.new-telling.ensures.stopped } in
-    let why = halts g.O.Output.writer _ silent c.args.least (asked c.args.scl) (asked c.args.sda) g.J.Input.reader c.args.vcd.now c.decode.new.vcd c.decode.new.sink c.in-Ok.ensures.all c.finish.result c.finish.new.self.out.now c.finish.ensures.stops in
-    let same = sym (c.finish.ensures.same_writer ∙ same_to_end g.O.Output.writer _ silent c.args.least (asked c.args.scl) (asked c.args.sda) g.J.Input.reader c.args.vcd.now c.decode.new.vcd c.decode.new.sink c.in-Ok.ensures.all) in
-    subst (λ out. IfErr c.finish.result (λ error. HaltsDecoded c.args.least (asked c.args.scl) (asked c.args.sda) g.J.Input.reader g.O.Output.writer c.args.vcd.now c.args.out.now error c.decode.new.vcd out)) (sym (search rules)) why
+    let silent : IsSilent g.O.Output.writer _ = record { lines = c.new.ensures.lines; transactions = c.new.ensures.transactions; stopped = c.new.ensures.stopped } in
+    let why = halts g.O.Output.writer _ silent c.args.least (asked c.args.scl) (asked c.args.sda) g.J.Input.reader c.args.vcd.now c.decode.new.vcd c.decode.new.sink c.in-Ok.ensures.all c.write_last.result c.write_last.new.out c.write_last.ensures.stops in
+    let same = sym (same_to_end g.O.Output.writer _ silent c.args.least (asked c.args.scl) (asked c.args.sda) g.J.Input.reader c.args.vcd.now c.decode.new.vcd c.decode.new.sink c.in-Ok.ensures.all) in
+    subst (λ out. IfErr c.write_last.result (λ error. HaltsDecoded c.args.least (asked c.args.scl) (asked c.args.sda) g.J.Input.reader g.O.Output.writer c.args.vcd.now c.args.out.now error c.decode.new.vcd out)) (sym (search rules)) why
