@@ -3,6 +3,7 @@
 ghost use Rattle.std.specs.Prelude.{◌≡◌, IfOk, OnOk, string_bytes};
 ghost use Rattle.byte_lines.specs.DecodedRuns.{TellsDecoded};
 ghost use Rattle.byte_lines.specs.declared.writing.ByteCounts.{ByteCounts};
+ghost use Rattle.dump_runs.specs.Statuses.{EndsJudged, IsJudged};
 ghost use Rattle.given_runs.specs.Due.{CapturedPlan};
 ghost use Rattle.given_runs.specs.Inputs.{DueForBoth, ReadsTextsAndOne};
 ghost use Rattle.lessons.specs.Lessons.{Teaches};
@@ -42,7 +43,7 @@ use std::alloc::Global;
 use std::rt::Files;
 use std::thread::Threads;
 use std::time::Clock;
-use transaction_lines::{CaptureLines, DecodeLines, Layout, Seen, Selection};
+use transaction_lines::{CaptureLines, DecodeLines, Layout, Seen, Selection, status_of_seen};
 use vcd_read::{Probe, Wrong};
 use waves::wave_of_recording;
 
@@ -263,7 +264,9 @@ fn capture_in_form<R: AllocGlobal + Threads + Sync, I: Input, J: Input, O: Outpu
     out: &mut O,
     capture: Capture<'_>,
     style: Style,
-) -> Result<Ended, Halt> {
+) -> Result<Ended, Halt>
+    ensures status { IfOk result (λ it. EndsJudged capture.entry.bus.view.at_least it) }
+{
     let GivenPlan { plan, provenance } = plans.find(rt.alloc())?;
     let words = plans.words(&plan, &provenance);
     refuse_unknown(rt.alloc(), words, capture.drives)?;
@@ -290,7 +293,9 @@ fn capture_open<R: AllocGlobal + Threads + Sync, J: Input, O: Output>(
     out: &mut O,
     capture: Capture<'_>,
     style: Style,
-) -> Result<(Result<Told, RunError>, Hints), Halt> {
+) -> Result<(Result<Told, RunError>, Hints), Halt>
+    ensures status { IfOk result (λ it. IfOk it.0 (λ told. IsJudged capture.entry.bus.view.at_least told)) }
+{
     let driving = driving_of(rt.alloc(), &*dump, capture.drives)?;
     let told = capture_dump(rt, words, dump, out, capture, style, driving.as_ref());
     let hints = refuse_others(rt.alloc(), driving.as_ref())?;
@@ -306,14 +311,17 @@ fn capture_dump<R: AllocGlobal + Threads + Sync, J: Input, O: Output>(
     capture: Capture<'_>,
     style: Style,
     driving: Option<&Driving<'_>>,
-) -> Result<Told, RunError> {
+) -> Result<Told, RunError>
+    ensures status { IfOk result (λ it. IsJudged capture.entry.bus.view.at_least it) }
+{
     let (selection, rises) = match style {
         Style::Objects => capture_objects(rt, words, dump, out, capture, driving)?,
         Style::Lines(paint) => capture_lines(rt, words, dump, out, capture, paint, driving)?,
     };
+    let Selection { seen, departed, .. } = selection;
     Ok(Told {
-        status: selection.status(),
-        seen: selection.seen,
+        status: status_of_seen(capture.bus.view.at_least, seen, departed),
+        seen,
         rises,
     })
 }
@@ -444,7 +452,9 @@ fn decode_in_form<R: Files + Print + Eprint + Clock + AllocGlobal, J: Input, O: 
     live: bool,
     style: Style,
     canvas: Option<Canvas<'_, '_>>,
-) -> Result<Ended, Halt> {
+) -> Result<Ended, Halt>
+    ensures status { IfOk result (λ it. EndsJudged bus.entry.view.at_least it) }
+{
     let alloc = rt.alloc();
     let mut dump = open_dump(alloc, vcd, bus)?;
     let selection = Selection::new(bus.view, dump.scale());
@@ -464,10 +474,11 @@ fn decode_in_form<R: Files + Print + Eprint + Clock + AllocGlobal, J: Input, O: 
         Ok(told) => told,
         Err(error) => return Err(halted(dump, error)),
     };
-    draw_tapped(rt, tap, least, bus.view.window, selection.status(), canvas)?;
+    let status = status_of_seen(bus.view.at_least, selection.seen, selection.departed);
+    draw_tapped(rt, tap, least, bus.view.window, status, canvas)?;
     let recorded = Recorded::Bytes(bus.view.window, selection.seen);
     Ok(Ended {
-        status: selection.status(),
+        status,
         remark: Remark::recording(alloc, recorded, rises),
     })
 }
