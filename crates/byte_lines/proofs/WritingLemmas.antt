@@ -37,6 +37,8 @@ module _ {O : Type 0} (writer : Writer O) where
     pub told : List Recorded
     pub kept : List Recorded
     pub split : ts ≡ told ++ kept
+    pub live : now.live ≡ start.live
+    pub none_kept : start.live ≡ true → kept ≡ []
     pub lines : string_bytes now.telling.lines ≡ decode_lines kept
     pub transactions : now.telling.transactions ≡ length ts
     pub stopped : now.telling.stopped ≡ stopped ts
@@ -49,6 +51,8 @@ module _ {O : Type 0} (writer : Writer O) where
       told = [];
       kept = [];
       split = refl;
+      live = refl;
+      none_kept = λ live. refl;
       lines = silent.lines;
       transactions = silent.transactions;
       stopped = silent.stopped;
@@ -75,6 +79,8 @@ module _ {O : Type 0} (writer : Writer O) where
       told = w.told;
       kept = w.kept ++ more;
       split = all_there ts more before w;
+      live = call.live ∙ w.live;
+      none_kept = λ live. let both : true ≡ false = sym (w.live ∙ live) ∙ keeps.blocks in cc;
       lines = keeps.lines ∙ lines_there ts more before w;
       transactions = omega (arith, w.transactions, call.transactions, length-append ts more);
       stopped = omega (arith, w.stopped, call.stopped, stopped-append ts more);
@@ -85,6 +91,8 @@ module _ {O : Type 0} (writer : Writer O) where
       told = w.told ++ (w.kept ++ more);
       kept = [];
       split = all_there ts more before w ∙ sym (append-nil (w.told ++ (w.kept ++ more)));
+      live = call.live ∙ w.live;
+      none_kept = λ live. refl;
       lines = writes.lines;
       transactions = omega (arith, w.transactions, call.transactions, length-append ts more);
       stopped = omega (arith, w.stopped, call.stopped, stopped-append ts more);
