@@ -1,5 +1,5 @@
 -- What lines that are written as they come say, once the writer has them.
-use Rattle.std.proofs.Common.{◌≡◌, ◌≤◌, ◌⊎◌, inl, inr, ℕ, ◌+◌, Bool, true, false, List, [], ◌++◌, length, length-append, Result, Ok, Err, IfOk, IfErr, OnOk, string_bytes, ap, sym, ◌∙◌, subst, refl, append_assoc, append-nil, arith}
+use Rattle.std.proofs.Common.{◌≡◌, ◌≢◌, ◌≤◌, ◌⊎◌, inl, inr, ℕ, ◌+◌, Bool, true, false, List, [], ◌++◌, length, length-append, Result, Ok, Err, IfOk, IfErr, OnOk, string_bytes, ap, sym, ◌∙◌, subst, refl, append_assoc, append-nil, arith}
 use Rattle.byte_lines.specs.Decoded.{DecodeOf}
 use Rattle.byte_lines.specs.DecodedRuns.{FirstLines, LinesOfDump, TellsDecoded, HaltsDecoded}
 use Rattle.byte_lines.specs.DecodedRuns.{at_dump as halts_at_dump, at_both as halts_at_both, at_writer, at_end as halts_at_end, at_report}
@@ -9,13 +9,13 @@ use Rattle.byte_lines.specs.declared.writing.ByteCounts.{ByteCounts}
 use Rattle.byte_lines.specs.declared.writing.ByteWriting.{ByteWriting}
 use Rattle.byte_lines.proofs.DecodedLemmas.{decode_lines-append, stopped-append}
 use Rattle.capture_check.specs.Transactions.{Recorded}
-use Rattle.decoding.specs.Decoding.{BeginsWith, DecodesAll, HaltsAtDecoding, at_dump, at_both, at_sink, at_end}
-use Rattle.decoding.specs.Dumps.{HaltsAtDump, HasBegun, no_memory}
+use Rattle.decoding.specs.Decoding.{AreAllEnded, BeginsWith, DecodesAll, HaltsAtDecoding, at_dump, at_both, at_sink, at_end}
+use Rattle.decoding.specs.Dumps.{HaltsAtDump, HasBegun, no_memory, given_by_then}
 use Rattle.decoding.specs.Parts.{IsLeft}
 use Rattle.decoding.specs.Sinks.{Sink, HasTaken, no_call, next_call}
 use Rattle.decoding.proofs.PartLemmas.{all_left, none_left, part_written, part_stops, front_of_stop, first_begin}
 use Rattle.pulses.specs.Following.{quiet_transactions}
-use Rattle.run_parts.specs.Devices.{Reader, Writer, HasGiven, by_parts}
+use Rattle.run_parts.specs.Devices.{Reader, Writer, by_parts}
 use Rattle.run_parts.specs.Runs.{ReadsText, most_reads}
 use Rattle.run_parts.specs.Writing.{WritesAll, WritesFront, WritingStops}
 use Rattle.run_parts.specs.declared.errors.RunError.{RunError}
@@ -135,7 +135,7 @@ module _ {O : Type 0} (writer : Writer O) where
 
     module _ (least : ℕ) (scl sda : Finder) {E : Type 0} (second : Reader E) (before : E) where
       abbrev Halts : RunError → E → O → Type 0
-      Halts = HaltsDecoded least scl sda second writer before start.out.now
+      Halts error now end = HaltsDecoded least scl sda second writer before start.out.now start.live error now end
 
       first_lines : (text : List ℕ) (ts : List Recorded) → BeginsWith least scl sda text ts → FirstLines least scl sda text (decode_lines ts)
       first_lines text ts ended = record { transactions = ts; ended = ended; same = refl }
@@ -144,16 +144,18 @@ module _ {O : Type 0} (writer : Writer O) where
       told_first text ts now begins w =
           first_lines text w.told (first_begin least scl sda text w.told w.kept (subst (λ (us : List Recorded). BeginsWith least scl sda text us) w.split begins))
 
-      at_front : (text : List ℕ) (ts : List Recorded) (reads : ℕ) (last_read now : E) (e : RunError) (told : ByteWriting O) → HaltsAtDump second scl sda before e now → HasGiven second before reads text last_read → BeginsWith least scl sda text ts → HasWritten start ts told → Halts e now told.out.now
-      at_front text ts reads last_read now e told halts given begins w =
-          halts_at_dump halts given (told_first text ts told begins w) (told_lines ts told w)
+      told_all : (text : List ℕ) (ts : List Recorded) (now : ByteWriting O) → AreAllEnded least scl sda text ts → (w : HasWritten start ts now) → start.live ≡ true → AreAllEnded least scl sda text w.told
+      told_all text ts now all w live =
+          subst (λ (us : List Recorded). AreAllEnded least scl sda text us)
+          (w.split ∙ (ap (λ (us : List Recorded). w.told ++ us) (w.none_kept live) ∙ append-nil w.told)) all
 
-      both : (text : List ℕ) (ts more : List Recorded) (reads : ℕ) (last_read now : E) (e second_error : RunError) (last told : ByteWriting O) → HaltsAtDump second scl sda before e now → HasGiven second before reads text last_read → BeginsWith least scl sda text (ts ++ more) → HasWritten start ts last → Reason last more second_error told → Halts e now told.out.now
+      both : (ts more : List Recorded) (now : E) (e second_error : RunError) (last told : ByteWriting O) → (halts : HaltsAtDump second scl sda before e now) → BeginsWith least scl sda (given_by_then second halts) (ts ++ more) → (e ≢ error.NoMemory → AreAllEnded least scl sda (given_by_then second halts) (ts ++ more)) → HasWritten start ts last → (second_error ≡ error.NoMemory → e ≡ error.NoMemory) → Reason last more second_error told → Halts e now told.out.now
       unfolding Reason
-      both text ts more reads last_read now e second_error last told halts given begins w (inl room) =
-          subst (λ (out : O). Halts e now out) (sym room.same) (at_front text ts reads last_read now e last halts given (first_begin least scl sda text ts more begins) w)
-      both text ts more reads last_read now e second_error last told halts given begins w (inr fails) =
-          halts_at_both halts given (first_lines text (ts ++ more) begins)
+      both ts more now e second_error last told halts begins all w memory (inl room) =
+          subst (λ (out : O). Halts e now out) (sym room.same)
+          (halts_at_dump halts (told_first (given_by_then second halts) ts last (first_begin least scl sda (given_by_then second halts) ts more begins) w) (λ live other. absurd (other (memory room.no_memory))) (told_lines ts last w))
+      both ts more now e second_error last told halts begins all w memory (inr fails) =
+          halts_at_both halts (first_lines (given_by_then second halts) (ts ++ more) begins) all
           (front_of_stop (by_parts writer) start.out.now told.out.now (decode_lines (ts ++ more)) second_error (lines_fail ts more last told second_error w fails))
 
       within : (text : List ℕ) (ts more : List Recorded) (reads : ℕ) (now : E) (e : RunError) (last told : ByteWriting O) → reads ≤ most_reads → HasBegun second scl sda before reads text now → BeginsWith least scl sda text (ts ++ more) → HasWritten start ts last → Reason last more e told → Halts e now told.out.now
@@ -161,7 +163,7 @@ module _ {O : Type 0} (writer : Writer O) where
       within text ts more reads now e last told few begun begins w (inl room) =
           subst (λ (out : O). Halts e now out) (sym room.same)
           (subst (λ (d : RunError). Halts d now last.out.now) (sym room.no_memory)
-          (at_front text ts reads now now error.NoMemory last (no_memory few begun) begun.given (first_begin least scl sda text ts more begins) w))
+          (halts_at_dump (no_memory few begun) (told_first text ts last (first_begin least scl sda text ts more begins) w) (λ live other. absurd (other refl)) (told_lines ts last w)))
       within text ts more reads now e last told few begun begins w (inr fails) =
           at_writer few begun (first_lines text (ts ++ more) begins) (lines_fail ts more last told e w fails)
 
@@ -189,12 +191,13 @@ module _ {O : Type 0} (writer : Writer O) where
 
       pub halts_decoded : (now : E) (e : RunError) (told : ByteWriting O) → HaltsAtDecoding (writing_sink writer) start least scl sda second before e now told → (told.out.ghost_name ≡ start.out.ghost_name) × Halts e now told.out.now
       unfolding Reason
-      halts_decoded now e told (at_dump {reads = reads} {text = text} {last = last} {ts = ts} halts given begins taken) =
+      halts_decoded now e told (at_dump {ts = ts} halts begins all taken) =
           let w = written_by ts told taken in
-          (w.same_writer, at_front text ts reads last now e told halts given begins w)
-      halts_decoded now e told (at_both {second_error = second_error} {reads = reads} {text = text} {last_read = last_read} {ts = ts} {more = more} {last = last} halts given begins taken why) =
+          let text = given_by_then second halts in
+          (w.same_writer, halts_at_dump halts (told_first text ts told begins w) (λ live other. told_all text ts told (all other) w live) (told_lines ts told w))
+      halts_decoded now e told (at_both {second_error = second_error} {ts = ts} {more = more} {last = last} halts begins all taken why memory) =
           let w = written_by ts last taken in
-          (same_name last told more second_error why ∙ w.same_writer, both text ts more reads last_read now e second_error last told halts given begins w why)
+          (same_name last told more second_error why ∙ w.same_writer, both ts more now e second_error last told halts begins all w memory why)
       halts_decoded now e told (at_sink {reads = reads} {text = text} {ts = ts} {more = more} {last = last} few begun begins taken why) =
           let w = written_by ts last taken in
           (same_name last told more e why ∙ w.same_writer, within text ts more reads now e last told few begun begins w why)

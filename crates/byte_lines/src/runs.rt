@@ -42,8 +42,8 @@ pub fn decoded_report<J: Input>(
 }
 
 /// Writes the same report while it reads the dump, in blocks, or live: then the lines of what has ended in a block of the dump
-/// are written before the next block is read. Of a block in which the dump is refused these are the lines of what ended before,
-/// and `wrong` then has what is wrong there, as far as there was memory for it.
+/// are written before the next block is read. Of a block in which the dump is refused these are the lines of all that ended
+/// before, and `wrong` then has what is wrong there, as far as there was memory for it.
 ///
 /// # Errors
 ///
@@ -63,7 +63,7 @@ pub fn write_decoded<J: Input, O: Output>(
     ensures report { IfOk result (λ it.
         TellsDecoded least (asked scl.entry) (asked sda.entry) J.reader O.writer vcd.old out.old it vcd.new out.new) }
     ensures stops { IfErr result (λ error.
-        HaltsDecoded least (asked scl.entry) (asked sda.entry) J.reader O.writer vcd.old out.old error vcd.new out.new) }
+        HaltsDecoded least (asked scl.entry) (asked sda.entry) J.reader O.writer vcd.old out.old live error vcd.new out.new) }
 {
     let mut lines = ByteWriting {
         out,

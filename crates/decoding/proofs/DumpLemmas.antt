@@ -9,7 +9,9 @@ use Rattle.vcd_read.specs.Dumps.{samples_of, said_so_far}
 use Rattle.vcd_read.specs.Probes.{Finder}
 use Rattle.vcd_read.specs.Readers.{IsRefusal}
 use Rattle.vcd_read.specs.Refusals.{error_of}
-use Rattle.decoding.specs.Dumps.{RefusesBeginning, RefusesDump}
+use Rattle.decoding.specs.Dumps.{RefusesBeginning, RefusesDump, HaltsAtDump, given_by_then, read_fails, meets_no_end, no_memory, refused_within, refused_at_end}
+use Rattle.run_parts.specs.Devices.{Reader, HasGiven, next_read}
+use Rattle.run_parts.specs.declared.errors.RunError.{RunError}
 use Rattle.run_parts.specs.RunErrors.{vcd_error}
 
 given_refusal : (scl sda : Finder) (text : List ℕ) (r : Refusal) → samples_of scl sda text ≡ Err r → RefusesDump scl sda text (vcd_error (error_of r))
@@ -42,3 +44,11 @@ refuses_beginning scl sda text e (inr h) = go (said_so_far scl sda text) refl h
     go (Ok said) q f = absurd f
     go (Err r) q f =
         subst (λ (d : VcdError). RefusesBeginning scl sda text (vcd_error d)) (sym f) (given_beginning scl sda text r q)
+
+-- all that was given by then, as reads have given it
+pub given_then : {E : Type 0} (second : Reader E) (scl sda : Finder) (before now : E) (e : RunError) (halts : HaltsAtDump second scl sda before e now) → (reads : ℕ) × (last : E) × HasGiven second before reads (given_by_then second halts) last
+given_then second scl sda before now _ (read_fails few begun fault failed) = (_, _, begun.given)
+given_then second scl sda before now _ (meets_no_end begun) = (_, _, begun.given)
+given_then second scl sda before now _ (no_memory few begun) = (_, _, begun.given)
+given_then second scl sda before now e (refused_within few begun call some sound refuses) = (_, _, next_read begun.given call some sound)
+given_then second scl sda before now e (refused_at_end read passes refuses) = (_, _, read.read)

@@ -1,4 +1,5 @@
 pub mod DumpLemmas
+pub mod EndedLemmas
 pub mod TakingLemmas
 pub mod DecodingLemmas
 pub mod PartLemmas

@@ -1,5 +1,5 @@
 -- What has ended in a dump that goes on, and what a sink has taken of it.
-use Rattle.std.proofs.Common.{◌≡◌, ◌⊎◌, inl, inr, ℕ, List, [], ◌++◌, map, Result, Ok, Err, IfErr, OnOk, ap, refl, arith, subst, sym, ◌∙◌}
+use Rattle.std.proofs.Common.{◌≡◌, ◌≢◌, ◌⊎◌, inl, inr, ℕ, List, [], ◌++◌, map, Result, Ok, Err, IfErr, OnOk, ap, refl, arith, subst, sym, ◌∙◌}
 use Rattle.std.proofs.lemmas.List.{append_assoc}
 use Rattle.run_errors.specs.declared.dumps.VcdError.{VcdError}
 use Rattle.run_errors.specs.declared.dumps.VcdError.TheVariants.{NoMemory}
@@ -9,16 +9,17 @@ use Rattle.vcd_read.specs.Probes.{Finder}
 use Rattle.vcd_read.specs.Readers.{Fed, Reading, reading_of}
 use Rattle.vcd_read.proofs.FedLemmas.{given_in}
 use Rattle.pulses.specs.declared.following.QuietFollower.{QuietFollower}
-use Rattle.pulses.specs.Following.{quiet_behind, quiet_transactions}
+use Rattle.pulses.specs.Following.{quiet_behind, quiet_transactions, HasHandedOut}
 use Rattle.capture_check.specs.Transactions.{Recorded}
 use Rattle.capture_check.specs.Views.{recorded}
 use Rattle.capture_check.specs.declared.listening.Transaction.{Transaction}
-use Rattle.decoding.specs.Decoding.{BeginsWith, DecodesDump, HaltsAtDecoding, at_dump}
-use Rattle.decoding.specs.DecoderViews.{Follows, StopsAt, StopsAtPiece, StopsAtEnd, no_memory, stops_at, refused, both, within, at_end}
+use Rattle.decoding.specs.Decoding.{BeginsWith, AreAllEnded, DecodesDump, HaltsAtDecoding, at_dump}
+use Rattle.decoding.specs.DecoderViews.{Follows, FollowsAll, StopsAt, StopsAtPiece, StopsAtEnd, no_memory, stops_at, refused, both, within, at_end}
 use Rattle.decoding.specs.Dumps.{PassesSoFar, RefusesBeginning, HasBegun}
 use Rattle.decoding.specs.Dumps.{no_memory as dump_no_memory}
 use Rattle.decoding.specs.Sinks.{Sink, HasTaken, no_call, next_call}
 use Rattle.decoding.specs.declared.following.Decoder.{Decoder}
+use Rattle.decoding.proofs.EndedLemmas.{all_ended, given_more}
 use Rattle.run_parts.specs.Devices.{Reader, no_read}
 use Rattle.run_parts.specs.RunErrors.{vcd_error}
 use Rattle.run_parts.specs.declared.errors.RunError.{RunError}
@@ -30,6 +31,31 @@ begins_by least scl sda text cleared r ts after fed left more =
     let given : given_so_far scl sda text ++ more ≡ cleared ++ (r.kept.samples ++ more) =
     ap (λ (u : List Sample). u ++ more) (given_in scl sda text cleared r fed) ∙ append_assoc cleared r.kept.samples more in
     (after more, ap (quiet_transactions least) given ∙ sym (left more))
+
+-- and whatever the dump goes on with
+begins_more : (least : ℕ) (scl sda : Finder) (text piece : List ℕ) (ts : List Recorded) → BeginsWith least scl sda text ts → BeginsWith least scl sda (text ++ piece) ts
+begins_more least scl sda text piece ts begins more =
+    let on = given_more scl sda text piece in
+    let given : given_so_far scl sda (text ++ piece) ++ more ≡ given_so_far scl sda text ++ (on.0 ++ more) =
+    ap (λ (u : List Sample). u ++ more) on.1 ∙ append_assoc (given_so_far scl sda text) on.0 more in
+    let b = begins (on.0 ++ more) in
+    (b.0, ap (quiet_transactions least) given ∙ b.1)
+
+memory_or_not : (e : RunError) → (e ≡ error.NoMemory) ⊎ (e ≢ error.NoMemory)
+memory_or_not (error.Plan e) = inr (λ same. cc)
+memory_or_not (error.Brief e) = inr (λ same. cc)
+memory_or_not (error.Vcd e) = inr (λ same. cc)
+memory_or_not (error.Bench e) = inr (λ same. cc)
+memory_or_not error.Workers = inr (λ same. cc)
+memory_or_not error.Read = inr (λ same. cc)
+memory_or_not error.Write = inr (λ same. cc)
+memory_or_not error.NoMemory = inl refl
+
+ok_no_memory : {R : Type 0} (it : R) → Ok it ≢ Err error.NoMemory
+ok_no_memory it same = cc
+
+the_error : {R : Type 0} (e : RunError) (r : Result R RunError) → r ≡ Err e → r ≡ Err error.NoMemory → e ≡ error.NoMemory
+the_error e r is same = cc
 
 pub on_ok : {X E : Type 0} (r : Result X E) {P Q : Type 0} → (P → Q) → OnOk r P → OnOk r Q
 on_ok (Ok x) f h = f h
@@ -65,58 +91,89 @@ module _ {S : Type 0} (sink : Sink S) (start : S) (least : ℕ) (scl sda : Finde
     done = f.done;
     taken = f.taken;
     left = λ more. ap (λ (u : QuietFollower). f.done ++ quiet_behind u more) same ∙ f.left more;
+    out = subst HasHandedOut (sym same) f.out;
   }
 
   -- the sink took what ended in what was read
-  pub goes_on : (text : List ℕ) (d grown : Decoder) (samples : List Sample) (items slice : List Transaction) (told end : S) → (f : Follows sink start least scl sda text d told) → Fed scl sda text (f.cleared ++ (reading_of d.reader).kept.samples) (reading_of grown.reader) → samples ≡ (reading_of d.reader).kept.samples → slice ≡ items → ((more : List Sample) → map recorded items ++ quiet_behind grown.follower more ≡ quiet_behind d.follower (samples ++ more)) → sink.takes told (map recorded slice) end → Follows sink start least scl sda text grown end
-  goes_on text d grown samples items slice told end f fed these same followed took =
+  pub goes_on : (text : List ℕ) (d grown : Decoder) (samples : List Sample) (items slice : List Transaction) (told end : S) → (f : Follows sink start least scl sda text d told) → Fed scl sda text (f.cleared ++ (reading_of d.reader).kept.samples) (reading_of grown.reader) → samples ≡ (reading_of d.reader).kept.samples → slice ≡ items → ((more : List Sample) → map recorded items ++ quiet_behind grown.follower more ≡ quiet_behind d.follower (samples ++ more)) → HasHandedOut grown.follower → sink.takes told (map recorded slice) end → FollowsAll sink start least scl sda text grown end
+  goes_on text d grown samples items slice told end f fed these same followed out took =
       let given = (reading_of d.reader).kept.samples in
       record {
-        cleared = f.cleared ++ given;
-        fed = fed;
-        done = f.done ++ map recorded slice;
-        taken = next_call f.taken took;
-        left = λ more. all_left text d told f given samples items slice (quiet_behind grown.follower more) more these same (followed more)
-            ∙ ap (quiet_transactions least) (sym (append_assoc f.cleared given more));
+        follows = record {
+          cleared = f.cleared ++ given;
+          fed = fed;
+          done = f.done ++ map recorded slice;
+          taken = next_call f.taken took;
+          left = λ more. all_left text d told f given samples items slice (quiet_behind grown.follower more) more these same (followed more)
+              ∙ ap (quiet_transactions least) (sym (append_assoc f.cleared given more));
+          out = out;
+        };
+        all = given_in scl sda text f.cleared (reading_of d.reader) f.fed;
       }
+
+  -- what ended in what was read
+  found : (text : List ℕ) (d : Decoder) (follower : QuietFollower) (samples : List Sample) (items slice : List Transaction) (told : S) → (f : Follows sink start least scl sda text d told) → samples ≡ (reading_of d.reader).kept.samples → slice ≡ items → ((more : List Sample) → map recorded items ++ quiet_behind follower more ≡ quiet_behind d.follower (samples ++ more)) → BeginsWith least scl sda text (f.done ++ map recorded slice)
+  found text d follower samples items slice told f these same followed =
+      let r = reading_of d.reader in
+      begins_by least scl sda text f.cleared r (f.done ++ map recorded slice) (λ more. quiet_behind follower more) f.fed (λ more. all_left text d told f r.kept.samples samples items slice (quiet_behind follower more) more these same (followed more))
+
+  -- and that is all
+  found_all : (text : List ℕ) (d : Decoder) (follower : QuietFollower) (samples : List Sample) (items slice : List Transaction) (told : S) → (f : Follows sink start least scl sda text d told) → samples ≡ (reading_of d.reader).kept.samples → slice ≡ items → ((more : List Sample) → map recorded items ++ quiet_behind follower more ≡ quiet_behind d.follower (samples ++ more)) → HasHandedOut follower → AreAllEnded least scl sda text (f.done ++ map recorded slice)
+  found_all text d follower samples items slice told f these same followed out =
+      let given = (reading_of d.reader).kept.samples in
+      all_ended least scl sda text (f.cleared ++ given) (f.done ++ map recorded slice) follower (given_in scl sda text f.cleared (reading_of d.reader) f.fed)
+      (λ more. all_left text d told f given samples items slice (quiet_behind follower more) more these same (followed more) ∙ ap (quiet_transactions least) (sym (append_assoc f.cleared given more)))
+      out
+
+  -- all that was read has been followed
+  pub all_taken : (text : List ℕ) (d : Decoder) (told : S) → (f : FollowsAll sink start least scl sda text d told) → AreAllEnded least scl sda text f.follows.done
+  all_taken text d told f =
+      all_ended least scl sda text f.follows.cleared f.follows.done d.follower f.all f.follows.left f.follows.out
 
   -- the sink stopped at what ended in what was read
   pub stops_there : (text : List ℕ) (d : Decoder) (follower : QuietFollower) (samples : List Sample) (items slice : List Transaction) (told end : S) (e : RunError) → (f : Follows sink start least scl sda text d told) → samples ≡ (reading_of d.reader).kept.samples → slice ≡ items → ((more : List Sample) → map recorded items ++ quiet_behind follower more ≡ quiet_behind d.follower (samples ++ more)) → sink.stops told (map recorded slice) e end → StopsAt sink start least scl sda text told e end
   stops_there text d follower samples items slice told end e f these same followed why =
-      let r = reading_of d.reader in
-      let all = f.done ++ map recorded slice in
-      let on : BeginsWith least scl sda text all = begins_by least scl sda text f.cleared r all (λ more. quiet_behind follower more) f.fed (λ more. all_left text d told f r.kept.samples samples items slice (quiet_behind follower more) more these same (followed more)) in
-      stops_at on f.taken why
+      stops_at (found text d follower samples items slice told f these same followed) f.taken why
 
   -- the piece passes, and the sink stops
   pub piece_stops : (text piece : List ℕ) (d : Decoder) (told end : S) (e : RunError) → Follows sink start least scl sda (text ++ piece) d told → PassesSoFar scl sda (text ++ piece) → StopsAt sink start least scl sda (text ++ piece) told e end → StopsAtPiece sink start least scl sda text piece e end
   piece_stops text piece d told _ _ f passes no_memory =
-      refused {error = error.NoMemory} tt (inr refl) (begins (text ++ piece) d told f) f.taken
+      refused {error = error.NoMemory} tt (begins (text ++ piece) d told f) (λ n. absurd (n refl)) f.taken
   piece_stops text piece d told end e f passes (stops_at begin taken why) = within passes begin taken why
 
-  -- the piece is refused, and the sink took what ended before
-  pub refused_with : {R : Type 0} (text piece read : List ℕ) (d grown : Decoder) (told end : S) (e : RunError) (r : Result R RunError) → RefusesBeginning scl sda (text ++ piece) e → (read ≡ text) ⊎ (read ≡ text ++ piece) → Follows sink start least scl sda read d told → OnOk r (Follows sink start least scl sda read grown end) → IfErr r (λ other. StopsAt sink start least scl sda read told other end) → StopsAtPiece sink start least scl sda text piece e end
-  refused_with text piece read d grown told end e (Ok it) refuses which f after stops =
-      refused refuses which (begins read grown end after) after.taken
-  refused_with text piece read d grown told end e (Err other) refuses which f after stops = go other end stops
+  -- the piece is refused, and the sink took what ended before, or stopped there
+  refused_with : {R : Type 0} (text piece : List ℕ) (ts more : List Recorded) (told end : S) (e answered : RunError) (r : Result R RunError) → (r ≡ Err error.NoMemory → answered ≡ error.NoMemory) → (r ≢ Err error.NoMemory → answered ≡ e) → RefusesBeginning scl sda (text ++ piece) e → BeginsWith least scl sda (text ++ piece) (ts ++ more) → (e ≢ error.NoMemory → AreAllEnded least scl sda (text ++ piece) (ts ++ more)) → HasTaken sink start ts told → OnOk r (sink.takes told more end) → IfErr r (λ other. sink.stops told more other end) → StopsAtPiece sink start least scl sda text piece answered end
+  refused_with text piece ts more told end e answered (Ok it) memory refusal refuses begun all taken took stops =
+      subst (λ (a : RunError). StopsAtPiece sink start least scl sda text piece a end) (sym (refusal (ok_no_memory it)))
+      (refused refuses begun all (next_call taken took))
+  refused_with text piece ts more told end e answered (Err other) memory refusal refuses begun all taken took stops = go (memory_or_not other)
     where
-      go : (other : RunError) (end : S) → StopsAt sink start least scl sda read told other end → StopsAtPiece sink start least scl sda text piece e end
-      go _ _ no_memory = refused refuses which (begins read d told f) f.taken
-      go other end (stops_at begin taken why) = both refuses which begin taken why
+      go : (other ≡ error.NoMemory) ⊎ (other ≢ error.NoMemory) → StopsAtPiece sink start least scl sda text piece answered end
+      go (inl is) =
+          subst (λ (a : RunError). StopsAtPiece sink start least scl sda text piece a end) (sym (memory (ap Err is)))
+          (both {error = error.NoMemory} tt begun (λ n. absurd (n refl)) taken stops (λ same. refl))
+      go (inr is_not) =
+          subst (λ (a : RunError). StopsAtPiece sink start least scl sda text piece a end) (sym (refusal (λ same. is_not (the_error other (Err other) refl same))))
+          (both refuses begun all taken stops (λ same. absurd (is_not same)))
 
   -- the piece is refused, or memory ran out and nothing of it was read; and the sink was handed what ended before
-  pub piece_refused : {R : Type 0} (text piece : List ℕ) (d mid grown : Decoder) (read : Reading) (told end : S) (v : VcdError) (r : Result R RunError) → (f : Follows sink start least scl sda text d told) → mid.follower ≡ d.follower → reading_of mid.reader ≡ read → (v ≡ NoMemory) ⊎ Fed scl sda (text ++ piece) f.cleared read → (v ≡ NoMemory → read ≡ reading_of d.reader) → RefusesBeginning scl sda (text ++ piece) (vcd_error v) → OnOk r ((t : List ℕ) → Follows sink start least scl sda t mid told → Follows sink start least scl sda t grown end) → IfErr r (λ other. (t : List ℕ) → Follows sink start least scl sda t mid told → StopsAt sink start least scl sda t told other end) → StopsAtPiece sink start least scl sda text piece (vcd_error v) end
-  piece_refused text piece d mid grown read told end v r f same is (inl none) kept refuses handed stopped =
-      let fed : Fed scl sda text f.cleared (reading_of mid.reader) = subst (Fed scl sda text f.cleared) (sym (is ∙ kept none)) f.fed in
-      let on = read_on text text d mid told f fed same in
-      refused_with text piece text mid grown told end (vcd_error v) r refuses (inl refl) on (on_ok r (λ h. h text on) handed)
-      (if_err r (λ other. (t : List ℕ) → Follows sink start least scl sda t mid told → StopsAt sink start least scl sda t told other end) (λ other. StopsAt sink start least scl sda text told other end) (λ other h. h text on) stopped)
-  piece_refused text piece d mid grown read told end v r f same is (inr fed_on) kept refuses handed stopped =
+  pub piece_refused : {R : Type 0} (text piece : List ℕ) (d mid : Decoder) (follower : QuietFollower) (samples : List Sample) (items slice : List Transaction) (told end : S) (v : VcdError) (answered : RunError) (r : Result R RunError) → (f : Follows sink start least scl sda text d told) → mid.follower ≡ d.follower → (v ≡ NoMemory) ⊎ Fed scl sda (text ++ piece) f.cleared (reading_of mid.reader) → (v ≡ NoMemory → reading_of mid.reader ≡ reading_of d.reader) → RefusesBeginning scl sda (text ++ piece) (vcd_error v) → samples ≡ (reading_of mid.reader).kept.samples → slice ≡ items → ((more : List Sample) → map recorded items ++ quiet_behind follower more ≡ quiet_behind mid.follower (samples ++ more)) → (HasHandedOut mid.follower → HasHandedOut follower) → OnOk r (sink.takes told (map recorded slice) end) → IfErr r (λ other. sink.stops told (map recorded slice) other end) → (r ≡ Err error.NoMemory → answered ≡ error.NoMemory) → (r ≢ Err error.NoMemory → answered ≡ vcd_error v) → StopsAtPiece sink start least scl sda text piece answered end
+  piece_refused text piece d mid follower samples items slice told end v answered r f same (inl none) kept refuses these alike followed out took stops memory refusal =
+      let on = read_on text text d mid told f (subst (Fed scl sda text f.cleared) (sym (kept none)) f.fed) same in
+      let begun = begins_more least scl sda text piece (on.done ++ map recorded slice) (found text mid follower samples items slice told on these alike followed) in
+      refused_with text piece on.done (map recorded slice) told end (vcd_error v) answered r memory refusal refuses begun (λ n. absurd (n (ap vcd_error none))) on.taken took stops
+  piece_refused text piece d mid follower samples items slice told end v answered r f same (inr fed) kept refuses these alike followed out took stops memory refusal =
       let whole = text ++ piece in
-      let fed : Fed scl sda whole f.cleared (reading_of mid.reader) = subst (Fed scl sda whole f.cleared) (sym is) fed_on in
       let on = read_on text whole d mid told f fed same in
-      refused_with text piece whole mid grown told end (vcd_error v) r refuses (inr refl) on (on_ok r (λ h. h whole on) handed)
-      (if_err r (λ other. (t : List ℕ) → Follows sink start least scl sda t mid told → StopsAt sink start least scl sda t told other end) (λ other. StopsAt sink start least scl sda whole told other end) (λ other h. h whole on) stopped)
+      refused_with text piece on.done (map recorded slice) told end (vcd_error v) answered r memory refusal refuses
+      (found whole mid follower samples items slice told on these alike followed)
+      (λ n. found_all whole mid follower samples items slice told on these alike followed (out on.out))
+      on.taken took stops
+
+  -- the piece is refused, or memory ran out; and then memory ran out
+  pub piece_unfound : (text piece : List ℕ) (d : Decoder) (told : S) → Follows sink start least scl sda text d told → StopsAtPiece sink start least scl sda text piece error.NoMemory told
+  piece_unfound text piece d told f =
+      refused {error = error.NoMemory} tt (begins_more least scl sda text piece f.done (begins text d told f)) (λ n. absurd (n refl)) f.taken
 
   -- the sink took what is left at the end
   pub end_taken : (text : List ℕ) (d : Decoder) (samples handed : List Sample) (items slice : List Transaction) (told end : S) → (f : Follows sink start least scl sda text d told) → samples_of scl sda text ≡ Ok (f.cleared ++ samples) → handed ≡ samples → slice ≡ items → map recorded items ≡ quiet_behind d.follower handed → sink.takes told (map recorded slice) end → DecodesDump sink start least scl sda text end
@@ -136,4 +193,4 @@ module _ {S : Type 0} (sink : Sink S) (start : S) (least : ℕ) (scl sda : Finde
   not_begun second before =
       let begun : HasBegun second scl sda before 0 [] before = record { given = no_read; passes = tt } in
       let begins : BeginsWith least scl sda [] [] = λ more. (quiet_transactions least (given_so_far scl sda [] ++ more), refl) in
-      at_dump (dump_no_memory {reads = 0} {text = []} (omega arith) begun) begun.given begins no_call
+      at_dump (dump_no_memory {reads = 0} {text = []} (omega arith) begun) begins (λ n. absurd (n refl)) no_call

@@ -60,3 +60,12 @@ module _ {E : Type 0} (second : Reader E) where
         PassesSoFar scl sda text →
         RefusesDump scl sda text error →
         HaltsAtDump scl sda before error now
+
+  -- all bytes that the reads have given by then
+  abbrev pub given_by_then : {scl sda : Finder} {before : E} {error : RunError} {now : E} →
+      HaltsAtDump scl sda before error now → List ℕ
+  given_by_then (read_fails {text = text} few begun fault failed) = text
+  given_by_then (meets_no_end {text = text} begun) = text
+  given_by_then (no_memory {text = text} few begun) = text
+  given_by_then (refused_within {text = text} {piece = piece} few begun call some sound refuses) = text ++ piece
+  given_by_then (refused_at_end {text = text} read passes refuses) = text

@@ -1,5 +1,8 @@
 // A dump that comes in pieces, from its bytes to its transactions.
 
+ghost use Rattle.std.specs.Prelude.{◌≡◌, ◌≢◌, Err};
+ghost use Rattle.run_parts.specs.declared.errors.RunError.TheVariants.{NoMemory};
+
 use crate::runs::Ending;
 use crate::sinks::TransactionSink;
 use pulses::QuietFollower;
@@ -20,7 +23,7 @@ impl Decoder {
     ghost use Rattle.vcd_read.specs.Views.{asked};
     ghost use Rattle.decoding.specs.Decoding.{DecodesDump};
     ghost use Rattle.decoding.specs.Dumps.{PassesSoFar};
-    ghost use Rattle.decoding.specs.DecoderViews.{IsNew, Follows, StopsAt, StopsAtPiece, StopsAtEnd};
+    ghost use Rattle.decoding.specs.DecoderViews.{IsNew, Follows, FollowsAll, StopsAt, StopsAtPiece, StopsAtEnd};
 
     /// Nothing of the dump has been read. Levels that last less than this time are left out.
     pub(crate) fn new(
@@ -37,8 +40,8 @@ impl Decoder {
         })
     }
 
-    /// The next piece of the dump. The sink takes the transactions that end in it, before a refusal too. What is wrong with the
-    /// dump then is told beside the refusal.
+    /// The next piece of the dump. The sink takes all transactions that end in it, before a refusal too. What is wrong with
+    /// the dump then is told beside the refusal.
     pub(crate) fn feed<S: TransactionSink>(
         &mut self,
         alloc: Global,
@@ -49,7 +52,7 @@ impl Decoder {
         requires { S.needs }
         ensures fed { OnOk result ((start : S) (least : ℕ) (scl sda : Finder) (text : List ℕ) →
             Follows S.sink start least scl sda text self.old sink.old →
-            Follows S.sink start least scl sda (text ++ piece.now) self.new sink.new) }
+            FollowsAll S.sink start least scl sda (text ++ piece.now) self.new sink.new) }
         ensures passed { OnOk result ((start : S) (least : ℕ) (scl sda : Finder) (text : List ℕ) →
             Follows S.sink start least scl sda text self.old sink.old → PassesSoFar scl sda (text ++ piece.now)) }
         ensures stops { IfErr result (λ error. (start : S) (least : ℕ) (scl sda : Finder) (text : List ℕ) →
@@ -59,9 +62,10 @@ impl Decoder {
         match self.reader.feed(piece) {
             Ok(()) => self.hand_on(alloc, sink),
             Err(error) => {
+                let found = self.follower.follow(alloc, self.reader.samples())?;
                 *wrong = self.reader.take_wrong();
-                let _ = self.hand_on(alloc, sink);
-                Err(RunError::from(error))
+                let taken = sink.take(found.as_slice());
+                Err(refused_with(&taken, RunError::from(error)))
             }
         }
     }
@@ -71,7 +75,7 @@ impl Decoder {
         requires { S.needs }
         ensures handed { OnOk result ((start : S) (least : ℕ) (scl sda : Finder) (text : List ℕ) →
             Follows S.sink start least scl sda text self.old sink.old →
-            Follows S.sink start least scl sda text self.new sink.new) }
+            FollowsAll S.sink start least scl sda text self.new sink.new) }
         ensures stops { IfErr result (λ error. (start : S) (least : ℕ) (scl sda : Finder) (text : List ℕ) →
             Follows S.sink start least scl sda text self.old sink.old →
             StopsAt S.sink start least scl sda text sink.old error sink.new) }
@@ -94,7 +98,7 @@ impl Decoder {
             Follows S.sink start least scl sda text self sink.old →
             DecodesDump S.sink start least scl sda text sink.new) }
         ensures stops { IfErr result (λ error. (start : S) (least : ℕ) (scl sda : Finder) (text : List ℕ) →
-            Follows S.sink start least scl sda text self sink.old →
+            FollowsAll S.sink start least scl sda text self sink.old →
             StopsAtEnd S.sink start least scl sda text error sink.new) }
     {
         let Decoder {
@@ -116,5 +120,17 @@ impl Decoder {
             idle: follower.idle(),
             rises: follower.rises(),
         })
+    }
+}
+
+// What is answered where a dump is refused, and the sink was handed what had ended: the refusal, but where the sink had no
+// memory, since some of it may then be missing.
+fn refused_with(taken: &Result<(), RunError>, refusal: RunError) -> RunError
+    ensures memory { taken.now ≡ Err NoMemory → result ≡ NoMemory }
+    ensures refusal { taken.now ≢ Err NoMemory → result ≡ refusal }
+{
+    match taken {
+        Err(error) if *error == RunError::NoMemory => RunError::NoMemory,
+        _ => refusal,
     }
 }

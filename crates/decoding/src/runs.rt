@@ -27,14 +27,15 @@ pub struct Ending {
 
 /// Hands the transactions in the dump that the reader gives on to a sink, as they end: one call for each block, and one
 /// at the end. `scl` and `sda` find the two lines in the dump, and a level that a line has for less than `least`, in the
-/// unit of the dump, is ignored. The dump is read block by block, and no more of it is kept than what is open. Of a block in
-/// which the dump is refused the sink takes what ended before; `wrong` then has what is wrong, beside the refusal, as far as
-/// there was memory for it.
+/// unit of the dump, is ignored. The dump is read block by block, and no more of it is kept than what is open. Where it is
+/// refused, or a read fails, the sink was handed all transactions that had ended in all that was given, unless memory ran
+/// out; `wrong` then has what is wrong, beside the refusal, as far as there was memory for it.
 ///
 /// # Errors
 ///
-/// `Read` where the reader failed or gave no end, `Vcd` with the first refusal of the dump, `NoMemory` where an
-/// allocation fails, and what the sink answers where it stops.
+/// `Read` where the reader failed or gave no end, `Vcd` with the first refusal of the dump, also where the sink stops at
+/// what had ended before it, `NoMemory` where an allocation fails, in the sink too, and else what the sink answers where it
+/// stops.
 pub fn decode<J: Input, S: TransactionSink>(
     alloc: Global,
     vcd: &mut J,

@@ -28,10 +28,10 @@ pub struct Filter {
 }
 
 impl Filter {
-    ghost use Rattle.std.specs.Prelude.{◌≡◌, ◌≢◌, List, [], ◌∷◌, ◌++◌, OnOk, true};
+    ghost use Rattle.std.specs.Prelude.{◌≡◌, ◌≢◌, ◌<◌, List, [], ◌∷◌, ◌++◌, OnOk, true};
     ghost use Rattle.vcd_read.specs.declared.samples.Sample.{Sample};
     ghost use Rattle.pulses.specs.Pulses.{quiet, quiet_behind_first};
-    ghost use Rattle.pulses.specs.Filtering.{behind, least_of, to_come, IsAtFirst};
+    ghost use Rattle.pulses.specs.Filtering.{behind, least_of, to_come, HaveGoneOn, IsAtFirst};
     ghost use Rattle.pulses.specs.Wires.{GoesOn};
     ghost use Rattle.pulses.specs.declared.wires.First.TheVariants.{Scl, Sda, Both};
 
@@ -39,6 +39,7 @@ impl Filter {
     pub fn new(least: u64) -> Filter
         ensures behind { IsAtFirst least result }
         ensures least { least_of result ≡ least }
+        ensures gone_on { HaveGoneOn result }
     {
         Filter {
             least,
@@ -62,6 +63,7 @@ impl Filter {
         ensures handed { OnOk result ((more : List Sample) →
             quiet.new.items ++ behind self.new more ≡ quiet.old.items ++ behind self.old (samples.now ++ more)) }
         ensures least { OnOk result (least_of self.new ≡ least_of self.old) }
+        ensures gone_on { OnOk result (HaveGoneOn self.old → HaveGoneOn self.new) }
     {
         for sample in samples {
             self.next(sample, quiet)?;
@@ -107,6 +109,7 @@ impl Filter {
         ensures handed { OnOk result ((more : List Sample) →
             quiet.new.items ++ behind self.new more ≡ quiet.old.items ++ behind self.old (sample.now ∷ more)) }
         ensures least { OnOk result (least_of self.new ≡ least_of self.old) }
+        ensures gone_on { OnOk result (HaveGoneOn self.old → HaveGoneOn self.new) }
     {
         if self.begun {
             self.pass(sample.time);
@@ -125,6 +128,7 @@ impl Filter {
     fn begin(&mut self, sample: &Sample)
         ensures least { self.new.least ≡ self.old.least }
         ensures begun { self.new.begun ≡ true }
+        ensures gone_on { GoesOn self.new.scl × GoesOn self.new.sda }
         ensures to_come { (more : List Sample) →
             sample.now ∷ to_come self.new more ≡ quiet_behind_first self.old.least (sample.now ∷ more) }
     {
@@ -262,6 +266,7 @@ impl Filter {
         requires sda { GoesOn self.old.sda }
         ensures least { self.new.least ≡ self.old.least }
         ensures begun { self.new.begun ≡ self.old.begun }
+        ensures gone_on { 0 < self.old.least → GoesOn self.new.scl × GoesOn self.new.sda }
         ensures to_come { (more : List Sample) → to_come self.new more ≡ to_come self.old (sample.now ∷ more) }
     {
         match (self.scl.has(sample.scl), self.sda.has(sample.sda)) {

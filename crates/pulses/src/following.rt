@@ -19,13 +19,14 @@ impl QuietFollower {
     ghost use Rattle.std.specs.Prelude.{◌≡◌, ◌++◌, List, IfOk, OnOk, map};
     ghost use Rattle.vcd_read.specs.declared.samples.Sample.{Sample};
     ghost use Rattle.capture_check.specs.Views.{recorded};
-    ghost use Rattle.pulses.specs.Following.{least_in, quiet_behind, quiet_transactions};
+    ghost use Rattle.pulses.specs.Following.{least_in, quiet_behind, quiet_transactions, HasHandedOut};
 
     /// Nothing is known of the bus. Levels that last less than this time are left out, in the unit of the capture; no level
     /// lasts less than 0.
     pub fn new(alloc: Global, least: u64) -> QuietFollower
         ensures behind { (samples : List Sample) → quiet_behind result samples ≡ quiet_transactions least samples }
         ensures least { least_in result ≡ least }
+        ensures handed_out { HasHandedOut result }
     {
         let filter = if least == 0 {
             None
@@ -49,6 +50,7 @@ impl QuietFollower {
         ensures found { IfOk result (λ found. (more : List Sample) →
             map recorded found.items ++ quiet_behind self.new more ≡ quiet_behind self.old (samples.now ++ more)) }
         ensures least { OnOk result (least_in self.new ≡ least_in self.old) }
+        ensures handed_out { OnOk result (HasHandedOut self.old → HasHandedOut self.new) }
     {
         match &mut self.filter {
             None => self.follower.follow(alloc, samples),

@@ -2,6 +2,8 @@
 
 ghost use Rattle.std.specs.Prelude.{◌≡◌, ℕ, List};
 ghost use Rattle.vcd_read.specs.declared.samples.Sample.{Sample};
+ghost use Rattle.pulses.specs.declared.following.QuietFollower.{QuietFollower};
+ghost use Rattle.pulses.specs.Following.{HasHandedOut, NoneHasEnded};
 ghost use Rattle.pulses.specs.Laws.{AreInOrder, AreChanges, HasNoShortRun};
 ghost use Rattle.pulses.specs.Pulses.{quiet, scl, sda};
 
@@ -15,4 +17,9 @@ pub fn only_short_runs_are_left_out()
         HasNoShortRun least scl (quiet least samples) × HasNoShortRun least sda (quiet least samples) }
     ensures once { (least : ℕ) (samples : List Sample) → AreInOrder samples →
         quiet least (quiet least samples) ≡ quiet least samples }
+{}
+
+/// What has ended is handed out: of the transactions that are left in a follower none comes first whatever samples follow.
+pub fn all_that_ended_is_handed_out()
+    ensures { (f : QuietFollower) → HasHandedOut f → NoneHasEnded f }
 {}

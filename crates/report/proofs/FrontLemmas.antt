@@ -14,6 +14,8 @@ use Rattle.capture_check.specs.declared.listening.Until.TheVariants.{Stopped, Cu
 use Rattle.capture_check.specs.Explained.{AreLeavers, AreExplainersUntil, AreExplainers}
 use Rattle.capture_check.specs.Transactions.{Recorded}
 use Rattle.pulses.specs.Following.{quiet_transactions}
+use Rattle.decoding.specs.Dumps.{given_by_then}
+use Rattle.decoding.proofs.DumpLemmas.{given_then}
 use Rattle.report.specs.CaptureLines.{Tally, Tells, no_transaction, next_transaction, capture_line, stopped, unexplained, count_line, capture_report}
 use Rattle.report.specs.Captures.{CaptureOf}
 use Rattle.report.specs.LiveCaptures.{FirstLines, LinesOfDump, BeginsReport, HaltsLive, at_dump, at_both, at_writer, at_end, at_report, WroteFront, of_each, of_whole}
@@ -211,9 +213,11 @@ module _ (least : ℕ) (scl sda : Finder) (plan : Contents) where
 
   module _ {E O : Type 0} (second : Reader E) (writer : Writer O) (before : E) (start : O) where
     pub front_live : (e : RunError) (now : E) (end : O) → HaltsLive least scl sda plan second writer before start e now end → WroteFront least scl sda plan second writer before start now end
-    front_live e now end (at_dump {text = text} {lines = lines} halts given first all) = of_each lines given (λ rest. first_begin text lines rest first) all.appended
-    front_live e now end (at_both {text = text} {lines = lines} halts given first stops) =
-        of_each stops.front given (λ rest. shorter (text ++ rest) lines stops.front stops.left stops.split (first_begin text lines rest first)) stops.appended
+    front_live e now end (at_dump {lines = lines} halts first whole all) =
+        of_each lines (given_then second scl sda before now e halts).2 (λ rest. first_begin (given_by_then second halts) lines rest first) all.appended
+    front_live e now end (at_both {lines = lines} halts first whole stops) =
+        let text = given_by_then second halts in
+        of_each stops.front (given_then second scl sda before now e halts).2 (λ rest. shorter (text ++ rest) lines stops.front stops.left stops.split (first_begin text lines rest first)) stops.appended
     front_live e now end (at_writer {text = text} {lines = lines} few begun first why) =
         let stops = front_of_stop (by_parts writer) start end lines e why in
         of_each stops.front begun.given (λ rest. shorter (text ++ rest) lines stops.front stops.left stops.split (first_begin text lines rest first)) stops.appended

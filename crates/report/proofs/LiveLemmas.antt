@@ -1,5 +1,5 @@
 -- What lines that are written as they come say, once the writer has them.
-use Rattle.std.proofs.Common.{◌≡◌, zero, suc, string_bytes, ◌≤◌, ◌⊎◌, inl, inr, ℕ, ◌+◌, List, [], ◌∷◌, ◌++◌, length, length-append, Ok, ap, sym, ◌∙◌, subst, refl, append_assoc, append-nil, arith}
+use Rattle.std.proofs.Common.{◌≡◌, ◌≢◌, zero, suc, string_bytes, ◌≤◌, ◌⊎◌, inl, inr, ℕ, ◌+◌, List, [], ◌∷◌, ◌++◌, length, length-append, Ok, ap, sym, ◌∙◌, subst, refl, append_assoc, append-nil, arith}
 use Rattle.plan_core.specs.Contents.{Contents}
 use Rattle.plan_core.specs.PlanContents.{plan_contents}
 use Rattle.vcd_read.specs.declared.samples.Sample.{Sample}
@@ -7,8 +7,8 @@ use Rattle.vcd_read.specs.Dumps.{samples_of}
 use Rattle.vcd_read.specs.Probes.{Finder}
 use Rattle.pulses.specs.Following.{quiet_transactions}
 use Rattle.capture_check.specs.Transactions.{Recorded}
-use Rattle.decoding.specs.Decoding.{BeginsWith, DecodesAll, HaltsAtDecoding, at_dump, at_both, at_sink, at_end}
-use Rattle.decoding.specs.Dumps.{HaltsAtDump, HasBegun, no_memory}
+use Rattle.decoding.specs.Decoding.{BeginsWith, AreAllEnded, DecodesAll, HaltsAtDecoding, at_dump, at_both, at_sink, at_end}
+use Rattle.decoding.specs.Dumps.{HaltsAtDump, HasBegun, given_by_then, no_memory}
 use Rattle.decoding.specs.Explaining.{explaining_sink}
 use Rattle.decoding.specs.Sinks.{Sink, HasTaken, no_call, next_call}
 use Rattle.decoding.specs.declared.sinks.Explaining.{Explaining}
@@ -23,7 +23,7 @@ use Rattle.report.specs.declared.live.Live.{Live}
 use Rattle.report.specs.declared.telling.CaptureCounts.{CaptureCounts}
 use Rattle.report.specs.declared.telling.Telling.{Telling}
 use Rattle.decoding.proofs.PartLemmas.{all_left, none_left, part_written, part_stops, front_of_stop, first_begin}
-use Rattle.run_parts.specs.Devices.{Reader, Writer, HasGiven, by_parts}
+use Rattle.run_parts.specs.Devices.{Reader, Writer, by_parts}
 use Rattle.run_parts.specs.Runs.{ReadsText, most_reads}
 use Rattle.run_parts.specs.Writing.{WritesAll, WritesFront, WritingStops}
 use Rattle.run_parts.specs.declared.runs.Status.{Status}
@@ -154,21 +154,23 @@ module _ {R O : Type 0} (writer : Writer O) where
     abbrev Halts : RunError → E → O → Type 0
     Halts = HaltsLive least scl sda (under start) second writer before start.sink.out.now
 
-    first_lines : (text : List ℕ) (ts : List Recorded) (tally : Tally) → BeginsWith least scl sda text ts → Tells (under start) ts tally → FirstLines least scl sda (under start) text tally.lines
+    abbrev first_lines : (text : List ℕ) (ts : List Recorded) (tally : Tally) → BeginsWith least scl sda text ts → Tells (under start) ts tally → FirstLines least scl sda (under start) text tally.lines
     first_lines text ts tally ended told = record { transactions = ts; ended = ended; tally = tally; told = told; same = refl }
 
-    at_front : (text : List ℕ) (ts : List Recorded) (reads : ℕ) (last_read now : E) (e : RunError) (told : Explaining R (Live O)) → HaltsAtDump second scl sda before e now → HasGiven second before reads text last_read → BeginsWith least scl sda text ts → HasWritten start ts told → Halts e now told.sink.out.now
-    at_front text ts reads last_read now e told halts given begins w =
-        live_at_dump halts given (first_lines text ts w.tally begins w.told) (all_lines start ts told w)
+    at_front : (ts : List Recorded) (now : E) (e : RunError) (told : Explaining R (Live O)) → (halts : HaltsAtDump second scl sda before e now) → BeginsWith least scl sda (given_by_then second halts) ts → (e ≢ error.NoMemory → AreAllEnded least scl sda (given_by_then second halts) ts) → HasWritten start ts told → Halts e now told.sink.out.now
+    at_front ts now e told halts begins whole w =
+        live_at_dump halts (first_lines (given_by_then second halts) ts w.tally begins w.told) whole (all_lines start ts told w)
 
-    both : (text : List ℕ) (ts more : List Recorded) (reads : ℕ) (last_read now : E) (e second_error : RunError) (last told : Explaining R (Live O)) → HaltsAtDump second scl sda before e now → HasGiven second before reads text last_read → BeginsWith least scl sda text (ts ++ more) → HasWritten start ts last → Reason last more second_error told → Halts e now told.sink.out.now
+    both : (ts more : List Recorded) (now : E) (e second_error : RunError) (last told : Explaining R (Live O)) → (halts : HaltsAtDump second scl sda before e now) → BeginsWith least scl sda (given_by_then second halts) (ts ++ more) → (e ≢ error.NoMemory → AreAllEnded least scl sda (given_by_then second halts) (ts ++ more)) → HasWritten start ts last → Reason last more second_error told → (second_error ≡ error.NoMemory → e ≡ error.NoMemory) → Halts e now told.sink.out.now
     unfolding Reason
-    both text ts more reads last_read now e second_error last told halts given begins w (inl memory) =
-        subst (λ (out : O). Halts e now out) (sym memory.1) (at_front text ts reads last_read now e last halts given (first_begin least scl sda text ts more begins) w)
-    both text ts more reads last_read now e second_error last told halts given begins w (inr fails) =
+    both ts more now e second_error last told halts begins whole w (inl memory) is =
+        subst (λ (out : O). Halts e now out) (sym memory.1)
+        (at_front ts now e last halts (first_begin least scl sda (given_by_then second halts) ts more begins) (λ n. absurd (n (is memory.0))) w)
+    both ts more now e second_error last told halts begins whole w (inr fails) is =
         let all = plus w.tally fails.block in
-        live_at_both halts given
-        (first_lines text (ts ++ more) all begins (tells_more (under start) ts w.tally w.told more fails.block (block_under start ts more last fails.block w fails.told)))
+        live_at_both halts
+        (first_lines (given_by_then second halts) (ts ++ more) all begins (tells_more (under start) ts w.tally w.told more fails.block (block_under start ts more last fails.block w fails.told)))
+        whole
         (front_of_stop (by_parts writer) start.sink.out.now told.sink.out.now all.lines second_error (lines_fail start ts more last told second_error w fails))
 
     within : (text : List ℕ) (ts more : List Recorded) (reads : ℕ) (now : E) (e : RunError) (last told : Explaining R (Live O)) → reads ≤ most_reads → HasBegun second scl sda before reads text now → BeginsWith least scl sda text (ts ++ more) → HasWritten start ts last → Reason last more e told → Halts e now told.sink.out.now
@@ -176,7 +178,7 @@ module _ {R O : Type 0} (writer : Writer O) where
     within text ts more reads now e last told few begun begins w (inl memory) =
         subst (λ (out : O). Halts e now out) (sym memory.1)
         (subst (λ (d : RunError). Halts d now last.sink.out.now) (sym memory.0)
-        (at_front text ts reads now now error.NoMemory last (no_memory few begun) begun.given (first_begin least scl sda text ts more begins) w))
+        (at_front ts now error.NoMemory last (no_memory few begun) (first_begin least scl sda text ts more begins) (λ n. absurd (n refl)) w))
     within text ts more reads now e last told few begun begins w (inr fails) =
         let all = plus w.tally fails.block in
         at_writer few begun
@@ -202,13 +204,13 @@ module _ {R O : Type 0} (writer : Writer O) where
         (next_fails start ts more last told e (count_line all.stopped all.unexplained) w fails)
 
     pub halts_live : (now : E) (e : RunError) (told : Explaining R (Live O)) → HaltsAtDecoding sink start least scl sda second before e now told → (told.sink.out.ghost_name ≡ start.sink.out.ghost_name) × Halts e now told.sink.out.now
-    halts_live now e told (at_dump {reads = reads} {text = text} {last = last} {ts = ts} halts given begins taken) =
+    halts_live now e told (at_dump {ts = ts} halts begins whole taken) =
         let w = written_by start ts told taken in
-        (w.same_writer, at_front text ts reads last now e told halts given begins w)
-    halts_live now e told (at_both {second_error = second_error} {reads = reads} {text = text} {last_read = last_read} {ts = ts} {more = more} {last = last} halts given begins taken why) =
+        (w.same_writer, at_front ts now e told halts begins whole w)
+    halts_live now e told (at_both {second_error = second_error} {ts = ts} {more = more} {last = last} halts begins whole taken why is) =
         let w = written_by start ts last taken in
         let r = reason last told more second_error why in
-        (r.0 ∙ w.same_writer, both text ts more reads last_read now e second_error last told halts given begins w r.1)
+        (r.0 ∙ w.same_writer, both ts more now e second_error last told halts begins whole w r.1 is)
     halts_live now e told (at_sink {reads = reads} {text = text} {ts = ts} {more = more} {last = last} few begun begins taken why) =
         let w = written_by start ts last taken in
         let r = reason last told more e why in

@@ -58,8 +58,8 @@ module _ {R : Type 0} where
 
       -- but where memory runs out they stop nothing
       pub only_the_dump : {E : Type 0} (second : Reader E) (before now : E) (e : RunError) (told : Explaining R Telling) → HaltsAtDecoding sink start least scl sda second before e now told → HaltsAtDump second scl sda before e now
-      only_the_dump second before now e told (at_dump halts begun begins taken) = halts
-      only_the_dump second before now e told (at_both halts begun begins taken why) = halts
+      only_the_dump second before now e told (at_dump halts begins whole taken) = halts
+      only_the_dump second before now e told (at_both halts begins whole taken why memory) = halts
       only_the_dump second before now e told (at_sink {more = more} {last = last} few begun begins taken why) =
           subst (λ (e : RunError). HaltsAtDump second scl sda before e now) (sym (memory last told more e why)) (no_memory few begun)
       only_the_dump second before now e told (at_end {more = more} {last = last} all passes given split taken why) =

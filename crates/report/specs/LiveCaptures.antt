@@ -1,5 +1,5 @@
 -- What a run has written that tells of a dump while it reads it.
-use Rattle.std.specs.Prelude.{◌≡◌, ℕ, ◌≤◌, List, ◌++◌, length, Ok}
+use Rattle.std.specs.Prelude.{◌≡◌, ◌≢◌, ℕ, ◌≤◌, List, ◌++◌, length, Ok}
 use Rattle.std.specs.Io.KnownBytes.{Appends}
 use Rattle.plan_core.specs.Contents.{Contents}
 use Rattle.vcd_read.specs.declared.samples.Sample.{Sample}
@@ -7,8 +7,8 @@ use Rattle.vcd_read.specs.Dumps.{samples_of}
 use Rattle.vcd_read.specs.Probes.{Finder}
 use Rattle.pulses.specs.Following.{quiet_transactions}
 use Rattle.capture_check.specs.Transactions.{Recorded}
-use Rattle.decoding.specs.Decoding.{BeginsWith}
-use Rattle.decoding.specs.Dumps.{HasBegun, HaltsAtDump}
+use Rattle.decoding.specs.Decoding.{BeginsWith, AreAllEnded}
+use Rattle.decoding.specs.Dumps.{HasBegun, HaltsAtDump, given_by_then}
 use Rattle.report.specs.declared.telling.CaptureCounts.{CaptureCounts}
 use Rattle.report.specs.CaptureLines.{Tally, Tells}
 use Rattle.report.specs.Captures.{CaptureOf}
@@ -59,18 +59,19 @@ module _ (least : ℕ) (scl sda : Finder) (plan : Contents) where
 
     -- Why the report is not whole, and what was written up to then.
     pub data HaltsLive : RunError → E → O → Type 0 where
-      -- the dump halted, and the writer took the lines of what had ended
-      at_dump : {error : RunError} {reads : ℕ} {text lines : List ℕ} {last now : E} {end : O} →
-          HaltsAtDump second scl sda before error now →
-          HasGiven second before reads text last →
-          FirstLines text lines →
+      -- the dump halted, and the writer took the lines of all that had ended in all that was given, or, where memory ran out,
+      -- of the first of it
+      at_dump : {error : RunError} {lines : List ℕ} {now : E} {end : O} →
+          (halts : HaltsAtDump second scl sda before error now) →
+          (first : FirstLines (given_by_then second halts) lines) →
+          (error ≢ NoMemory → AreAllEnded least scl sda (given_by_then second halts) first.transactions) →
           WritesAll (by_parts writer) start lines end →
           HaltsLive error now end
-      -- the dump halted, and the writer failed at what had ended
-      at_both : {error : RunError} {reads : ℕ} {text lines : List ℕ} {last now : E} {end : O} →
-          HaltsAtDump second scl sda before error now →
-          HasGiven second before reads text last →
-          FirstLines text lines →
+      -- the dump halted, and the writer failed at these lines
+      at_both : {error : RunError} {lines : List ℕ} {now : E} {end : O} →
+          (halts : HaltsAtDump second scl sda before error now) →
+          (first : FirstLines (given_by_then second halts) lines) →
+          (error ≢ NoMemory → AreAllEnded least scl sda (given_by_then second halts) first.transactions) →
           WritesFront (by_parts writer) start lines end →
           HaltsLive error now end
       -- the writer failed at what had ended

@@ -10,7 +10,7 @@ returns-in-Err-clause-stops g c =
     let silent : IsSilent g.O.Output.writer _ = record { lines = c.new.ensures.lines; transactions = c.new.ensures.transactions; stopped = c.new.ensures.stopped } in
     let why = halts_decoded g.O.Output.writer _ silent c.args.least (asked c.args.scl) (asked c.args.sda) g.J.Input.reader c.args.vcd.now c.decode-ended.new.vcd c.in-Err.error c.decode-ended.new.sink c.in-Err.ensures.stops in
     let same = sym why.0 in
-    subst (λ out. HaltsDecoded c.args.least (asked c.args.scl) (asked c.args.sda) g.J.Input.reader g.O.Output.writer c.args.vcd.now c.args.out.now c.in-Err.error c.decode-ended.new.vcd out) (sym (search rules)) why.1
+    subst (λ out. HaltsDecoded c.args.least (asked c.args.scl) (asked c.args.sda) g.J.Input.reader g.O.Output.writer c.args.vcd.now c.args.out.now c.args.live c.in-Err.error c.decode-ended.new.vcd out) (sym (search rules)) why.1
 
 pub returns-in-Ok-clause-report : goal.returns-in-Ok-clause-report
 returns-in-Ok-clause-report g c =
@@ -24,4 +24,4 @@ returns-in-Ok-clause-stops g c =
     let silent : IsSilent g.O.Output.writer _ = record { lines = c.new.ensures.lines; transactions = c.new.ensures.transactions; stopped = c.new.ensures.stopped } in
     let why = halts g.O.Output.writer _ silent c.args.least (asked c.args.scl) (asked c.args.sda) g.J.Input.reader c.args.vcd.now c.decode-ended.new.vcd c.decode-ended.new.sink c.in-Ok.ensures.all c.write_last.result c.write_last.new.out c.write_last.ensures.stops in
     let same = sym (same_to_end g.O.Output.writer _ silent c.args.least (asked c.args.scl) (asked c.args.sda) g.J.Input.reader c.args.vcd.now c.decode-ended.new.vcd c.decode-ended.new.sink c.in-Ok.ensures.all) in
-    subst (λ out. IfErr c.write_last.result (λ error. HaltsDecoded c.args.least (asked c.args.scl) (asked c.args.sda) g.J.Input.reader g.O.Output.writer c.args.vcd.now c.args.out.now error c.decode-ended.new.vcd out)) (sym (search rules)) why
+    subst (λ out. IfErr c.write_last.result (λ error. HaltsDecoded c.args.least (asked c.args.scl) (asked c.args.sda) g.J.Input.reader g.O.Output.writer c.args.vcd.now c.args.out.now c.args.live error c.decode-ended.new.vcd out)) (sym (search rules)) why

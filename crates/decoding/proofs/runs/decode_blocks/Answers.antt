@@ -1,4 +1,4 @@
-use Rattle.std.proofs.Common.{◌≡◌, ◌<◌, ℕ, subst, arith, length}
+use Rattle.std.proofs.Common.{◌≡◌, ◌<◌, ℕ, refl, subst, arith, length}
 use Rattle.decoding.specs.Decoding.{HaltsAtDecoding}
 use Rattle.decoding.specs.Dumps.{read_fails, meets_no_end}
 use Rattle.run_parts.specs.Devices.{HasGiven}
@@ -34,12 +34,12 @@ returns-in_err-feed-in-Ok-clause-stops g c = λ least scl sda new.
     let e = c.in_err-feed-in-Ok.field-0.0 in
     let some : 0 < c.in-Ok.count = omega (arith, c.in-Ok.count-test) in
     on_error c.from_residual.result e (λ e. HaltsAtDecoding sink c.args.sink.now least scl sda reader c.args.vcd.now e c.read.new.self c.feed.new.sink) c.from_residual.ensures.1
-    (feed_halts reader c.args.vcd.now sink c.args.sink.now c.args.decoder c.loop.counter c.in-Ok.count c.read.new.buf c.loop.vcd c.read.new.self c.loop.decoder c.loop.sink c.feed.new.sink e on c.loop-test.true c.in-Ok.ensures.call some c.in-Ok.ensures.bound.0 c.in-Ok.ensures.failed least scl sda new (c.in_err-feed-in-Ok.ensures.stops c.args.sink.now least scl sda on.text (on.follows least scl sda new)))
+    (feed_halts reader c.args.vcd.now sink c.args.sink.now c.args.decoder c.loop.counter c.in-Ok.count c.read.new.buf c.loop.vcd c.read.new.self c.loop.decoder c.loop.sink c.feed.new.sink e on c.loop-test.true c.in-Ok.ensures.call some c.in-Ok.ensures.bound.0 c.in-Ok.ensures.failed least scl sda new (c.in_err-feed-in-Ok.ensures.stops c.args.sink.now least scl sda on.text (on.follows least scl sda new).follows))
 
 pub returns-in-Err-clause-stops : goal.returns-in-Err-clause-stops
 returns-in-Err-clause-stops g c = λ least scl sda new.
     reads_halt g.J.Input.reader c.args.vcd.now g.S.TransactionSink.sink c.args.sink.now c.args.decoder c.loop.counter c.loop.vcd c.read.new.self c.loop.decoder c.loop.sink _ c.loop.invariant.reads least scl sda new
-    (λ begun. read_fails c.loop-test.true begun c.in-Err.ensures.call c.in-Err.ensures.failed)
+    (λ begun. read_fails c.loop-test.true begun c.in-Err.ensures.call c.in-Err.ensures.failed) (λ begun. refl)
 
 pub loop-preserved : goal.loop-preserved
 loop-preserved g c =
@@ -55,3 +55,4 @@ returns-clause-stops g c = λ least scl sda new.
     let all : c.loop.counter ≡ 4_294_967_295 = omega (arith, c.loop-test.false, c.loop.auto.counter-end) in
     reads_halt g.J.Input.reader c.args.vcd.now g.S.TransactionSink.sink c.args.sink.now c.args.decoder c.loop.counter c.loop.vcd c.loop.vcd c.loop.decoder c.loop.sink _ on least scl sda new
     (λ begun. meets_no_end (record { given = subst (λ (n : ℕ). HasGiven g.J.Input.reader c.args.vcd.now n on.text c.loop.vcd) all on.reading.read; passes = begun.passes }))
+    (λ begun. refl)

@@ -1,26 +1,31 @@
-use Rattle.std.proofs.Common.{List, ℕ, ◌++◌, Err, ap, sym, subst, refl, ◌∙◌}
+use Rattle.std.proofs.Common.{List, ℕ, ◌++◌, Err, ap, refl, ◌∙◌}
 use Rattle.vcd_read.specs.Probes.{Finder}
-use Rattle.vcd_read.specs.Readers.{reading_of}
 use Rattle.decoding.specs.DecoderViews.{Follows, StopsAt, StopsAtPiece}
 use Rattle.decoding.specs.declared.following.Decoder.{Decoder}
 use Rattle.decoding.proofs.DumpLemmas.{refuses_beginning}
-use Rattle.decoding.proofs.TakingLemmas.{on_ok, if_err, read_on, piece_stops, piece_refused}
+use Rattle.decoding.proofs.TakingLemmas.{on_ok, if_err, read_on, piece_stops, piece_refused, piece_unfound}
+use Rattle.run_parts.specs.declared.errors.RunError.TheVariants as error
+use Rattle.run_parts.proofs.RunLemmas.{on_error}
 use Rattle.decoding.proofs.following.Decoder.feed.Goals as goal
 
-pub returns-in-Err-clause-stops : goal.returns-in-Err-clause-stops
-returns-in-Err-clause-stops g c = λ start least scl sda text f.
+pub returns-in_ok-found-in-Err-clause-stops : goal.returns-in_ok-found-in-Err-clause-stops
+returns-in_ok-found-in-Err-clause-stops g c = λ start least scl sda text f.
     let sink = g.S.TransactionSink.sink in
     let piece = c.args.piece.now in
     let told = c.args.sink.now in
-    let end = c.hand_on-in-Err.new.sink in
-    let mid : Decoder = record { reader = c.take_wrong.new.self; follower = c.args.self.now.follower } in
-    let grown : Decoder = c.hand_on-in-Err.new.self in
-    let r = c.hand_on-in-Err.result in
-    subst (λ e. StopsAtPiece sink start least scl sda text piece e end) (sym c.from.ensures)
-    (piece_refused sink start least scl sda text piece c.args.self.now mid grown (reading_of c.feed.new.self) told end c.in-Err.error r f refl c.take_wrong.ensures (c.in-Err.ensures.fed scl sda text f.cleared f.fed) (λ none. c.in-Err.ensures.memory (ap Err none))
-    (refuses_beginning scl sda (text ++ piece) c.in-Err.error (c.in-Err.ensures.told scl sda text f.cleared f.fed))
-    (on_ok r (λ h t. h start least scl sda t) c.hand_on-in-Err.ensures.handed)
-    (if_err r (λ other. (start : _) (least : ℕ) (scl sda : Finder) (text : List ℕ) → Follows sink start least scl sda text mid told → StopsAt sink start least scl sda text told other end) (λ other. (t : List ℕ) → Follows sink start least scl sda t mid told → StopsAt sink start least scl sda t told other end) (λ other h t. h start least scl sda t) c.hand_on-in-Err.ensures.stops))
+    let end = c.take-taken.new.self in
+    let mid : Decoder = record { reader = c.feed.new.self; follower = c.args.self.now.follower } in
+    let error = c.in-Err.error in
+    piece_refused sink start least scl sda text piece c.args.self.now mid c.follow.new.self c.samples.result.now c.in_ok-found-in-Err.found.items c.as_slice.result.now told end error c.refused_with.result c.take-taken.result f refl (c.in-Err.ensures.fed scl sda text f.cleared f.fed) (λ none. c.in-Err.ensures.memory (ap Err none))
+    (refuses_beginning scl sda (text ++ piece) error (c.in-Err.ensures.told scl sda text f.cleared f.fed))
+    c.samples.ensures.samples c.as_slice.ensures.value c.in_ok-found-in-Err.ensures.found c.in_ok-found-in-Err.ensures.handed_out c.take-taken.ensures.taken c.take-taken.ensures.stops
+    c.refused_with.ensures.memory (λ n. c.refused_with.ensures.refusal n ∙ c.from.ensures)
+
+pub returns-in_err-found-in-Err-clause-stops : goal.returns-in_err-found-in-Err-clause-stops
+returns-in_err-found-in-Err-clause-stops g c =
+    let sink = g.S.TransactionSink.sink in
+    on_error c.from_residual.result error.NoMemory (λ e. (start : _) (least : ℕ) (scl sda : Finder) (text : List ℕ) → Follows sink start least scl sda text c.args.self.now c.args.sink.now → StopsAtPiece sink start least scl sda text c.args.piece.now e c.args.sink.now) c.from_residual.ensures.1
+    (λ start least scl sda text f. piece_unfound sink start least scl sda text c.args.piece.now c.args.self.now c.args.sink.now f)
 
 pub returns-in-Ok-clause-stops : goal.returns-in-Ok-clause-stops
 returns-in-Ok-clause-stops g c =

@@ -21,4 +21,4 @@ returns-in_err-take-clause-stops g c =
 
 pub returns-clause-handed : goal.returns-clause-handed
 returns-clause-handed g c = λ start least scl sda text f.
-    goes_on g.S.TransactionSink.sink start least scl sda text c.args.self.now (record { reader = c.clear_samples.new.self; follower = c.follow.new.self }) c.samples.result.now c.in_ok-found.found.items c.as_slice.result.now c.args.sink.now c.take.new.self f (c.clear_samples.ensures scl sda text f.cleared f.fed) c.samples.ensures.samples c.as_slice.ensures.value c.in_ok-found.ensures.found c.in_ok-take.ensures.taken
+    goes_on g.S.TransactionSink.sink start least scl sda text c.args.self.now (record { reader = c.clear_samples.new.self; follower = c.follow.new.self }) c.samples.result.now c.in_ok-found.found.items c.as_slice.result.now c.args.sink.now c.take.new.self f (c.clear_samples.ensures scl sda text f.cleared f.fed) c.samples.ensures.samples c.as_slice.ensures.value c.in_ok-found.ensures.found (c.in_ok-found.ensures.handed_out f.out) c.in_ok-take.ensures.taken

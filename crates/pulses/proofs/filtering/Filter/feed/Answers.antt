@@ -12,4 +12,5 @@ loop-sample-preserved c = (
       (sym (drop-cons c.args.samples.now c.loop-sample.sample-index _ c.loop-sample-test.true))
       ∙ c.loop-sample.invariant.0 more))),
   c.in_ok-next.ensures.least ∙ c.loop-sample.invariant.1,
+  (λ before. c.in_ok-next.ensures.gone_on (c.loop-sample.invariant.2 before)),
 )
