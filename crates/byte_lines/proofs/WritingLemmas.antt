@@ -137,10 +137,10 @@ module _ {O : Type 0} (writer : Writer O) where
       abbrev Halts : RunError → E → O → Type 0
       Halts error now end = HaltsDecoded least scl sda second writer before start.out.now start.live error now end
 
-      first_lines : (text : List ℕ) (ts : List Recorded) → BeginsWith least scl sda text ts → FirstLines least scl sda text (decode_lines ts)
+      abbrev first_lines : (text : List ℕ) (ts : List Recorded) → BeginsWith least scl sda text ts → FirstLines least scl sda text (decode_lines ts)
       first_lines text ts ended = record { transactions = ts; ended = ended; same = refl }
 
-      told_first : (text : List ℕ) (ts : List Recorded) (now : ByteWriting O) → BeginsWith least scl sda text ts → (w : HasWritten start ts now) → FirstLines least scl sda text (decode_lines w.told)
+      abbrev told_first : (text : List ℕ) (ts : List Recorded) (now : ByteWriting O) → BeginsWith least scl sda text ts → (w : HasWritten start ts now) → FirstLines least scl sda text (decode_lines w.told)
       told_first text ts now begins w =
           first_lines text w.told (first_begin least scl sda text w.told w.kept (subst (λ (us : List Recorded). BeginsWith least scl sda text us) w.split begins))
 
