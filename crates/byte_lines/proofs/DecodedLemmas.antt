@@ -1,5 +1,5 @@
 -- What the lines say, once they were told of the transactions of a dump.
-use Rattle.std.proofs.Common.{◌≡◌, ℕ, ◌+◌, ◌<◌, List, [], ◌∷◌, ◌++◌, string_bytes, map, take, length, get_or, refl, ap, sym, ◌∙◌, subst, arith, append_assoc, append-nil, cond}
+use Rattle.std.proofs.Common.{◌≡◌, ℕ, ◌+◌, ◌<◌, List, [], ◌∷◌, ◌++◌, string_bytes, map, take, length, length-append, get_or, refl, ap, sym, ◌∙◌, subst, arith, append_assoc, append-nil, cond}
 use Rattle.std.proofs.lemmas.List.{map_more}
 use Rattle.std.proofs.lemmas.List.Sums.{sum_by-append}
 use Rattle.byte_lines.specs.Decoded.{DecodeOf}
@@ -16,16 +16,16 @@ use Rattle.run_parts.specs.declared.errors.RunError.{RunError}
 use Rattle.run_parts.specs.declared.errors.RunError.TheVariants as error
 use Rattle.vcd_read.specs.Probes.{Finder}
 
-decode_lines-append : (ts us : List Recorded) → decode_lines (ts ++ us) ≡ decode_lines ts ++ decode_lines us
+pub decode_lines-append : (ts us : List Recorded) → decode_lines (ts ++ us) ≡ decode_lines ts ++ decode_lines us
 decode_lines-append [] us = refl
 decode_lines-append (t ∷ ts) us =
     ap (λ lines. decode_line t ++ lines) (decode_lines-append ts us) ∙ sym (append_assoc (decode_line t) (decode_lines ts) (decode_lines us))
 
-stopped-append : (ts us : List Recorded) → stopped (ts ++ us) ≡ stopped ts + stopped us
+pub stopped-append : (ts us : List Recorded) → stopped (ts ++ us) ≡ stopped ts + stopped us
 stopped-append ts us = sum_by-append (λ t. cond (is_stop t.until) 1 0) ts us
 
 pub tells_none : (a : ByteTelling) → TellsMore a [] a
-tells_none a = record { lines = sym (append-nil (string_bytes a.lines)); stopped = omega arith }
+tells_none a = record { lines = sym (append-nil (string_bytes a.lines)); transactions = omega arith; stopped = omega arith }
 
 pub tells_then : (a b c : ByteTelling) (ts us : List Recorded) → TellsMore a ts b → TellsMore b us c → TellsMore a (ts ++ us) c
 tells_then a b c ts us first second = record {
@@ -33,6 +33,7 @@ tells_then a b c ts us first second = record {
       ∙ (ap (λ text. text ++ decode_lines us) first.lines
       ∙ (append_assoc (string_bytes a.lines) (decode_lines ts) (decode_lines us)
       ∙ ap (λ text. string_bytes a.lines ++ text) (sym (decode_lines-append ts us))));
+  transactions = omega (arith, first.transactions, second.transactions, length-append ts us);
   stopped = second.stopped
       ∙ (ap (λ n. n + stopped us) first.stopped
       ∙ (let e = stopped-append ts us in omega (arith, e)));

@@ -3,3 +3,4 @@ pub mod Lines
 pub mod Views
 pub mod Decoded
 pub mod Writing
+pub mod DecodedRuns

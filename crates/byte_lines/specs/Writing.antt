@@ -1,5 +1,5 @@
--- What lines that are written as they come stand for.
-use Rattle.std.specs.Prelude.{◌≡◌, ◌⊎◌, ◌+◌, true, List, [], ℕ, ◌++◌, string_bytes}
+-- What lines that are written as they come stand for. Only private contracts and proofs use this.
+use Rattle.std.specs.Prelude.{◌≡◌, ◌⊎◌, ◌+◌, false, List, [], ℕ, ◌++◌, length, string_bytes}
 use Rattle.byte_lines.specs.Lines.{decode_lines, stopped}
 use Rattle.byte_lines.specs.declared.writing.ByteWriting.{ByteWriting}
 use Rattle.capture_check.specs.Transactions.{Recorded}
@@ -14,15 +14,24 @@ abbrev pub lines_with : {O : Type 0} → ByteWriting O → List Recorded → Lis
 lines_with before ts = string_bytes before.telling.lines ++ decode_lines ts
 
 module _ {O : Type 0} (writer : Writer O) (before : ByteWriting O) (ts : List Recorded) where
-  -- these lines were written at once, or the first of them or none were and the others are kept; live, none is kept
-  pub record WritesSome (after : ByteWriting O) : Type 0 where
+  -- nothing was written, and all these lines are kept, which is not so where it is live
+  pub record KeepsLines (after : ByteWriting O) : Type 0 where
+    pub blocks : before.live ≡ false
+    pub same : after.out.now ≡ before.out.now
+    pub lines : string_bytes after.telling.lines ≡ lines_with before ts
+
+  -- all these lines were written, and none is kept
+  pub record WritesLines (after : ByteWriting O) : Type 0 where
+    pub written : WritesAll writer before.out.now (lines_with before ts) after.out.now
+    pub lines : string_bytes after.telling.lines ≡ []
+
+  -- these lines are kept, or they were written, and the transactions were counted
+  pub record TakesLines (after : ByteWriting O) : Type 0 where
     pub same_writer : after.out.ghost_name ≡ before.out.ghost_name
-    pub part : List ℕ
-    pub split : lines_with before ts ≡ part ++ string_bytes after.telling.lines
-    pub written : WritesAll writer before.out.now part after.out.now
-    pub stopped : after.telling.stopped ≡ before.telling.stopped + stopped ts
     pub live : after.live ≡ before.live
-    pub none_kept : before.live ≡ true → string_bytes after.telling.lines ≡ []
+    pub lines : KeepsLines after ⊎ WritesLines after
+    pub transactions : after.telling.transactions ≡ before.telling.transactions + length ts
+    pub stopped : after.telling.stopped ≡ before.telling.stopped + stopped ts
 
   -- the writer failed at these lines
   pub record FailsAtLines (error : RunError) (after : ByteWriting O) : Type 0 where
@@ -38,6 +47,6 @@ module _ {O : Type 0} (writer : Writer O) (before : ByteWriting O) (ts : List Re
 -- a call adds the lines of its transactions to those that are kept, and writes all of these or none
 abbrev pub writing_sink : {O : Type 0} → Writer O → Sink (ByteWriting O)
 writing_sink writer = record {
-  takes = λ before ts after. WritesSome writer before ts after;
+  takes = λ before ts after. TakesLines writer before ts after;
   stops = λ before ts error after. NoRoom writer before ts error after ⊎ FailsAtLines writer before ts error after;
 }

@@ -1,14 +1,16 @@
-// The report of a dump.
+// The report of a dump, as a text and as it is written.
 
 ghost use Rattle.std.specs.Prelude.{ℕ, List, string_bytes, IfOk, IfErr};
 ghost use Rattle.byte_lines.specs.Decoded.{DecodeOf};
+ghost use Rattle.byte_lines.specs.DecodedRuns.{HaltsDecoded, TellsDecoded};
 ghost use Rattle.decoding.specs.Dumps.{HaltsAtDump};
 ghost use Rattle.run_parts.specs.Runs.{ReadsText};
 ghost use Rattle.vcd_read.specs.Views.{asked};
 
 use crate::telling::{ByteReport, ByteTelling};
+use crate::writing::{ByteCounts, ByteWriting, write_last};
 use decoding::decode;
-use run_parts::{Input, RunError};
+use run_parts::{Input, Output, RunError};
 use std::alloc::Global;
 use vcd_read::{Probe, Wrong};
 
@@ -37,4 +39,45 @@ pub fn decoded_report<J: Input>(
     decode(alloc, vcd, scl, sda, least, &mut telling, wrong)?;
     let report = telling.finish()?;
     Ok(report)
+}
+
+/// Writes the same report while it reads the dump, in blocks, or live: then the lines of what has ended in a block of the dump
+/// are written before the next block is read. Of a block in which the dump is refused these are the lines of all that ended
+/// before, and `wrong` then has what is wrong there, as far as there was memory for it.
+///
+/// # Errors
+///
+/// `Read` where the reader failed or gave no end, `Vcd` with the first refusal of the dump, `Write` where the writer failed
+/// or took no bytes, and `NoMemory` where an allocation fails. Where a refused dump meets a writer that fails, it is `Vcd`.
+/// What was written by then stays.
+pub fn write_decoded<J: Input, O: Output>(
+    alloc: Global,
+    vcd: &mut J,
+    out: &mut O,
+    scl: Probe<'_>,
+    sda: Probe<'_>,
+    least: u64,
+    live: bool,
+    wrong: &mut Option<Wrong>,
+) -> Result<ByteCounts, RunError>
+    ensures report { IfOk result (λ it.
+        TellsDecoded least (asked scl.entry) (asked sda.entry) J.reader O.writer vcd.old out.old it vcd.new out.new) }
+    ensures stops { IfErr result (λ error.
+        HaltsDecoded least (asked scl.entry) (asked sda.entry) J.reader O.writer vcd.old out.old live error vcd.new out.new) }
+{
+    let mut lines = ByteWriting {
+        out,
+        telling: ByteTelling::new(alloc),
+        live,
+    };
+    let ended = decode(alloc, vcd, scl, sda, least, &mut lines, wrong);
+    let ByteWriting {
+        out,
+        telling,
+        live: _,
+    } = lines;
+    match ended {
+        Ok(ending) => write_last(out, telling, ending.rises),
+        Err(error) => Err(error),
+    }
 }

@@ -37,6 +37,7 @@ impl ByteTelling {
     /// No transaction yet.
     pub fn new(alloc: Global) -> ByteTelling
         ensures lines { string_bytes result.lines ≡ [] }
+        ensures transactions { result.transactions ≡ 0 }
         ensures stopped { result.stopped ≡ 0 }
     {
         ByteTelling {
@@ -52,7 +53,7 @@ impl ByteTelling {
         ensures { OnOk result (TellsMore self.old (recorded transaction.now ∷ []) self.new) }
     {
         push_transaction(self.alloc, &mut self.lines, transaction)?;
-        self.transactions = self.transactions.saturating_add(1);
+        self.transactions = one_more(self.transactions)?;
         if let Until::Stopped(_) = transaction.until {
             self.stopped = one_more(self.stopped)?;
         }
@@ -66,6 +67,7 @@ impl ByteTelling {
     /// Where an allocation fails.
     pub fn finish(self) -> Result<ByteReport, AllocError>
         ensures report { IfOk result (λ it. string_bytes it.report ≡ string_bytes self.lines ++ count_line self.stopped) }
+        ensures transactions { IfOk result (λ it. it.transactions ≡ self.transactions) }
         ensures stopped { IfOk result (λ it. it.stopped ≡ self.stopped) }
     {
         let ByteTelling {

@@ -1,11 +1,14 @@
 // The sink that writes lines as they come.
 
-use crate::lines::push_count;
-use crate::telling::ByteTelling;
-use capture_check::Transaction;
+ghost use Rattle.std.specs.Prelude.{◌≡◌, ◌⊎◌, ◌++◌, IfOk, OnOk, IfErr, string_bytes};
+ghost use Rattle.byte_lines.specs.Lines.{count_line};
+ghost use Rattle.run_parts.specs.Writing.{WritesAll, WritingStops};
+ghost use Rattle.run_parts.specs.declared.errors.RunError.TheVariants.{NoMemory};
+
+use crate::telling::{ByteReport, ByteTelling};
+use capture_check::{Rises, Transaction};
 use decoding::TransactionSink;
 use run_parts::{Output, RunError, write_report};
-use std::alloc::Global;
 
 // How many bytes are kept before they are written.
 const BLOCK: usize = 65_536;
@@ -17,11 +20,14 @@ pub struct ByteCounts {
     pub transactions: u64,
     /// How many of them a STOP ended.
     pub stopped: u64,
+    /// How often SCL has risen.
+    pub rises: Rises,
 }
 
-/// Writes the lines of transactions as they come, and counts them.
+/// Writes the lines of transactions as they come, and counts them. Where it is live, the lines of all that has ended are written
+/// before the dump is read on, and else in blocks.
 #[derive(Drop)]
-pub struct ByteWriting<'a, O> {
+pub(crate) struct ByteWriting<'a, O> {
     pub(crate) out: &'a mut O,
     // the lines that have not been written, and the counts
     pub(crate) telling: ByteTelling,
@@ -29,23 +35,9 @@ pub struct ByteWriting<'a, O> {
     pub(crate) live: bool,
 }
 
-impl<'a, O: Output> ByteWriting<'a, O> {
-    ghost use Rattle.std.specs.Prelude.{◌≡◌, ◌⊎◌, [], ◌++◌, OnOk, IfErr, string_bytes};
-    ghost use Rattle.byte_lines.specs.Lines.{count_line};
+impl<O: Output> ByteWriting<'_, O> {
+    ghost use Rattle.std.specs.Prelude.{◌≡◌, [], OnOk, IfErr, string_bytes};
     ghost use Rattle.run_parts.specs.Writing.{WritesAll, WritingStops};
-
-    /// Nothing has been written. Where it is live, the lines of all that has ended are written before the dump is read on,
-    /// and else in blocks.
-    pub fn new(alloc: Global, live: bool, out: &'a mut O) -> ByteWriting<'a, O>
-        ensures lines { string_bytes result.telling.lines ≡ [] }
-        ensures stopped { result.telling.stopped ≡ 0 }
-    {
-        ByteWriting {
-            out,
-            telling: ByteTelling::new(alloc),
-            live,
-        }
-    }
 
     // Writes the lines that are kept.
     fn write(&mut self) -> Result<(), RunError>
@@ -53,6 +45,7 @@ impl<'a, O: Output> ByteWriting<'a, O> {
         ensures written { OnOk result (
             WritesAll O.writer self.old.out.now (string_bytes self.old.telling.lines) self.new.out.now) }
         ensures lines { OnOk result (string_bytes self.new.telling.lines ≡ []) }
+        ensures transactions { self.new.telling.transactions ≡ self.old.telling.transactions }
         ensures stopped { self.new.telling.stopped ≡ self.old.telling.stopped }
         ensures live { self.new.live ≡ self.old.live }
         ensures stops { IfErr result (λ error.
@@ -62,22 +55,46 @@ impl<'a, O: Output> ByteWriting<'a, O> {
         self.telling.lines.clear();
         Ok(())
     }
+}
 
-    /// Writes the lines that are left, and answers what all of them tell.
-    ///
-    /// # Errors
-    ///
-    /// `Write` where the writer failed or took no bytes, and `NoMemory` where an allocation fails.
-    pub fn finish(&mut self) -> Result<ByteCounts, RunError>
-        ensures written { OnOk result (WritesAll O.writer self.old.out.now
-            (string_bytes self.old.telling.lines ++ count_line self.old.telling.stopped) self.new.out.now) }
-    {
-        push_count(&mut self.telling.lines, self.telling.stopped)?;
-        self.write()?;
-        Ok(ByteCounts {
-            transactions: self.telling.transactions,
-            stopped: self.telling.stopped,
-        })
+/// Writes the lines that are left and the one that counts, and answers what all of them tell.
+pub(crate) fn write_last<O: Output>(
+    out: &mut O,
+    telling: ByteTelling,
+    rises: Rises,
+) -> Result<ByteCounts, RunError>
+    ensures written { OnOk result (WritesAll O.writer out.old
+        (string_bytes telling.lines ++ count_line telling.stopped) out.new) }
+    ensures transactions { IfOk result (λ it. it.transactions ≡ telling.transactions) }
+    ensures stopped { IfOk result (λ it. it.stopped ≡ telling.stopped) }
+    ensures stops { IfErr result (λ error. ((error ≡ NoMemory) × (out.new ≡ out.old))
+        ⊎ WritingStops O.writer out.old (string_bytes telling.lines ++ count_line telling.stopped) error out.new) }
+{
+    match telling.finish() {
+        Ok(report) => write_counted(out, &report, rises),
+        Err(error) => Err(RunError::from(error)),
+    }
+}
+
+// Writes this report.
+fn write_counted<O: Output>(
+    out: &mut O,
+    report: &ByteReport,
+    rises: Rises,
+) -> Result<ByteCounts, RunError>
+    ensures written { OnOk result (WritesAll O.writer out.old (string_bytes report.now.report) out.new) }
+    ensures transactions { IfOk result (λ it. it.transactions ≡ report.now.transactions) }
+    ensures stopped { IfOk result (λ it. it.stopped ≡ report.now.stopped) }
+    ensures stops { IfErr result (λ error.
+        WritingStops O.writer out.old (string_bytes report.now.report) error out.new) }
+{
+    match write_report(out, report.report.as_bytes()) {
+        Ok(()) => Ok(ByteCounts {
+            transactions: report.transactions,
+            stopped: report.stopped,
+            rises,
+        }),
+        Err(error) => Err(error),
     }
 }
 

@@ -3,3 +3,4 @@ pub mod Explaining
 pub mod Dumps
 pub mod Decoding
 pub mod DecoderViews
+pub mod Parts

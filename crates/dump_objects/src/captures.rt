@@ -44,6 +44,9 @@ impl<O> Drop for CaptureObjects<'_, '_, O> {
 }
 
 impl<'a, 'w, O: Output> CaptureObjects<'a, 'w, O> {
+    ghost use Rattle.std.specs.Prelude.{◌≡◌, IfOk};
+    ghost use Rattle.transaction_lines.specs.Statuses.{departed_in};
+
     /// Nothing has been written of a capture that is explained by the plan of these words.
     ///
     /// # Errors
@@ -129,7 +132,10 @@ impl<'a, 'w, O: Output> CaptureObjects<'a, 'w, O> {
     /// # Errors
     ///
     /// `Write` where the writer failed or took no bytes, and `NoMemory`.
-    pub fn finish(self, ending: Ending) -> Result<Selection, RunError> {
+    pub fn finish(self, ending: Ending) -> Result<Selection, RunError>
+        ensures seen { IfOk result (λ it. it.seen ≡ self.entry.selection.seen) }
+        ensures departed { IfOk result (λ it. it.departed ≡ departed_in self.entry.selection.departed self.entry.judging) }
+    {
         let is_wanted = self.layout.explain;
         self.end(if is_wanted { Some(ending) } else { None })
     }
@@ -139,7 +145,10 @@ impl<'a, 'w, O: Output> CaptureObjects<'a, 'w, O> {
     /// # Errors
     ///
     /// Those of `finish`, and this one where it has not stopped.
-    pub fn stop(self, error: RunError) -> Result<Selection, RunError> {
+    pub fn stop(self, error: RunError) -> Result<Selection, RunError>
+        ensures seen { IfOk result (λ it. it.seen ≡ self.entry.selection.seen) }
+        ensures departed { IfOk result (λ it. it.departed ≡ departed_in self.entry.selection.departed self.entry.judging) }
+    {
         if self.has_stopped {
             self.end(None)
         } else {
@@ -147,7 +156,10 @@ impl<'a, 'w, O: Output> CaptureObjects<'a, 'w, O> {
         }
     }
 
-    fn end(mut self, ending: Option<Ending>) -> Result<Selection, RunError> {
+    fn end(mut self, ending: Option<Ending>) -> Result<Selection, RunError>
+        ensures seen { IfOk result (λ it. it.seen ≡ self.entry.selection.seen) }
+        ensures departed { IfOk result (λ it. it.departed ≡ departed_in self.entry.selection.departed self.entry.judging) }
+    {
         self.push_last(ending);
         let Self {
             written,
@@ -162,7 +174,10 @@ impl<'a, 'w, O: Output> CaptureObjects<'a, 'w, O> {
         written.finish(selection)
     }
 
-    fn push_last(&mut self, ending: Option<Ending>) {
+    fn push_last(&mut self, ending: Option<Ending>)
+        ensures seen { self.new.selection.seen ≡ self.old.selection.seen }
+        ensures departed { self.new.selection.departed ≡ departed_in self.old.selection.departed self.old.judging }
+    {
         let lines = &mut self.written.lines;
         if let Some(tallies) = &self.tallies {
             push_tallies(lines, self.words, tallies, &self.labels);

@@ -20,6 +20,8 @@ pub struct DecodeObjects<'a, O> {
 }
 
 impl<'a, O: Output> DecodeObjects<'a, O> {
+    ghost use Rattle.std.specs.Prelude.{◌≡◌, IfOk};
+
     /// Nothing has been written. Where it is live, all that has ended is written before the dump is read on.
     ///
     /// # Errors
@@ -58,7 +60,9 @@ impl<'a, O: Output> DecodeObjects<'a, O> {
     /// # Errors
     ///
     /// `Write` where the writer failed or took no bytes, and `NoMemory`.
-    pub fn finish(mut self) -> Result<Selection, RunError> {
+    pub fn finish(mut self) -> Result<Selection, RunError>
+        ensures { IfOk result (λ it. it ≡ self.entry.selection) }
+    {
         self.push_last();
         let DecodeObjects {
             written,
@@ -68,7 +72,9 @@ impl<'a, O: Output> DecodeObjects<'a, O> {
         written.finish(selection)
     }
 
-    fn push_last(&mut self) {
+    fn push_last(&mut self)
+        ensures { self.new.selection ≡ self.old.selection }
+    {
         let lines = &mut self.written.lines;
         if let Some(addresses) = &self.addresses {
             push_addresses(lines, addresses);

@@ -15,6 +15,8 @@ pub(crate) struct Written<'a, O> {
 }
 
 impl<'a, O: Output> Written<'a, O> {
+    ghost use Rattle.std.specs.Prelude.{◌≡◌, IfOk};
+
     /// Nothing yet.
     pub(crate) fn new(alloc: Global, live: bool, out: &'a mut O) -> Written<'a, O> {
         Written {
@@ -42,7 +44,9 @@ impl<'a, O: Output> Written<'a, O> {
     /// # Errors
     ///
     /// Those of `pause`.
-    pub(crate) fn finish(self, selection: Selection) -> Result<Selection, RunError> {
+    pub(crate) fn finish(self, selection: Selection) -> Result<Selection, RunError>
+        ensures { IfOk result (λ it. it ≡ selection) }
+    {
         let Written { lines, out, .. } = self;
         lines.write_rest(out)?;
         Ok(selection)

@@ -1,12 +1,16 @@
 // Runs over the dump of a recorded bus: each hands what the dump shows to the form that is wanted.
 
 ghost use Rattle.std.specs.Prelude.{◌≡◌, IfOk, OnOk, string_bytes};
+ghost use Rattle.byte_lines.specs.DecodedRuns.{TellsDecoded};
+ghost use Rattle.byte_lines.specs.declared.writing.ByteCounts.{ByteCounts};
+ghost use Rattle.dump_runs.specs.Statuses.{EndsJudged, IsJudged};
 ghost use Rattle.given_runs.specs.Due.{CapturedPlan};
 ghost use Rattle.given_runs.specs.Inputs.{DueForBoth, ReadsTextsAndOne};
 ghost use Rattle.lessons.specs.Lessons.{Teaches};
 ghost use Rattle.lessons.specs.declared.checking.Learned.{Learned};
 ghost use Rattle.run_parts.specs.Runs.{Reports};
 ghost use Rattle.run_parts.specs.Writing.{WritesAll};
+ghost use Rattle.run_parts.specs.declared.runs.Status.TheVariants.{Good};
 ghost use Rattle.vcd_read.specs.Views.{asked};
 
 use crate::driven::{
@@ -14,7 +18,7 @@ use crate::driven::{
     refuse_unknown,
 };
 use bus_rows::Paint;
-use byte_lines::{ByteCounts, ByteWriting};
+use byte_lines::{ByteCounts, write_decoded};
 use capture_check::Rises;
 use decoding::Explaining;
 use drives::Driving;
@@ -26,17 +30,17 @@ use hints::Hints;
 use lessons::{BriefBefore, Learned, Likeness, Sights, brief_of};
 use plan_core::Plan;
 use plan_words::PlanWords;
-use report::{CaptureReport, Telling};
+use report::{CaptureCounts, CaptureReport, live_capture, write_capture};
 use run_ends::{
     Canvas, Ended, Halt, Recorded, Remark, Sources, Style, halted, open_dump, write_wave,
 };
-use run_parts::{Input, Output, RunError, Status, write_lines};
-use signals::{Dump, Listed, Recorder, SignalDump, needs_picking};
+use run_parts::{Input, Output, RunError, Status, Watched, write_lines};
+use signals::{Dump, Listed, OpenDump, Recorder, SignalDump, Tapped, reads_ahead};
 use std::alloc::Global;
 use std::rt::Files;
 use std::thread::Threads;
 use std::time::Clock;
-use transaction_lines::{CaptureLines, DecodeLines, Layout, Seen, Selection};
+use transaction_lines::{CaptureLines, DecodeLines, Layout, Seen, Selection, status_of_seen};
 use vcd_read::{Probe, Wrong};
 use waves::wave_of_recording;
 
@@ -66,17 +70,6 @@ impl Capture<'_> {
         self.bus.view.is_whole() && !self.explain && !self.stops && self.drives.is_empty()
     }
 
-    // Whether the definitions of the dump have to be known first.
-    fn reads_ahead(self) -> bool {
-        let BusLines {
-            scl,
-            sda,
-            scope,
-            ..
-        } = self.bus.lines;
-        self.bus.needs_scale() || needs_picking(scl, sda, scope)
-    }
-
     /// How its lines are written.
     pub fn layout(self, paint: Paint) -> Layout {
         Layout {
@@ -101,8 +94,11 @@ pub fn explain_capture<R: AllocGlobal + Threads + Sync, I: Input, J: Input, O: O
     style: Style,
 ) -> Result<Ended, Halt> {
     let is_exact = capture.is_exact() && matches!(style, Style::Lines(Paint::Plain));
-    if !is_exact || capture.reads_ahead() {
+    if !is_exact {
         return capture_in_form(rt, plans, vcd, out, capture, style);
+    }
+    if reads_ahead(capture.bus) {
+        return capture_ahead(rt, plans, vcd, out, capture.bus, capture.live);
     }
     let BusLines {
         scl,
@@ -181,21 +177,83 @@ fn capture_live<R: AllocGlobal + Threads + Sync, I: Input, J: Input, O: Output>(
     let readers = plans.readers.as_mut_slice();
     match live_given(rt, alloc, readers, vcd, out, scl, sda, least, &mut wrong) {
         Ok(GivenLive { counts, .. }) => {
-            let seen = Seen {
-                transactions: counts.transactions,
-                stopped: counts.stopped,
-                unexplained: counts.unexplained,
-            };
+            let seen = Recorded::Bus(window, seen_live(counts));
             Ok(Ended {
                 status: counts.status,
-                remark: Remark::recording(alloc, Recorded::Bus(window, seen), counts.rises),
+                remark: Remark::recording(alloc, seen, counts.rises),
             })
         }
         Err(halted) => Err(halt_at(plans, halted, wrong)),
     }
 }
 
-// The report in another form, or by definitions that are read ahead.
+fn seen_live(counts: CaptureCounts) -> Seen {
+    Seen {
+        transactions: counts.transactions,
+        stopped: counts.stopped,
+        unexplained: counts.unexplained,
+    }
+}
+
+// The exact report by definitions that are read ahead.
+fn capture_ahead<R: AllocGlobal + Threads + Sync, I: Input, J: Input, O: Output>(
+    rt: &R,
+    plans: &mut Sources<'_, I>,
+    vcd: &mut J,
+    out: &mut O,
+    bus: Bus<'_>,
+    live: bool,
+) -> Result<Ended, Halt> {
+    let alloc = rt.alloc();
+    let GivenPlan { plan, .. } = plans.find(alloc)?;
+    let mut dump = open_dump(alloc, vcd, bus)?;
+    match capture_picked(rt, &plan, dump.parts(), out, live) {
+        Ok(told) => Ok(Ended {
+            status: told.status,
+            remark: Remark::recording(alloc, Recorded::Bus(bus.view.window, told.seen), told.rises),
+        }),
+        Err(error) => Err(halted(dump, error)),
+    }
+}
+
+// The same by the runs of `report`, over what gives the dump from its beginning on, with the lines that were found there.
+fn capture_picked<R: AllocGlobal + Threads + Sync, J: Input, O: Output>(
+    rt: &R,
+    plan: &Plan,
+    dump: OpenDump<'_, '_, J>,
+    out: &mut O,
+    live: bool,
+) -> Result<Told, RunError> {
+    let alloc = rt.alloc();
+    let OpenDump {
+        vcd,
+        scl,
+        sda,
+        least,
+        wrong,
+    } = dump;
+    if live {
+        match live_capture(rt, alloc, plan, vcd, out, scl, sda, least, wrong) {
+            Ok(counts) => Ok(Told {
+                status: counts.status,
+                seen: seen_live(counts),
+                rises: counts.rises,
+            }),
+            Err(error) => Err(error),
+        }
+    } else {
+        match write_capture(rt, alloc, plan, vcd, out, scl, sda, least, wrong) {
+            Ok(captured) => Ok(Told {
+                status: captured.status,
+                seen: seen_in(&captured),
+                rises: captured.rises,
+            }),
+            Err(error) => Err(error),
+        }
+    }
+}
+
+// The report in another form.
 fn capture_in_form<R: AllocGlobal + Threads + Sync, I: Input, J: Input, O: Output>(
     rt: &R,
     plans: &mut Sources<'_, I>,
@@ -203,7 +261,9 @@ fn capture_in_form<R: AllocGlobal + Threads + Sync, I: Input, J: Input, O: Outpu
     out: &mut O,
     capture: Capture<'_>,
     style: Style,
-) -> Result<Ended, Halt> {
+) -> Result<Ended, Halt>
+    ensures status { IfOk result (λ it. EndsJudged capture.entry.bus.view.at_least it) }
+{
     let GivenPlan { plan, provenance } = plans.find(rt.alloc())?;
     let words = plans.words(&plan, &provenance);
     refuse_unknown(rt.alloc(), words, capture.drives)?;
@@ -222,7 +282,7 @@ fn capture_in_form<R: AllocGlobal + Threads + Sync, I: Input, J: Input, O: Outpu
     }
 }
 
-// The capture of a dump whose definitions were read ahead, and what to say of the lines of controllers.
+// The capture of a dump that is open, and what to say of the lines of controllers.
 fn capture_open<R: AllocGlobal + Threads + Sync, J: Input, O: Output>(
     rt: &R,
     words: PlanWords<'_>,
@@ -230,57 +290,13 @@ fn capture_open<R: AllocGlobal + Threads + Sync, J: Input, O: Output>(
     out: &mut O,
     capture: Capture<'_>,
     style: Style,
-) -> Result<(Result<Told, RunError>, Hints), Halt> {
+) -> Result<(Result<Told, RunError>, Hints), Halt>
+    ensures status { IfOk result (λ it. IfOk it.0 (λ told. IsJudged capture.entry.bus.view.at_least told)) }
+{
     let driving = driving_of(rt.alloc(), &*dump, capture.drives)?;
-    let is_exact = capture.is_exact() && matches!(style, Style::Lines(Paint::Plain));
-    let told = if is_exact && !capture.live {
-        exact_dump(rt, words.plan(), dump, out)
-    } else {
-        capture_dump(rt, words, dump, out, capture, style, driving.as_ref())
-    };
+    let told = capture_dump(rt, words, dump, out, capture, style, driving.as_ref());
     let hints = refuse_others(rt.alloc(), driving.as_ref())?;
     Ok((told, hints))
-}
-
-// The exact report of a dump whose definitions were read ahead.
-fn exact_dump<R: AllocGlobal + Threads + Sync, J: Input, O: Output>(
-    rt: &R,
-    plan: &Plan,
-    dump: &mut Dump<'_, '_, J>,
-    out: &mut O,
-) -> Result<Told, RunError> {
-    let alloc = rt.alloc();
-    let mut explaining = Explaining {
-        rt,
-        alloc,
-        plan,
-        sink: Telling::new(alloc),
-    };
-    let ending = dump.decode(alloc, &mut explaining)?;
-    let Explaining { sink, .. } = explaining;
-    write_exactly(sink, ending.rises, out)
-}
-
-fn write_exactly<O: Output>(telling: Telling, rises: Rises, out: &mut O) -> Result<Told, RunError> {
-    let CaptureReport {
-        report,
-        status,
-        transactions,
-        stopped,
-        unexplained,
-        ..
-    } = telling.finish()?;
-    write_lines(out, report.as_bytes(), status)?;
-    let seen = Seen {
-        transactions,
-        stopped,
-        unexplained,
-    };
-    Ok(Told {
-        status,
-        seen,
-        rises,
-    })
 }
 
 // The report in another form.
@@ -292,14 +308,17 @@ fn capture_dump<R: AllocGlobal + Threads + Sync, J: Input, O: Output>(
     capture: Capture<'_>,
     style: Style,
     driving: Option<&Driving<'_>>,
-) -> Result<Told, RunError> {
+) -> Result<Told, RunError>
+    ensures status { IfOk result (λ it. IsJudged capture.entry.bus.view.at_least it) }
+{
     let (selection, rises) = match style {
         Style::Objects => capture_objects(rt, words, dump, out, capture, driving)?,
         Style::Lines(paint) => capture_lines(rt, words, dump, out, capture, paint, driving)?,
     };
+    let Selection { seen, departed, .. } = selection;
     Ok(Told {
-        status: selection.status(),
-        seen: selection.seen,
+        status: status_of_seen(capture.bus.view.at_least, seen, departed),
+        seen,
         rises,
     })
 }
@@ -370,6 +389,69 @@ pub fn decode<R: Files + Print + Eprint + Clock + AllocGlobal, J: Input, O: Outp
     style: Style,
     canvas: Option<Canvas<'_, '_>>,
 ) -> Result<Ended, Halt> {
+    let is_exact = bus.view.is_whole() && matches!(style, Style::Lines(_));
+    if !is_exact || canvas.is_some() || reads_ahead(bus) {
+        return decode_in_form(rt, vcd, out, bus, live, style, canvas);
+    }
+    let BusLines {
+        scl,
+        sda,
+        min_pulse,
+        ..
+    } = bus.lines;
+    let least = Quiet::of(min_pulse, None).least;
+    decode_exactly(rt.alloc(), vcd, out, scl, sda, least, live, bus.view.window)
+}
+
+// The exact report, by the run of `byte_lines`.
+fn decode_exactly<J: Input, O: Output>(
+    alloc: Global,
+    vcd: &mut J,
+    out: &mut O,
+    scl: Probe<'_>,
+    sda: Probe<'_>,
+    least: u64,
+    live: bool,
+    window: Window,
+) -> Result<Ended, Halt>
+    ensures report { IfOk result (λ it. (counts : ByteCounts) ×
+        TellsDecoded least (asked scl.entry) (asked sda.entry) J.reader O.writer vcd.old out.old counts vcd.new out.new) }
+    ensures status { IfOk result (λ it. it.status ≡ Good) }
+{
+    let mut wrong = None;
+    match write_decoded(alloc, vcd, out, scl, sda, least, live, &mut wrong) {
+        Ok(counts) => Ok(Ended {
+            status: Status::Good,
+            remark: Remark::recording(
+                alloc,
+                Recorded::Bytes(window, seen_in_bytes(counts)),
+                counts.rises,
+            ),
+        }),
+        Err(error) => Err(Halt::Dump(error, wrong)),
+    }
+}
+
+fn seen_in_bytes(counts: ByteCounts) -> Seen {
+    Seen {
+        transactions: counts.transactions,
+        stopped: counts.stopped,
+        unexplained: 0,
+    }
+}
+
+// The report in another form, by definitions that are read ahead, or beside waves.
+fn decode_in_form<R: Files + Print + Eprint + Clock + AllocGlobal, J: Input, O: Output>(
+    rt: &R,
+    vcd: &mut J,
+    out: &mut O,
+    bus: Bus<'_>,
+    live: bool,
+    style: Style,
+    canvas: Option<Canvas<'_, '_>>,
+) -> Result<Ended, Halt>
+    ensures status { IfOk result (λ it. EndsJudged bus.entry.view.at_least it) }
+{
     let alloc = rt.alloc();
     let mut dump = open_dump(alloc, vcd, bus)?;
     let selection = Selection::new(bus.view, dump.scale());
@@ -389,10 +471,11 @@ pub fn decode<R: Files + Print + Eprint + Clock + AllocGlobal, J: Input, O: Outp
         Ok(told) => told,
         Err(error) => return Err(halted(dump, error)),
     };
-    draw_tapped(rt, tap, least, bus.view.window, selection.status(), canvas)?;
+    let status = status_of_seen(bus.view.at_least, selection.seen, selection.departed);
+    draw_tapped(rt, tap, least, bus.view.window, status, canvas)?;
     let recorded = Recorded::Bytes(bus.view.window, selection.seen);
     Ok(Ended {
-        status: selection.status(),
+        status,
         remark: Remark::recording(alloc, recorded, rises),
     })
 }
@@ -433,7 +516,7 @@ fn draw_recording<R: Files + Print + Eprint + Clock + AllocGlobal>(
     write_wave(rt, wave.as_str(), status, canvas)
 }
 
-// The exact lines, by a sink whose contract says what they are.
+// The exact lines, by the run of `byte_lines` over what gives the dump from its beginning on.
 fn exact_bytes<J: Input, O: Output>(
     alloc: Global,
     dump: &mut Dump<'_, '_, J>,
@@ -442,21 +525,56 @@ fn exact_bytes<J: Input, O: Output>(
     live: bool,
     tap: &mut Option<Recorder>,
 ) -> Result<(Selection, Rises), RunError> {
-    let mut lines = ByteWriting::new(alloc, live, out);
-    let ending = match tap {
-        Some(tap) => dump.decode_with(alloc, &mut lines, tap)?,
-        None => dump.decode(alloc, &mut lines)?,
+    let told = match tap {
+        Some(tap) => bytes_beside(alloc, dump.parts(), out, live, tap),
+        None => bytes_of(alloc, dump.parts(), out, live),
     };
-    let ByteCounts {
-        transactions,
-        stopped,
-    } = lines.finish()?;
-    selection.seen = Seen {
-        transactions,
-        stopped,
-        unexplained: 0,
-    };
-    Ok((selection, ending.rises))
+    match told {
+        Ok(counts) => {
+            selection.seen = seen_in_bytes(counts);
+            Ok((selection, counts.rises))
+        }
+        Err(error) => Err(error),
+    }
+}
+
+fn bytes_of<J: Input, O: Output>(
+    alloc: Global,
+    dump: OpenDump<'_, '_, J>,
+    out: &mut O,
+    live: bool,
+) -> Result<ByteCounts, RunError> {
+    let OpenDump {
+        vcd,
+        scl,
+        sda,
+        least,
+        wrong,
+    } = dump;
+    write_decoded(alloc, vcd, out, scl, sda, least, live, wrong)
+}
+
+// The same, where the bus is recorded too.
+fn bytes_beside<J: Input, O: Output>(
+    alloc: Global,
+    dump: OpenDump<'_, '_, J>,
+    out: &mut O,
+    live: bool,
+    tap: &mut Recorder,
+) -> Result<ByteCounts, RunError> {
+    let OpenDump {
+        vcd,
+        scl,
+        sda,
+        least,
+        wrong,
+    } = dump;
+    let mut tapped = Watched::new(Tapped::new(vcd, tap));
+    let ended = write_decoded(alloc, &mut tapped, out, scl, sda, least, live, wrong);
+    match tapped.into_inner().failure() {
+        Some(error) => Err(error),
+        None => ended,
+    }
 }
 
 // Lines in which times, or what is told, are others.

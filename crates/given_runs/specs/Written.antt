@@ -7,13 +7,10 @@ use Rattle.brief_tokens.specs.Names.{LacksBrief}
 use Rattle.cert_check.specs.Accepts.{IsAnswer}
 use Rattle.cert_check.specs.declared.answers.Answer.{Answer}
 use Rattle.cert_check.specs.declared.answers.Answer.TheVariants.{Safe}
-use Rattle.decoding.specs.Dumps.{HaltsAtDump}
-use Rattle.given_runs.specs.Due.{AbbreviatedPlan, CapturedPlan}
+use Rattle.given_runs.specs.Due.{AbbreviatedPlan}
 use Rattle.plan_core.specs.Contents.{Contents}
 use Rattle.plan_text.specs.declared.briefs.NoBrief.{NoBrief}
-use Rattle.run_parts.specs.Devices.{Reader, Writer}
-use Rattle.run_parts.specs.Runs.{ReadsText}
-use Rattle.vcd_read.specs.Probes.{Finder}
+use Rattle.run_parts.specs.Devices.{Writer}
 use Rattle.run_parts.specs.Writing.{WritesAll, WritingStops}
 use Rattle.run_parts.specs.declared.errors.RunError.{RunError}
 use Rattle.run_parts.specs.declared.errors.RunError.TheVariants.{Brief, NoMemory}
@@ -54,9 +51,3 @@ IsOfOutcome outcome report status = (report ≡ outcome_lines outcome) × (statu
 -- An allocation failed. Or the text of the certificate proves that the plan is safe, and no bench is opened for the starters.
 abbrev pub LacksBench : Contents → List ℕ → List ℕ → RunError → Type 0
 LacksBench plan starters cert error = (error ≡ NoMemory) ⊎ (IsAnswer plan cert Safe × RefusesStarters plan starters error)
-
--- The dump halted, and the writer is as it was; or it was read, and the writing of its report ended early.
-abbrev pub StopsCapturing : {E Out : Type 0} → ℕ → Finder → Finder → Contents → Reader E → Writer Out → E × Out → RunError → E × Out → Type 0
-StopsCapturing least scl sda plan reader writer before error now =
-    (HaltsAtDump reader scl sda before.0 error now.0 × (now.1 ≡ before.1))
-    ⊎ ((dump : List ℕ) × ReadsText reader before.0 dump now.0 × StoppedWithin (CapturedPlan least scl sda plan dump) writer before.1 error now.1)

@@ -1,20 +1,18 @@
 // The runs that explain a capture.
 
-ghost use Rattle.std.specs.Prelude.{◌≡◌, ℕ, List, string_bytes, IfOk, IfErr, OnOk, IfSome};
+ghost use Rattle.std.specs.Prelude.{◌≡◌, IfOk, IfErr, IfSome};
 ghost use Rattle.decoding.specs.Dumps.{HaltsAtDump};
 ghost use Rattle.given_plans.specs.Sources.{GiveThePlan, HaltsAtTexts, ReadsTexts, ReadsUpTo, bytes_of};
 ghost use Rattle.given_runs.specs.Due.{CapturedPlan};
 ghost use Rattle.given_runs.specs.Inputs.{DueForBoth, HaltsAtEither, ReadsTextsAndOne};
-ghost use Rattle.given_runs.specs.Written.{StopsCapturing, Wrote};
 ghost use Rattle.plan_core.specs.PlanContents.{plan_contents};
 ghost use Rattle.report.specs.LiveCaptures.{TellsLive};
 ghost use Rattle.run_parts.specs.Runs.{ReadsText, Reports, Stops};
-ghost use Rattle.run_parts.specs.Writing.{WritesAll, WritingStops};
 ghost use Rattle.vcd_read.specs.Views.{asked};
 
 use given_plans::{GivenPlan, Halted, find_among};
-use report::{CaptureCounts, CaptureReport, capture_found, live_capture};
-use run_parts::{Input, Output, write_lines};
+use report::{CaptureCounts, CaptureReport, live_capture, write_capture};
+use run_parts::{Input, Output};
 use std::alloc::Global;
 use std::thread::Threads;
 use vcd_read::{Probe, Wrong};
@@ -74,32 +72,16 @@ fn capture_plan<R: Threads + Sync, J: Input, O: Output>(
     least: u64,
     wrong: &mut Option<Wrong>,
 ) -> Result<GivenCapture, Halted>
-    ensures wrote { IfOk result (λ it. (dump : List ℕ) × ReadsText J.reader vcd.old dump vcd.new
-        × Wrote (CapturedPlan least (asked scl.entry) (asked sda.entry) (plan_contents given.plan) dump) O.writer
-        out.old it.captured.status out.new) }
-    ensures stops { IfErr result (λ e. StopsCapturing least (asked scl.entry) (asked sda.entry)
-        (plan_contents given.plan) J.reader O.writer (vcd.old, out.old) e.error (vcd.new, out.new)) }
+    ensures report { IfOk result (λ it.
+        Reports (ReadsText J.reader) (CapturedPlan least (asked scl.entry) (asked sda.entry) (plan_contents given.plan)) O.writer
+        vcd.old out.old it.captured.status vcd.new out.new) }
+    ensures stops { IfErr result (λ e.
+        Stops (ReadsText J.reader) (CapturedPlan least (asked scl.entry) (asked sda.entry) (plan_contents given.plan)) O.writer
+        (HaltsAtDump J.reader (asked scl.entry) (asked sda.entry)) vcd.old out.old e.error vcd.new out.new) }
     ensures no_text { IfErr result (λ e. IfSome e.text (λ it. ⊥)) }
 {
-    match capture_found(rt, alloc, &given.plan, vcd, scl, sda, least, wrong) {
-        Ok(captured) => write_capture(given, captured, out),
-        Err(error) => Err(Halted::from(error)),
-    }
-}
-
-// Writes this report.
-fn write_capture<O: Output>(
-    given: GivenPlan,
-    captured: CaptureReport,
-    out: &mut O,
-) -> Result<GivenCapture, Halted>
-    ensures status { IfOk result (λ it. it.captured.status ≡ captured.status) }
-    ensures written { OnOk result (WritesAll O.writer out.old (string_bytes captured.report) out.new) }
-    ensures stops { IfErr result (λ e. WritingStops O.writer out.old (string_bytes captured.report) e.error out.new) }
-    ensures no_text { IfErr result (λ e. IfSome e.text (λ it. ⊥)) }
-{
-    match write_lines(out, captured.report.as_bytes(), captured.status) {
-        Ok(_) => Ok(GivenCapture { given, captured }),
+    match write_capture(rt, alloc, &given.plan, vcd, out, scl, sda, least, wrong) {
+        Ok(captured) => Ok(GivenCapture { given, captured }),
         Err(error) => Err(Halted::from(error)),
     }
 }

@@ -19,7 +19,8 @@ use Rattle.decoding.proofs.DumpLemmas.{given_then}
 use Rattle.report.specs.CaptureLines.{Tally, Tells, no_transaction, next_transaction, capture_line, stopped, unexplained, count_line, capture_report}
 use Rattle.report.specs.Captures.{CaptureOf}
 use Rattle.report.specs.LiveCaptures.{FirstLines, LinesOfDump, BeginsReport, HaltsLive, at_dump, at_both, at_writer, at_end, at_report, WroteFront, of_each, of_whole}
-use Rattle.report.proofs.LiveLemmas.{made, none, plus, made_by, plus-none, front_of_stop}
+use Rattle.decoding.proofs.PartLemmas.{front_of_stop}
+use Rattle.report.proofs.LiveLemmas.{made, none, plus, made_by, plus-none}
 use Rattle.run_parts.specs.Devices.{Reader, Writer, by_parts}
 use Rattle.run_parts.specs.declared.runs.Status.{Status}
 use Rattle.run_parts.specs.declared.errors.RunError.{RunError}

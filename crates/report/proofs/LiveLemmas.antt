@@ -12,7 +12,7 @@ use Rattle.decoding.specs.Dumps.{HaltsAtDump, HasBegun, given_by_then, no_memory
 use Rattle.decoding.specs.Explaining.{explaining_sink}
 use Rattle.decoding.specs.Sinks.{Sink, HasTaken, no_call, next_call}
 use Rattle.decoding.specs.declared.sinks.Explaining.{Explaining}
-use Rattle.report.specs.Blocks.{IsLeft}
+use Rattle.decoding.specs.Parts.{IsLeft}
 use Rattle.report.specs.CaptureLines.{Tally, Tells, no_transaction, next_transaction, with_line, capture_line, stopped, unexplained, count_line, capture_report}
 use Rattle.report.specs.Captures.{Explained, CaptureOf}
 use Rattle.report.specs.CaptureViews.{tally_of}
@@ -22,7 +22,7 @@ use Rattle.report.specs.LiveViews.{FailsAtBlock, live_sink, HasTold}
 use Rattle.report.specs.declared.live.Live.{Live}
 use Rattle.report.specs.declared.telling.CaptureCounts.{CaptureCounts}
 use Rattle.report.specs.declared.telling.Telling.{Telling}
-use Rattle.report.proofs.BlockLemmas.{all_left, none_left, part_written, part_stops}
+use Rattle.decoding.proofs.PartLemmas.{all_left, none_left, part_written, part_stops, front_of_stop, first_begin}
 use Rattle.run_parts.specs.Devices.{Reader, Writer, by_parts}
 use Rattle.run_parts.specs.Runs.{ReadsText, most_reads}
 use Rattle.run_parts.specs.Writing.{WritesAll, WritesFront, WritingStops}
@@ -67,13 +67,6 @@ judged tally = go tally.unexplained refl
     go : (n : ℕ) → tally.unexplained ≡ n → (status : Status) × Explained status tally
     go zero same = (Good, same)
     go (suc n) same = (Bad, λ no. absurd (omega (arith, same, no)))
-
-first_begin : (least : ℕ) (scl sda : Finder) (text : List ℕ) (ts more : List Recorded) → BeginsWith least scl sda text (ts ++ more) → BeginsWith least scl sda text ts
-first_begin least scl sda text ts more begins samples = let b = begins samples in (more ++ b.0, b.1 ∙ append_assoc ts more b.0)
-
-pub front_of_stop : {D : Type 0} (writer : Writer D) (start now : D) (text : List ℕ) (e : RunError) → WritingStops writer start text e now → WritesFront writer start text now
-front_of_stop writer start now text error.Write stops = stops
-front_of_stop writer start now text _ stops = absurd stops
 
 -- ---- what the calls so far have written
 

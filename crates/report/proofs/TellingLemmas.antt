@@ -1,5 +1,5 @@
 -- What the lines of a capture say, once they were told of its transactions.
-use Rattle.std.proofs.Common.{◌≡◌, inl, inr, ℕ, List, [], ◌++◌, ap, sym, ◌∙◌, subst, refl}
+use Rattle.std.proofs.Common.{◌≡◌, inl, inr, ℕ, List, [], ◌++◌, Result, Ok, Err, IfOk, IfErr, OnOk, ap, sym, ◌∙◌, subst, refl}
 use Rattle.plan_core.specs.Contents.{Contents}
 use Rattle.plan_core.specs.PlanContents.{plan_contents}
 use Rattle.vcd_read.specs.Probes.{Finder}
@@ -12,8 +12,11 @@ use Rattle.decoding.specs.declared.sinks.Explaining.{Explaining}
 use Rattle.report.specs.CaptureLines.{Tells, capture_report}
 use Rattle.report.specs.CaptureViews.{tally_of, telling_sink}
 use Rattle.report.specs.Captures.{Explained, CaptureOf}
+use Rattle.report.specs.declared.telling.CaptureReport.{CaptureReport}
 use Rattle.report.specs.declared.telling.Telling.{Telling}
-use Rattle.run_parts.specs.Devices.{Reader}
+use Rattle.run_parts.specs.Devices.{Reader, Writer}
+use Rattle.run_parts.specs.Runs.{ReadsText, Reports, Stops, writing}
+use Rattle.run_parts.specs.Writing.{WritesAll, WritingStops}
 use Rattle.run_parts.specs.declared.runs.Status.{Status}
 use Rattle.run_parts.specs.declared.errors.RunError.{RunError}
 use Rattle.run_parts.specs.declared.errors.RunError.TheVariants as error
@@ -61,3 +64,14 @@ module _ {R : Type 0} where
           subst (λ (e : RunError). HaltsAtDump second scl sda before e now) (sym (memory last told more e why)) (no_memory few begun)
       only_the_dump second before now e told (at_end {more = more} {last = last} all passes given split taken why) =
           subst (λ (e : RunError). HaltsAtDump second scl sda before e now) (sym (memory last told more e why)) (refused_at_end {error = error.NoMemory} all passes tt)
+
+-- the report of a dump that was read is written
+module _ (least : ℕ) (scl sda : Finder) (plan : Contents) {E O : Type 0} (reader : Reader E) (writer : Writer O) (vcd vcd_now : E) (out out_now : O) (dump report : List ℕ) (status : Status) (read : ReadsText reader vcd dump vcd_now) (capture : CaptureOf least scl sda plan dump report status) where
+  pub reports : (r : Result CaptureReport RunError) → IfOk r (λ it. it.status ≡ status) → OnOk r (WritesAll writer out report out_now) → IfOk r (λ it. Reports (ReadsText reader) (CaptureOf least scl sda plan) writer vcd out it.status vcd_now out_now)
+  reports (Ok it) same written =
+      record { texts = dump; read = read; report = report; due = subst (CaptureOf least scl sda plan dump report) (sym same) capture; written = written }
+  reports (Err e) same written = tt
+
+  pub stops_writing : (r : Result CaptureReport RunError) → IfErr r (λ e. WritingStops writer out report e out_now) → IfErr r (λ e. Stops (ReadsText reader) (CaptureOf least scl sda plan) writer (HaltsAtDump reader scl sda) vcd out e vcd_now out_now)
+  stops_writing (Ok it) stopped = tt
+  stops_writing (Err e) stopped = writing read capture stopped

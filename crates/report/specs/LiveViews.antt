@@ -10,7 +10,7 @@ use Rattle.decoding.specs.Dumps.{PassesSoFar}
 use Rattle.decoding.specs.Sinks.{Sink}
 use Rattle.report.specs.declared.live.Live.{Live}
 use Rattle.report.specs.declared.telling.Telling.{Telling}
-use Rattle.report.specs.Blocks.{IsLeft}
+use Rattle.decoding.specs.Parts.{IsLeft}
 use Rattle.report.specs.CaptureLines.{Tally, Tells}
 use Rattle.run_parts.specs.Devices.{Reader, Writer}
 use Rattle.run_parts.specs.Runs.{ReadsText}

@@ -4,7 +4,7 @@ ghost use Rattle.std.specs.Prelude.{◌≡◌, ℕ, List, [], ◌++◌, if◌the
 ghost use Rattle.verdicts.specs.Texts.{text_of};
 ghost use Rattle.run_parts.specs.Devices.{by_parts};
 ghost use Rattle.run_parts.specs.Writing.{WritesAll, WritingStops};
-ghost use Rattle.report.specs.Blocks.{IsLeft};
+ghost use Rattle.decoding.specs.Parts.{IsLeft};
 
 use run_parts::{Output, RunError, write_report};
 use verdicts::CertificateLines;

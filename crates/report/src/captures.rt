@@ -1,12 +1,13 @@
-// The run that explains a capture, and what it says.
+// The run that explains a capture.
 
-ghost use Rattle.std.specs.Prelude.{ℕ, List, string_bytes, IfOk, IfErr};
+ghost use Rattle.std.specs.Prelude.{◌≡◌, ℕ, List, string_bytes, IfOk, IfErr, OnOk};
 ghost use Rattle.plan_core.specs.PlanContents.{plan_contents};
 ghost use Rattle.decoding.specs.Dumps.{HaltsAtDump};
 ghost use Rattle.report.specs.Captures.{CaptureOf, Captured, HaltsAtCapture};
 ghost use Rattle.vcd_read.specs.Probes.{by_name};
 ghost use Rattle.vcd_read.specs.Views.{asked};
 ghost use Rattle.run_parts.specs.Runs.{ReadsText, ReadsBoth, Reports, Stops};
+ghost use Rattle.run_parts.specs.Writing.{WritesAll, WritingStops};
 
 use crate::telling::{CaptureReport, Telling};
 use decoding::{Explaining, decode};
@@ -85,18 +86,54 @@ pub fn run_capture_of<I: Input, J: Input, O: Output>(
 {
     let text = read_within(alloc, plan, READS)?;
     let plan = read_plan(alloc, text.as_slice())?;
-    let captured = capture_found(rt, alloc, &plan, vcd, scl, sda, least, &mut None)?;
+    let captured = read_capture(rt, alloc, &plan, vcd, scl, sda, least, &mut None)?;
     write_lines(out, captured.report.as_bytes(), captured.status)
 }
 
-/// What is said of the capture that the reader gives by a plan: the report of `run_capture_of`, its status, its counts, and how
-/// often SCL has risen. Where the dump is refused, `wrong` then has what is wrong, as far as there was memory for it.
+/// The same of a plan that was read: what the run says. Where the dump is refused, `wrong` then has what is wrong, as far as there
+/// was memory for it.
 ///
 /// # Errors
 ///
-/// `Read` where the reader failed or gave no end, `Vcd` with the first refusal of the dump, and `NoMemory` where an allocation
-/// fails.
-pub fn capture_found<J: Input>(
+/// Those of `run_capture` at the dump and the report, in the same order.
+pub fn write_capture<J: Input, O: Output>(
+    rt: &(impl Threads + Sync),
+    alloc: Global,
+    plan: &Plan,
+    vcd: &mut J,
+    out: &mut O,
+    scl: Probe<'_>,
+    sda: Probe<'_>,
+    least: u64,
+    wrong: &mut Option<Wrong>,
+) -> Result<CaptureReport, RunError>
+    ensures report { IfOk result (λ it.
+        Reports (ReadsText J.reader) (CaptureOf least (asked scl.entry) (asked sda.entry) (plan_contents plan.now)) O.writer
+        vcd.old out.old it.status vcd.new out.new) }
+    ensures stops { IfErr result (λ error.
+        Stops (ReadsText J.reader) (CaptureOf least (asked scl.entry) (asked sda.entry) (plan_contents plan.now)) O.writer
+        (HaltsAtDump J.reader (asked scl.entry) (asked sda.entry)) vcd.old out.old error vcd.new out.new) }
+{
+    match read_capture(rt, alloc, plan, vcd, scl, sda, least, wrong) {
+        Ok(captured) => write_read(captured, out),
+        Err(error) => Err(error),
+    }
+}
+
+// Writes this report.
+fn write_read<O: Output>(captured: CaptureReport, out: &mut O) -> Result<CaptureReport, RunError>
+    ensures status { IfOk result (λ it. it.status ≡ captured.status) }
+    ensures written { OnOk result (WritesAll O.writer out.old (string_bytes captured.report) out.new) }
+    ensures stops { IfErr result (λ error. WritingStops O.writer out.old (string_bytes captured.report) error out.new) }
+{
+    match write_lines(out, captured.report.as_bytes(), captured.status) {
+        Ok(_) => Ok(captured),
+        Err(error) => Err(error),
+    }
+}
+
+// The report of the dump that a reader gives, and the status of a run with that report.
+fn read_capture<J: Input>(
     rt: &(impl Threads + Sync),
     alloc: Global,
     plan: &Plan,

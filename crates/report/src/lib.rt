@@ -12,7 +12,7 @@ pub mod lines;
 pub mod live;
 pub mod telling;
 
-pub use captures::{capture_found, run_capture, run_capture_of};
+pub use captures::{run_capture, run_capture_of, write_capture};
 pub use certificates::{certify_found, run_certify};
 pub use checked::{check_found, check_plan};
 pub use checks::{run_check, run_check_with, status_of};

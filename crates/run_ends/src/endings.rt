@@ -173,6 +173,10 @@ pub enum Recorded {
 }
 
 impl Remark {
+    ghost use Rattle.std.specs.Prelude.{◌≡◌};
+    ghost use Rattle.hints.specs.declared.values.Hints.{Hints};
+    ghost use Rattle.run_ends.specs.declared.endings.Remark.TheVariants.{Recording};
+
     /// These hints, where there was memory for them.
     pub fn hints(hints: Result<Hints, AllocError>) -> Remark {
         match hints {
@@ -182,7 +186,9 @@ impl Remark {
     }
 
     /// What can be said of a dump whose controllers have no lines, and how often SCL rises in it.
-    pub fn recording(alloc: Global, recorded: Recorded, rises: Rises) -> Remark {
+    pub fn recording(alloc: Global, recorded: Recorded, rises: Rises) -> Remark
+        ensures { (hints : Hints) × (result ≡ Recording recorded rises hints) }
+    {
         Remark::Recording(recorded, rises, Hints::new(alloc))
     }
 

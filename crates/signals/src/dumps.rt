@@ -9,6 +9,17 @@ use run_parts::{Input, RunError, Watched};
 use std::alloc::Global;
 use vcd_read::{Probe, Wrong};
 
+/// Whether the definitions of a dump have to be known before it is read for this bus.
+pub fn reads_ahead(bus: Bus<'_>) -> bool {
+    let BusLines {
+        scl,
+        sda,
+        scope,
+        ..
+    } = bus.lines;
+    bus.needs_scale() || needs_picking(scl, sda, scope)
+}
+
 /// A dump, and what its definitions say, where that has to be known ahead.
 pub struct Dump<'a, 'l, J> {
     again: Watched<Again<'a, J>>,
@@ -16,6 +27,17 @@ pub struct Dump<'a, 'l, J> {
     picked: Option<Picked>,
     // what is wrong with it, where it was refused
     wrong: Option<Wrong>,
+}
+
+/// A dump that is open, in parts: a reader that gives it from its beginning on, and what is asked of it.
+pub struct OpenDump<'d, 'a, J> {
+    pub vcd: &'d mut Watched<Again<'a, J>>,
+    pub scl: Probe<'d>,
+    pub sda: Probe<'d>,
+    /// How long a level has to last, in steps of the dump.
+    pub least: u64,
+    /// What is wrong with the dump, where it is refused.
+    pub wrong: &'d mut Option<Wrong>,
 }
 
 // Written out, so that one call lets it go.
@@ -39,13 +61,7 @@ impl<'a, 'l, J: Input> Dump<'a, 'l, J> {
     /// `Read` where the reader fails, and `NoMemory`.
     pub fn open(alloc: Global, vcd: &'a mut J, bus: Bus<'l>) -> Result<Dump<'a, 'l, J>, RunError> {
         let lines = bus.lines;
-        let BusLines {
-            scl,
-            sda,
-            scope,
-            ..
-        } = lines;
-        if !bus.needs_scale() && !needs_picking(scl, sda, scope) {
+        if !reads_ahead(bus) {
             return Ok(Dump {
                 again: Watched::new(Again::unread(alloc, vcd)),
                 lines,
@@ -53,7 +69,7 @@ impl<'a, 'l, J: Input> Dump<'a, 'l, J> {
                 wrong: None,
             });
         }
-        let (again, picked) = pick(alloc, vcd, scl, sda, scope)?;
+        let (again, picked) = pick(alloc, vcd, lines.scl, lines.sda, lines.scope)?;
         Ok(Dump::picked(again, lines, picked))
     }
 
@@ -140,6 +156,28 @@ impl<'a, 'l, J: Input> Dump<'a, 'l, J> {
         }
     }
 
+    /// Its parts, for a run that reads it.
+    pub fn parts(&mut self) -> OpenDump<'_, 'a, J> {
+        let least = self.quiet().least;
+        let Self {
+            again,
+            lines,
+            picked,
+            wrong,
+        } = self;
+        let (scl, sda) = match picked {
+            Some(picked) => (picked.scl(), picked.sda()),
+            None => (lines.scl, lines.sda),
+        };
+        OpenDump {
+            vcd: again,
+            scl,
+            sda,
+            least,
+            wrong,
+        }
+    }
+
     /// Hands the transactions of the dump on.
     ///
     /// # Errors
@@ -152,27 +190,14 @@ impl<'a, 'l, J: Input> Dump<'a, 'l, J> {
     ) -> Result<Ending, RunError>
         requires { S.needs }
     {
-        let least = self.quiet().least;
-        match &self.picked {
-            Some(picked) => decode(
-                alloc,
-                &mut self.again,
-                picked.scl(),
-                picked.sda(),
-                least,
-                sink,
-                &mut self.wrong,
-            ),
-            None => decode(
-                alloc,
-                &mut self.again,
-                self.lines.scl,
-                self.lines.sda,
-                least,
-                sink,
-                &mut self.wrong,
-            ),
-        }
+        let OpenDump {
+            vcd,
+            scl,
+            sda,
+            least,
+            wrong,
+        } = self.parts();
+        decode(alloc, vcd, scl, sda, least, sink, wrong)
     }
 
     /// The same, where a tap is given each block of the dump before the transactions that end in it are handed on.
@@ -188,28 +213,15 @@ impl<'a, 'l, J: Input> Dump<'a, 'l, J> {
     ) -> Result<Ending, RunError>
         requires { S.needs }
     {
-        let least = self.quiet().least;
-        let mut tapped = Watched::new(Tapped::new(&mut self.again, tap));
-        let ended = match &self.picked {
-            Some(picked) => decode(
-                alloc,
-                &mut tapped,
-                picked.scl(),
-                picked.sda(),
-                least,
-                sink,
-                &mut self.wrong,
-            ),
-            None => decode(
-                alloc,
-                &mut tapped,
-                self.lines.scl,
-                self.lines.sda,
-                least,
-                sink,
-                &mut self.wrong,
-            ),
-        };
+        let OpenDump {
+            vcd,
+            scl,
+            sda,
+            least,
+            wrong,
+        } = self.parts();
+        let mut tapped = Watched::new(Tapped::new(vcd, tap));
+        let ended = decode(alloc, &mut tapped, scl, sda, least, sink, wrong);
         match tapped.into_inner().failure() {
             Some(error) => Err(error),
             None => ended,

@@ -28,7 +28,7 @@ mod waiting;
 
 pub use beginning::{Again, read_beginning};
 pub use definitions::{Found, Header, Listing};
-pub use dumps::Dump;
+pub use dumps::{Dump, OpenDump, reads_ahead};
 pub use fits::{Fit, base_of, fit_of};
 pub use listing::{Listed, Pair, Signal, SignalDump, bus_options};
 pub use masks::MOST as CANDIDATES;

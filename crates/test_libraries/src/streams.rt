@@ -1,6 +1,7 @@
 // Runs over streams that fail: a reader at each of its calls, and a writer after each number of bytes.
 
 use bench_run::{NoGate, run_bench};
+use byte_lines::write_decoded;
 use report::{FaultyReader, FaultyWriter, live_capture, run_capture, run_certify, run_check};
 use run_parts::{RunError, Status, read_within};
 use spellings::{run_brief, run_expand, run_print};
@@ -21,6 +22,7 @@ enum Run {
     Brief,
     Capture,
     Live,
+    Decode,
     Bench,
 }
 
@@ -60,7 +62,7 @@ const UNENDED: &str = "$var wire 1 ! scl $end $var wire 1 % sda $end $enddefinit
 #0 1! 1% #5 0%
 ";
 
-static CASES: [Case; 9] = [
+static CASES: [Case; 10] = [
     Case {
         run: Run::Check,
         first: TWO_WRITERS,
@@ -111,6 +113,12 @@ static CASES: [Case; 9] = [
         report: "5- unfinished\n0 transactions, 0 unexplained\n",
     },
     Case {
+        run: Run::Decode,
+        first: DUMP,
+        second: "",
+        report: "5-7 cut S\n0 transactions\n",
+    },
+    Case {
         run: Run::Bench,
         first: THREE_WRITERS,
         second: THREE_PROVED,
@@ -157,6 +165,21 @@ fn ends_live<R: Threads + Sync>(
     }
 }
 
+// A dump in bytes: one transaction, which is cut.
+fn ends_decoded(
+    alloc: Global,
+    vcd: &mut FaultyReader<'_>,
+    out: &mut FaultyWriter,
+) -> Result<Status, RunError> {
+    let (scl, sda) = (Probe::Named("scl"), Probe::Named("sda"));
+    let counts = write_decoded(alloc, vcd, out, scl, sda, 0, false, &mut None)?;
+    if counts.transactions == 1 && counts.stopped == 0 {
+        Ok(Status::Good)
+    } else {
+        Ok(Status::Refused)
+    }
+}
+
 fn ends<R: Threads + Wait + Clock + Sync>(
     rt: &R,
     alloc: Global,
@@ -175,6 +198,7 @@ fn ends<R: Threads + Wait + Clock + Sync>(
         Run::Brief => run_brief(alloc, first, out),
         Run::Capture => run_capture(rt, alloc, first, second, out, "scl", "sda"),
         Run::Live => ends_live(rt, alloc, first, second, out),
+        Run::Decode => ends_decoded(alloc, first, out),
         Run::Bench => run_bench(
             rt,
             alloc,

@@ -67,6 +67,9 @@ impl<O> Drop for CaptureLines<'_, '_, O> {
 }
 
 impl<'a, 'w, O: Output> CaptureLines<'a, 'w, O> {
+    ghost use Rattle.std.specs.Prelude.{◌≡◌, IfOk};
+    ghost use Rattle.transaction_lines.specs.Statuses.{departed_in};
+
     /// Nothing has been written of a capture that is explained by the plan of these words.
     ///
     /// # Errors
@@ -143,7 +146,10 @@ impl<'a, 'w, O: Output> CaptureLines<'a, 'w, O> {
     }
 
     // So many bits came on the free bus after the last transaction.
-    fn follow(&mut self, idle: u64) {
+    fn follow(&mut self, idle: u64)
+        ensures selection { self.new.selection ≡ self.old.selection }
+        ensures judging { self.new.judging ≡ self.old.judging }
+    {
         if idle != 0 && self.was_told && self.layout.explain {
             let after = after_transaction(self.written.alloc, idle);
             self.written.text.push_made(after);
@@ -183,7 +189,10 @@ impl<'a, 'w, O: Output> CaptureLines<'a, 'w, O> {
     /// # Errors
     ///
     /// `Write` where the writer failed or took no bytes, and `NoMemory`.
-    pub fn finish(mut self, quiet: Quiet, ending: Ending) -> Result<Selection, RunError> {
+    pub fn finish(mut self, quiet: Quiet, ending: Ending) -> Result<Selection, RunError>
+        ensures seen { IfOk result (λ it. it.seen ≡ self.entry.selection.seen) }
+        ensures departed { IfOk result (λ it. it.departed ≡ departed_in self.entry.selection.departed self.entry.judging) }
+    {
         self.follow(ending.idle);
         if self.layout.explain {
             let line = pulse_line(self.written.alloc, quiet, ending.short);
@@ -197,7 +206,10 @@ impl<'a, 'w, O: Output> CaptureLines<'a, 'w, O> {
     /// # Errors
     ///
     /// Those of `finish`, and this one where it has not stopped.
-    pub fn stop(self, error: RunError) -> Result<Selection, RunError> {
+    pub fn stop(self, error: RunError) -> Result<Selection, RunError>
+        ensures seen { IfOk result (λ it. it.seen ≡ self.entry.selection.seen) }
+        ensures departed { IfOk result (λ it. it.departed ≡ departed_in self.entry.selection.departed self.entry.judging) }
+    {
         if self.has_stopped {
             self.end()
         } else {
@@ -205,7 +217,10 @@ impl<'a, 'w, O: Output> CaptureLines<'a, 'w, O> {
         }
     }
 
-    fn end(self) -> Result<Selection, RunError> {
+    fn end(self) -> Result<Selection, RunError>
+        ensures seen { IfOk result (λ it. it.seen ≡ self.entry.selection.seen) }
+        ensures departed { IfOk result (λ it. it.departed ≡ departed_in self.entry.selection.departed self.entry.judging) }
+    {
         let Self {
             mut written,
             words: _,

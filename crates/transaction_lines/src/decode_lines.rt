@@ -23,6 +23,8 @@ pub struct DecodeLines<'a, O> {
 }
 
 impl<'a, O: Output> DecodeLines<'a, O> {
+    ghost use Rattle.std.specs.Prelude.{◌≡◌, IfOk};
+
     /// Nothing has been written. Where it is live, all that has ended is written before the dump is read on.
     ///
     /// # Errors
@@ -71,7 +73,9 @@ impl<'a, O: Output> DecodeLines<'a, O> {
     /// # Errors
     ///
     /// `Write` where the writer failed or took no bytes, and `NoMemory`.
-    pub fn finish(mut self) -> Result<Selection, RunError> {
+    pub fn finish(mut self) -> Result<Selection, RunError>
+        ensures { IfOk result (λ it. it ≡ self.entry.selection) }
+    {
         self.push_rest();
         let DecodeLines {
             mut written,
@@ -82,7 +86,9 @@ impl<'a, O: Output> DecodeLines<'a, O> {
         Ok(selection)
     }
 
-    fn push_rest(&mut self) {
+    fn push_rest(&mut self)
+        ensures { self.new.selection ≡ self.old.selection }
+    {
         if let Some(addresses) = &self.addresses {
             addresses.push_to(&mut self.written.text);
         }

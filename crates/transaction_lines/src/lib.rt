@@ -24,5 +24,5 @@ pub use capture_lines::{CaptureLines, Layout};
 pub use decode_lines::DecodeLines;
 pub use glitches::{Cut, Cuts};
 pub use leaving::{Leaves, mark_words, nearest, offer_words};
-pub use selecting::{Seen, Selection};
+pub use selecting::{Seen, Selection, status_of_seen};
 pub use tallies::{Explains, Others, Tallies};

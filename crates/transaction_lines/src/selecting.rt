@@ -1,5 +1,8 @@
 // Which transactions are told, and what they come to.
 
+ghost use Rattle.std.specs.Prelude.{◌≡◌};
+ghost use Rattle.transaction_lines.specs.Statuses.{JudgesSeen, least_of};
+
 use capture_check::{Transaction, Until};
 use dump_tokens::{Scale, View};
 use run_parts::Status;
@@ -39,6 +42,9 @@ pub struct Selection {
 }
 
 impl Selection {
+    ghost use Rattle.std.specs.Prelude.{◌≡◌, Some, None, nat_lt, if◌then◌else◌};
+    ghost use Rattle.transaction_lines.specs.Statuses.{JudgesSeen, least_of};
+
     /// No transaction yet of a dump whose numbers count this.
     pub fn new(view: View, scale: Option<Scale>) -> Selection {
         Selection {
@@ -73,8 +79,11 @@ impl Selection {
     }
 
     /// How many there were to be that a STOP ended, where there are fewer.
-    pub fn missed(&self) -> Option<u64> {
-        let least = u64::from(self.view.at_least.unwrap_or(0));
+    pub fn missed(&self) -> Option<u64>
+        ensures { result ≡ (if nat_lt self.now.seen.stopped (least_of self.now.view.at_least)
+            then Some (least_of self.now.view.at_least) else None) }
+    {
+        let least = least_of(self.view.at_least);
         if self.seen.stopped < least {
             Some(least)
         } else {
@@ -83,11 +92,35 @@ impl Selection {
     }
 
     /// The status of a run that has told of these.
-    pub fn status(&self) -> Status {
-        if self.seen.unexplained == 0 && self.departed == 0 && self.missed().is_none() {
-            Status::Good
-        } else {
-            Status::Bad
-        }
+    pub fn status(&self) -> Status
+        ensures { JudgesSeen result self.now.view.at_least self.now.seen self.now.departed }
+    {
+        status_of_seen(self.view.at_least, self.seen, self.departed)
+    }
+}
+
+/// The status of a run over a dump that has told of transactions which come to this, where so many were to be Stopped, and where
+/// in so many of them a controller did what the rules of the plan do not give.
+pub fn status_of_seen(at_least: Option<u32>, seen: Seen, departed: u64) -> Status
+    ensures { JudgesSeen result at_least seen departed }
+{
+    if seen.unexplained != 0 {
+        return Status::Bad;
+    }
+    if departed != 0 {
+        return Status::Bad;
+    }
+    if seen.stopped < least_of(at_least) {
+        return Status::Bad;
+    }
+    Status::Good
+}
+
+fn least_of(at_least: Option<u32>) -> u64
+    ensures { result ≡ least_of at_least }
+{
+    match at_least {
+        Some(least) => u64::from(least),
+        None => 0,
     }
 }

@@ -3,8 +3,9 @@ use Rattle.run_parts.specs.Devices.{by_parts}
 use Rattle.run_parts.specs.Writing.{WritesAll, WritingStops}
 use Rattle.run_parts.specs.declared.errors.RunError.{RunError}
 use Rattle.run_parts.proofs.RunLemmas.{on_error}
-use Rattle.report.specs.Blocks.{IsLeft}
-use Rattle.report.proofs.BlockLemmas.{part_written, part_stops, on_ok, if_err}
+use Rattle.decoding.specs.Parts.{IsLeft}
+use Rattle.decoding.proofs.PartLemmas.{part_written, part_stops}
+use Rattle.report.proofs.BlockLemmas.{on_ok, if_err}
 use Rattle.report.proofs.blocks.put.Goals as goal
 
 pub returns-in_err-write_report-clause-stops : goal.returns-in_err-write_report-clause-stops

@@ -6,8 +6,9 @@ use Rattle.run_parts.specs.Devices.{by_parts}
 use Rattle.run_parts.specs.Writing.{WritesAll, WritingStops}
 use Rattle.run_parts.specs.declared.errors.RunError.{RunError}
 use Rattle.run_parts.proofs.RunLemmas.{on_error}
-use Rattle.report.specs.Blocks.{IsLeft}
-use Rattle.report.proofs.BlockLemmas.{part_written, part_stops, first_left, none_left, on_ok, if_err}
+use Rattle.decoding.specs.Parts.{IsLeft}
+use Rattle.decoding.proofs.PartLemmas.{part_written, part_stops, none_left}
+use Rattle.report.proofs.BlockLemmas.{first_left, on_ok, if_err}
 use Rattle.report.proofs.blocks.write_in_blocks.Goals as goal
 
 pub loop-k-init : goal.loop-k-init

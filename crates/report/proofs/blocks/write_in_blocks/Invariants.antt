@@ -1,6 +1,6 @@
 use Rattle.std.proofs.Common.{◌++◌, drop}
 use Rattle.verdicts.specs.Texts.{lines_after_head, text_of, joined}
-use Rattle.report.specs.Blocks.{IsLeft}
+use Rattle.decoding.specs.Parts.{IsLeft}
 use Rattle.report.proofs.blocks.write_in_blocks.Given as goal
 
 -- what is left to be written is in the block and in the lines to come

@@ -24,7 +24,7 @@ returns-in_err-plan-clause-stops g c =
 pub returns-in_err-captured-clause-stops : goal.returns-in_err-captured-clause-stops
 returns-in_err-captured-clause-stops g c =
     let spelled = spells_plan c.in_ok-text.text.items c.as_slice.result.now (plan_contents c.in_ok-plan.plan) c.as_slice.ensures.value c.in_ok-plan.ensures.spelled in
-    halting_stops (ReadsBoth g.I.Input.reader g.J.Input.reader) (Captured c.args.least (asked c.args.scl) (asked c.args.sda)) g.O.Output.writer (HaltsAtCapture g.I.Input.reader g.J.Input.reader (asked c.args.scl) (asked c.args.sda)) (c.args.plan.now, c.args.vcd.now) c.args.out.now (c.read_within.new.reader, c.capture_found.new.vcd) c.from_residual-in_err-captured.result c.in_err-captured.field-0.0 c.from_residual-in_err-captured.ensures.1 (at_dump c.in_ok-text.ensures.all spelled c.in_err-captured.ensures.stops)
+    halting_stops (ReadsBoth g.I.Input.reader g.J.Input.reader) (Captured c.args.least (asked c.args.scl) (asked c.args.sda)) g.O.Output.writer (HaltsAtCapture g.I.Input.reader g.J.Input.reader (asked c.args.scl) (asked c.args.sda)) (c.args.plan.now, c.args.vcd.now) c.args.out.now (c.read_within.new.reader, c.read_capture.new.vcd) c.from_residual-in_err-captured.result c.in_err-captured.field-0.0 c.from_residual-in_err-captured.ensures.1 (at_dump c.in_ok-text.ensures.all spelled c.in_err-captured.ensures.stops)
 
 pub returns-clause-report : goal.returns-clause-report
 returns-clause-report g c =
@@ -34,7 +34,7 @@ returns-clause-report g c =
     let all = c.in_ok-captured.ensures.all in
     let capture = subst (λ (r : List ℕ). CaptureOf c.args.least (asked c.args.scl) (asked c.args.sda) plan all.0 r c.in_ok-captured.captured.status) (sym c.as_bytes.ensures.value) all.2 in
     let due : Captured c.args.least (asked c.args.scl) (asked c.args.sda) (text, all.0) c.as_bytes.result.now c.in_ok-captured.captured.status = record { plan = plan; spelled = spelled; capture = capture } in
-    writing_reports (ReadsBoth g.I.Input.reader g.J.Input.reader) (Captured c.args.least (asked c.args.scl) (asked c.args.sda)) g.O.Output.writer (HaltsAtCapture g.I.Input.reader g.J.Input.reader (asked c.args.scl) (asked c.args.sda)) (c.args.plan.now, c.args.vcd.now) c.args.out.now (c.read_within.new.reader, c.capture_found.new.vcd) (text, all.0) (c.in_ok-text.ensures.all, all.1) c.as_bytes.result.now c.in_ok-captured.captured.status due c.write_lines.new.out c.write_lines.result c.write_lines.ensures.status c.write_lines.ensures.all
+    writing_reports (ReadsBoth g.I.Input.reader g.J.Input.reader) (Captured c.args.least (asked c.args.scl) (asked c.args.sda)) g.O.Output.writer (HaltsAtCapture g.I.Input.reader g.J.Input.reader (asked c.args.scl) (asked c.args.sda)) (c.args.plan.now, c.args.vcd.now) c.args.out.now (c.read_within.new.reader, c.read_capture.new.vcd) (text, all.0) (c.in_ok-text.ensures.all, all.1) c.as_bytes.result.now c.in_ok-captured.captured.status due c.write_lines.new.out c.write_lines.result c.write_lines.ensures.status c.write_lines.ensures.all
 
 pub returns-clause-stops : goal.returns-clause-stops
 returns-clause-stops g c =
@@ -44,4 +44,4 @@ returns-clause-stops g c =
     let all = c.in_ok-captured.ensures.all in
     let capture = subst (λ (r : List ℕ). CaptureOf c.args.least (asked c.args.scl) (asked c.args.sda) plan all.0 r c.in_ok-captured.captured.status) (sym c.as_bytes.ensures.value) all.2 in
     let due : Captured c.args.least (asked c.args.scl) (asked c.args.sda) (text, all.0) c.as_bytes.result.now c.in_ok-captured.captured.status = record { plan = plan; spelled = spelled; capture = capture } in
-    writing_stops (ReadsBoth g.I.Input.reader g.J.Input.reader) (Captured c.args.least (asked c.args.scl) (asked c.args.sda)) g.O.Output.writer (HaltsAtCapture g.I.Input.reader g.J.Input.reader (asked c.args.scl) (asked c.args.sda)) (c.args.plan.now, c.args.vcd.now) c.args.out.now (c.read_within.new.reader, c.capture_found.new.vcd) (text, all.0) (c.in_ok-text.ensures.all, all.1) c.as_bytes.result.now c.in_ok-captured.captured.status due c.write_lines.new.out c.write_lines.result c.write_lines.ensures.stops
+    writing_stops (ReadsBoth g.I.Input.reader g.J.Input.reader) (Captured c.args.least (asked c.args.scl) (asked c.args.sda)) g.O.Output.writer (HaltsAtCapture g.I.Input.reader g.J.Input.reader (asked c.args.scl) (asked c.args.sda)) (c.args.plan.now, c.args.vcd.now) c.args.out.now (c.read_within.new.reader, c.read_capture.new.vcd) (text, all.0) (c.in_ok-text.ensures.all, all.1) c.as_bytes.result.now c.in_ok-captured.captured.status due c.write_lines.new.out c.write_lines.result c.write_lines.ensures.stops

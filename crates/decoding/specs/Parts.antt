@@ -1,5 +1,4 @@
--- How far the writing of a text in blocks has come.
--- Only private contracts and proofs use this.
+-- How far the writing of a text in parts has come. Only private contracts and proofs use this.
 use Rattle.std.specs.Prelude.{◌≡◌, ℕ, List, ◌++◌}
 use Rattle.std.specs.Io.KnownBytes.{Appends}
 use Rattle.run_parts.specs.Devices.{Writer, by_parts, HasTaken}

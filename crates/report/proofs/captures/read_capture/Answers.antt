@@ -4,7 +4,7 @@ use Rattle.decoding.specs.Dumps.{HaltsAtDump, refused_at_end}
 use Rattle.run_parts.specs.declared.errors.RunError.TheVariants as error
 use Rattle.report.proofs.TellingLemmas.{report_of, only_the_dump}
 use Rattle.run_parts.proofs.RunLemmas.{on_error}
-use Rattle.report.proofs.captures.capture_found.Goals as goal
+use Rattle.report.proofs.captures.read_capture.Goals as goal
 
 pub returns-in_err-ending-clause-stops : goal.returns-in_err-ending-clause-stops
 returns-in_err-ending-clause-stops g c =

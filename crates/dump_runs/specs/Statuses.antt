@@ -1,0 +1,33 @@
+-- The status of a run over a dump, whatever form its report has, by what the transactions that it told of come to.
+use Rattle.std.specs.Prelude.{◌≡◌, ℕ, Option, Some, None}
+use Rattle.dump_runs.specs.declared.recordings.Told.{Told}
+use Rattle.run_ends.specs.declared.endings.Ended.{Ended}
+use Rattle.run_ends.specs.declared.endings.Recorded.{Recorded}
+use Rattle.run_ends.specs.declared.endings.Recorded.TheVariants.{Bus, Bytes}
+use Rattle.run_ends.specs.declared.endings.Remark.{Remark}
+use Rattle.run_ends.specs.declared.endings.Remark.TheVariants.{Recording}
+use Rattle.transaction_lines.specs.Statuses.{JudgesSeen}
+use Rattle.transaction_lines.specs.declared.selecting.Seen.{Seen}
+
+-- what the transactions come to that a run told of
+abbrev pub seen_in : Recorded → Option Seen
+seen_in (Bus window seen) = Some seen
+seen_in (Bytes window seen) = Some seen
+seen_in _ = None
+
+abbrev pub seen_of : Remark → Option Seen
+seen_of (Recording recorded rises hints) = seen_in recorded
+seen_of _ = None
+
+-- the status is that of these counts, where so many were to be Stopped, and where in some of them a controller may have
+-- departed from the rules of the plan
+pub record IsJudged (at_least : Option ℕ) (told : Told) : Type 0 where
+  pub departed : ℕ
+  pub judged : JudgesSeen told.status at_least told.seen departed
+
+-- the same of a run that has ended, which says what it told of
+pub record EndsJudged (at_least : Option ℕ) (ended : Ended) : Type 0 where
+  pub seen : Seen
+  pub told : seen_of ended.remark ≡ Some seen
+  pub departed : ℕ
+  pub judged : JudgesSeen ended.status at_least seen departed
