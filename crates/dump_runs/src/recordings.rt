@@ -1,6 +1,6 @@
 // Runs over the dump of a recorded bus: each hands what the dump shows to the form that is wanted.
 
-ghost use Rattle.std.specs.Prelude.{◌≡◌, IfOk, OnOk, string_bytes};
+ghost use Rattle.std.specs.Prelude.{◌≡◌, IfOk, string_bytes};
 ghost use Rattle.byte_lines.specs.DecodedRuns.{TellsDecoded};
 ghost use Rattle.byte_lines.specs.declared.writing.ByteCounts.{ByteCounts};
 ghost use Rattle.dump_runs.specs.Statuses.{EndsJudged, IsJudged};
@@ -27,7 +27,7 @@ use dump_tokens::{Bus, BusLines, Drives, Limits, Quiet, Window};
 use given_plans::{GivenPlan, Halted, Provenance};
 use given_runs::{GivenCapture, GivenLive, capture_given, live_given};
 use hints::Hints;
-use lessons::{BriefBefore, Learned, Likeness, Sights, brief_of};
+use lessons::{BriefBefore, Likeness, Sights, brief_of, write_brief, write_learned};
 use plan_core::Plan;
 use plan_words::PlanWords;
 use report::{CaptureCounts, CaptureReport, live_capture, write_capture};
@@ -699,13 +699,49 @@ fn learn_open<J: Input, O: Output>(
 ) -> Result<Result<Ended, RunError>, Halt> {
     let driving = driving_of(alloc, &*dump, lesson.drives)?;
     let driving = driving.as_ref();
-    let mut seen = Sights::new(alloc, lesson.bus.view, dump.scale(), before).with_drives(driving);
+    let seen = Sights::new(alloc, lesson.bus.view, dump.scale(), before).with_drives(driving);
+    if driving.is_none() {
+        return Ok(learn_alone(alloc, dump, out, seen, lesson.likeness));
+    }
+    learn_driven(alloc, dump, out, seen, lesson.likeness, driving)
+}
+
+// The same where no lines of controllers are followed, by the run of `lessons` over what gives the dump from its beginning on.
+fn learn_alone<J: Input, O: Output>(
+    alloc: Global,
+    dump: &mut Dump<'_, '_, J>,
+    out: &mut O,
+    seen: Sights<'_>,
+    likeness: Likeness,
+) -> Result<Ended, RunError> {
+    let OpenDump {
+        vcd,
+        scl,
+        sda,
+        least,
+        wrong,
+    } = dump.parts();
+    let (status, ending) = write_learned(alloc, vcd, out, scl, sda, least, seen, likeness, wrong)?;
+    Ok(Ended {
+        status,
+        remark: Remark::Recording(Recorded::Other, ending.rises, Hints::new(alloc)),
+    })
+}
+
+fn learn_driven<J: Input, O: Output>(
+    alloc: Global,
+    dump: &mut Dump<'_, '_, J>,
+    out: &mut O,
+    mut seen: Sights<'_>,
+    likeness: Likeness,
+    driving: Option<&Driving<'_>>,
+) -> Result<Result<Ended, RunError>, Halt> {
     let ending = match decode_driven(alloc, dump, &mut seen, driving) {
         Ok(ending) => ending,
         Err(error) => return Ok(Err(error)),
     };
     let hints = refuse_others(alloc, driving)?;
-    let status = write_learned(alloc, seen, lesson.likeness, out)?;
+    let status = write_seen(alloc, seen, likeness, out)?;
     Ok(Ok(Ended {
         status,
         remark: Remark::Recording(Recorded::Other, ending.rises, hints),
@@ -713,7 +749,7 @@ fn learn_open<J: Input, O: Output>(
 }
 
 // Writes the brief of what was seen: what it means, and which paths that has, is promised of what is written.
-fn write_learned<O: Output>(
+fn write_seen<O: Output>(
     alloc: Global,
     seen: Sights<'_>,
     likeness: Likeness,
@@ -724,13 +760,6 @@ fn write_learned<O: Output>(
 {
     let learned = brief_of(alloc, seen, likeness)?;
     write_brief(&learned, out)
-}
-
-fn write_brief<O: Output>(learned: &Learned, out: &mut O) -> Result<Status, RunError>
-    ensures status { IfOk result (λ it. it ≡ learned.now.status) }
-    ensures written { OnOk result (WritesAll O.writer out.old (string_bytes learned.now.brief) out.new) }
-{
-    write_lines(out, learned.brief.as_bytes(), learned.status)
 }
 
 /// Lists the signals of the dump that the reader gives, within these limits. Where a time has a unit it has to say what its

@@ -1,5 +1,5 @@
 -- What is kept of the transactions that are seen.
-use Rattle.std.specs.Prelude.{◌≡◌, ◌≢◌, ◌⊎◌, ℕ, List, [], Option, None, All, Contains, Ok}
+use Rattle.std.specs.Prelude.{◌≡◌, ◌≢◌, ◌⊎◌, ℕ, List, [], Option, None, All, Contains, Ok, string_bytes}
 use Rattle.capture_check.specs.Explained.{Leaver}
 use Rattle.capture_check.specs.Transactions.{Recorded}
 use Rattle.capture_check.specs.declared.listening.Until.{Until}
@@ -8,6 +8,7 @@ use Rattle.capture_check.specs.declared.listening.Mark.{Mark}
 use Rattle.decoding.specs.Sinks.{Sink}
 use Rattle.plan_core.specs.Contents.{Contents}
 use Rattle.pulses.specs.Following.{quiet_transactions}
+use Rattle.run_parts.specs.declared.runs.Status.{Status}
 use Rattle.run_parts.specs.declared.runs.Status.TheVariants.{Good}
 use Rattle.vcd_read.specs.declared.samples.Sample.{Sample}
 use Rattle.vcd_read.specs.Dumps.{samples_of}
@@ -62,3 +63,10 @@ pub record Learns (least : ℕ) (scl sda : Finder) (start : Sights) (dump : List
   pub teaches : Teaches seen learned
   pub explains : KeepsAll start → learned.status ≡ Good →
       ExplainsAll teaches.plan (quiet_transactions least samples)
+
+-- the report is the brief that was learned of this dump, and the status is its own
+pub record TaughtBy (least : ℕ) (scl sda : Finder) (start : Sights) (dump report : List ℕ) (status : Status) : Type 0 where
+  pub learned : Learned
+  pub learns : Learns least scl sda start dump learned
+  pub brief : report ≡ string_bytes learned.brief
+  pub ended : status ≡ learned.status

@@ -36,7 +36,7 @@ mod writing;
 
 pub use before::BriefBefore;
 pub use checking::Learned;
-pub use learning::learn_dump;
+pub use learning::{learn_dump, write_brief, write_learned};
 pub use runs::brief_of;
 pub use seen::Sights;
 pub use trees::Likeness;

@@ -1,6 +1,6 @@
 use Rattle.lessons.specs.Lessons.{Teaches}
 use Rattle.dump_runs.proofs.LearnedLemmas.{wrote_learned}
-use Rattle.dump_runs.proofs.recordings.write_learned.Goals as goal
+use Rattle.dump_runs.proofs.recordings.write_seen.Goals as goal
 
 pub returns : goal.returns
 returns g c =
