@@ -1,6 +1,7 @@
 -- What is due of what came of a rehearsal, and how a run ends by how its rehearsal ends.
-use Rattle.std.proofs.Common.{◌≡◌, ◌⊎◌, ◌∙◌, inl, inr, ℕ, Bool, List, Option, Some, None, Result, Ok, Err, IfOk, IfErr, IfSome, ap, sym, subst}
+use Rattle.std.proofs.Common.{◌≡◌, ◌⊎◌, ◌∙◌, inl, inr, ℕ, Bool, true, false, List, Option, Some, None, is_some, Result, Ok, Err, IfOk, IfErr, IfSome, ap, sym, subst}
 use Rattle.std.specs.Prelude.{Vec}
+use Rattle.std.proofs.lemmas.Option.{same_Some}
 use Rattle.std.specs.declared.alloc.Global.{Global}
 use Rattle.bench_run.specs.Lines.{rehearsal_lines}
 use Rattle.bench_run.specs.Outcomes.{IsOutcomeOf, IsUnplayedOf, outcome_status}
@@ -10,7 +11,7 @@ use Rattle.bench_run.specs.declared.values.Outcome.TheVariants as outcome
 use Rattle.bench_run.specs.declared.values.Unplayed.{Unplayed}
 use Rattle.cert_check.specs.Accepts.{IsAnswer}
 use Rattle.cert_check.specs.declared.answers.Answer.{Answer}
-use Rattle.cert_check.specs.declared.answers.Answer.TheVariants as answer
+use Rattle.cert_check.specs.declared.answers.Answer.TheVariants as said
 use Rattle.cert_check.proofs.AnswerLemmas.{judged_safe}
 use Rattle.given_plans.specs.Sources.{GiveThePlan, HaltsAtTexts, ReadsTexts, after_all, bytes_of}
 use Rattle.given_plans.specs.declared.plans.GivenPlan.{GivenPlan}
@@ -71,11 +72,11 @@ self_rehearsed_plan plan starters answers fill cert it own h judged report statu
 
 -- ---- the certificate for a plan itself
 
-safe_for_one : (answer : Answer) → Answers (Ok answer.Safe) (Ok answer) → answer ≡ answer.Safe
+safe_for_one : (answer : Answer) → Answers (Ok said.Safe) (Ok answer) → answer ≡ said.Safe
 safe_for_one answer (inl is) = cc
 safe_for_one answer (inr is) = cc
 
-unsafe_for_one : (answer : Answer) → Answers (Ok answer.Unsafe) (Ok answer) → answer ≡ answer.Unsafe
+unsafe_for_one : (answer : Answer) → Answers (Ok said.Unsafe) (Ok answer) → answer ≡ said.Unsafe
 unsafe_for_one answer (inl is) = cc
 unsafe_for_one answer (inr is) = cc
 
@@ -99,7 +100,7 @@ answer_judges plan limits cert answer own right =
     answer_judges_so plan limits cert answer own right judged.0 judged.1
 
 pub outcome_judges : (plan : Contents) → IsWithinLimits plan → (starters : List ℕ) (answers : List Bool) (fill : Bool) (cert : List ℕ) (it : Outcome) → IsCertificateText plan cert → IsOutcomeOf plan starters answers fill cert it → Judges (outcome_status it) plan
-outcome_judges plan limits starters answers fill cert (outcome.Played it) own h = answer_judges plan limits cert answer.Safe own h.certified
+outcome_judges plan limits starters answers fill cert (outcome.Played it) own h = answer_judges plan limits cert said.Safe own h.certified
 outcome_judges plan limits starters answers fill cert (outcome.NotAccepted it) own h = answer_judges plan limits cert it.answer own h.right
 
 -- ---- where no bench is opened
@@ -114,13 +115,23 @@ given_of plan provenance = record { plan = plan; provenance = provenance }
 given_back : (given it : GivenPlan) → it.plan ≡ given.plan → it.provenance ≡ given.provenance → it ≡ given
 given_back given it plan provenance = ap (λ (p : Plan). given_of p it.provenance) plan ∙ ap (λ (q : Provenance). given_of given.plan q) provenance
 
+one_of : {A : Type 0} (o : Option A) (x y : A) → o ≡ Some x → o ≡ Some y → x ≡ y
+one_of o x y first second = same_Some x y (sym first ∙ second)
+
+none_of : {A : Type 0} (o : Option A) (x : A) → o ≡ Some x → o ≡ None → ⊥
+none_of o x some none = let clash : true ≡ false = ap is_some (sym some ∙ none) in cc
+
+back_is : (given : GivenPlan) (starters cert : List ℕ) (it : Unplayed) (b : GivenPlan) → it.plan ≡ Some b.plan → b.provenance ≡ given.provenance → IsUnplayedOf given.plan starters cert it → b ≡ given
+back_is given starters cert it b plan provenance (inl none) = absurd (none_of it.plan b.plan plan none.1)
+back_is given starters cert it b plan provenance (inr h) = given_back given b (one_of it.plan b.plan given.plan plan h.2) provenance
+
 pub handed_back : (given : GivenPlan) (starters cert : List ℕ) (it : Unplayed) (back : Option GivenPlan) → IsUnplayedOf given.plan starters cert it →
     IfSome back (λ b. (it.plan ≡ Some b.plan) × (b.provenance ≡ given.provenance)) → IfSome back (λ b. b ≡ given)
-handed_back given starters cert it None h back = tt
-handed_back given starters cert it (Some b) (inl none) back = cc
-handed_back given starters cert it (Some b) (inr h) back =
-    let same : b.plan ≡ given.plan = cc in
-    given_back given b same back.1
+handed_back given starters cert it back why h = by_case back h
+  where
+    by_case : (o : Option GivenPlan) → IfSome o (λ b. (it.plan ≡ Some b.plan) × (b.provenance ≡ given.provenance)) → IfSome o (λ b. b ≡ given)
+    by_case None k = tt
+    by_case (Some b) k = back_is given starters cert it b k.0 k.1 why
 
 module _ {E : Type 0} (reader : Reader E) (starters : List ℕ) (plan : Contents) (before now : E) (cert : List ℕ) (read : ReadsText reader before cert now) where
   halts_at : (error : RunError) → LacksBench plan starters cert error → HaltsAtStarters reader starters plan before error now

@@ -150,12 +150,12 @@ fn rehearse_given<R: Threads + Wait + Clock + Sync>(
             cert,
             provenance,
         }),
-        Err(unplayed) => Err(unrehearsed(unplayed, provenance)),
+        Err(unplayed) => Err(stopped_by(unplayed, provenance)),
     }
 }
 
 // Why it goes no further, with what the plan was read from.
-fn unrehearsed(unplayed: Unplayed, provenance: Provenance) -> Unrehearsed
+fn stopped_by(unplayed: Unplayed, provenance: Provenance) -> Unrehearsed
     ensures error { result.halted.error ≡ unplayed.error }
     ensures no_text { IfSome result.halted.text (λ it. ⊥) }
     ensures back { IfSome result.given (λ it. (unplayed.plan ≡ Some it.plan) × (it.provenance ≡ provenance)) }

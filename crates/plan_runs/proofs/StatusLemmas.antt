@@ -1,5 +1,5 @@
 -- The statuses of runs over what gives a plan.
-use Rattle.std.proofs.Common.{◌≡◌, ℕ, Bool, List, Result, Ok, Err, IfOk, inl, inr, refl, subst, sym}
+use Rattle.std.proofs.Common.{◌≡◌, ◌∙◌, ℕ, Bool, List, Result, Ok, Err, IfOk, inl, inr, refl, subst, sym}
 use Rattle.bench_run.specs.Outcomes.{IsOutcomeOf, outcome_status}
 use Rattle.bench_run.specs.declared.values.Outcome.{Outcome}
 use Rattle.bench_run.specs.declared.values.Outcome.TheVariants as outcome
@@ -67,13 +67,11 @@ module _ {D E : Type 0} (first : Reader D) (second : Reader E) (before now : Lis
   is_benched writer out out_now (Ok it) h = benched writer out out_now it.1 h
   is_benched writer out out_now (Err e) h = tt
 
-  pub is_rehearsed : (r : Result GivenOutcome Unrehearsed) → IfOk r (λ it. ReadsTexts first before.0 (bytes_of it.provenance.texts.items) now.0) → IfOk r (λ it. ReadsText second before.1 it.cert.items now.1) →
-      IfOk r (λ it. (plan : Contents) × GiveThePlan (bytes_of it.provenance.texts.items) plan × IsOutcomeOf plan starters answers fill it.cert.items it.outcome) →
-      IfOk r (λ it. IsAnswered first second before (outcome_status it.outcome) now)
-  is_rehearsed (Ok it) read cert_read h =
+  pub is_rehearsed : (it : GivenOutcome) (status : Status) → status ≡ outcome_status it.outcome → ReadsTexts first before.0 (bytes_of it.provenance.texts.items) now.0 → ReadsText second before.1 it.cert.items now.1 →
+      ((plan : Contents) × GiveThePlan (bytes_of it.provenance.texts.items) plan × IsOutcomeOf plan starters answers fill it.cert.items it.outcome) → IsAnswered first second before status now
+  is_rehearsed it status is read cert_read h =
       let by = status_of_outcome starters answers fill h.0 it.cert.items it.outcome h.2 in
-      record { texts = bytes_of it.provenance.texts.items; cert = it.cert.items; read = read; cert_read = cert_read; plan = h.0; given = h.1; answer = by.0; right = by.1; ended = by.2 }
-  is_rehearsed (Err e) read cert_read h = tt
+      record { texts = bytes_of it.provenance.texts.items; cert = it.cert.items; read = read; cert_read = cert_read; plan = h.0; given = h.1; answer = by.0; right = by.1; ended = is ∙ by.2 }
 
 module _ {D : Type 0} (reader : Reader D) (befores nows : List D) (starters : List ℕ) (answers : List Bool) (fill : Bool) where
   pub is_judged : {X O : Type 0} (writer : Writer O) (out out_now : O) (r : Result (X × Status) Unrehearsed) →
@@ -81,8 +79,8 @@ module _ {D : Type 0} (reader : Reader D) (befores nows : List D) (starters : Li
   is_judged writer out out_now (Ok it) h = record { texts = h.texts; read = h.read; plan = h.due.plan; given = h.due.given; holds = h.due.due.judged }
   is_judged writer out out_now (Err e) h = tt
 
-  pub is_self_judged : (r : Result GivenOutcome Unrehearsed) → IfOk r (λ it. ReadsTexts reader befores (bytes_of it.provenance.texts.items) nows) →
-      IfOk r (λ it. (plan : Contents) × GiveThePlan (bytes_of it.provenance.texts.items) plan × IsCertificateText plan it.cert.items × IsOutcomeOf plan starters answers fill it.cert.items it.outcome × Judges (outcome_status it.outcome) plan) →
-      IfOk r (λ it. OfGivenPlan reader (Judges (outcome_status it.outcome)) befores nows)
-  is_self_judged (Ok it) read h = record { texts = bytes_of it.provenance.texts.items; read = read; plan = h.0; given = h.1; holds = h.4 }
-  is_self_judged (Err e) read h = tt
+  pub is_self_judged : (it : GivenOutcome) (status : Status) → status ≡ outcome_status it.outcome → ReadsTexts reader befores (bytes_of it.provenance.texts.items) nows →
+      ((plan : Contents) × GiveThePlan (bytes_of it.provenance.texts.items) plan × IsCertificateText plan it.cert.items × IsOutcomeOf plan starters answers fill it.cert.items it.outcome × Judges (outcome_status it.outcome) plan) →
+      OfGivenPlan reader (Judges status) befores nows
+  is_self_judged it status is read h =
+      record { texts = bytes_of it.provenance.texts.items; read = read; plan = h.0; given = h.1; holds = subst (λ (s : Status). Judges s h.0) (sym is) h.4 }

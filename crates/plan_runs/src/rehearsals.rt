@@ -1,8 +1,8 @@
 // The run of a bench: it finds what comes of a plan and its certificate, and writes that in the form that is wanted. The exact
 // form is that of `given_runs`, by its call.
 
-ghost use Rattle.std.specs.Prelude.{◌≡◌, IfOk};
-ghost use Rattle.bench_run.specs.Outcomes.{HasWinners, outcome_status};
+ghost use Rattle.std.specs.Prelude.{IfOk};
+ghost use Rattle.bench_run.specs.Outcomes.{HasWinners};
 ghost use Rattle.given_plans.specs.Sources.{DueFor, ReadsTexts};
 ghost use Rattle.given_runs.specs.Due.{RehearsedPlan, SelfRehearsedPlan};
 ghost use Rattle.given_runs.specs.Inputs.{DueForBoth, ReadsTextsAndOne};
@@ -66,8 +66,15 @@ pub fn bench<
         (plans.old.readers.items, cert.old) it.status (plans.new.readers.items, cert.new)) }
 {
     let answers = bits_of(rt.alloc(), play.answers, play.rest)?;
-    let told = bench_by_form(rt, plans, cert, out, play, answers.as_slice(), extras)?;
-    end(rt, told, canvas)
+    let Told {
+        found,
+        status,
+        remark,
+    } = bench_by_form(rt, plans, cert, out, play, answers.as_slice(), extras)?;
+    if let Some(canvas) = canvas {
+        draw_outcome(rt, &found.outcome, canvas)?;
+    }
+    Ok(Ended { status, remark })
 }
 
 /// Rehearses the plan that the readers give by the certificate that is made of it here.
@@ -87,8 +94,15 @@ pub fn bench_alone<
         plans.old.readers.items plans.new.readers.items) }
 {
     let answers = bits_of(rt.alloc(), play.answers, play.rest)?;
-    let told = alone_by_form(rt, plans, out, play, answers.as_slice(), extras)?;
-    end(rt, told, canvas)
+    let Told {
+        found,
+        status,
+        remark,
+    } = alone_by_form(rt, plans, out, play, answers.as_slice(), extras)?;
+    if let Some(canvas) = canvas {
+        draw_outcome(rt, &found.outcome, canvas)?;
+    }
+    Ok(Ended { status, remark })
 }
 
 // A rehearsal that was written: what came of it, its status, and what is to be said to people.
@@ -97,25 +111,6 @@ struct Told {
     found: GivenOutcome,
     status: Status,
     remark: Remark,
-}
-
-// Draws the waves.
-fn end<R: Files + Print + Eprint + Clock + AllocGlobal>(
-    rt: &R,
-    told: Told,
-    canvas: Option<Canvas<'_, '_>>,
-) -> Result<Ended, Halt>
-    ensures { IfOk result (λ it. it.status ≡ told.status) }
-{
-    let Told {
-        found,
-        status,
-        remark,
-    } = told;
-    if let Some(canvas) = canvas {
-        draw_outcome(rt, &found.outcome, canvas)?;
-    }
-    Ok(Ended { status, remark })
 }
 
 // ---- by a certificate
@@ -166,7 +161,14 @@ fn bench_exactly<R: AllocGlobal + Threads + Wait + Clock + Sync, I: Input, J: In
         fill,
         answers,
     ) {
-        Ok((found, status)) => Ok(told_of(rt.alloc(), found, status, plans, extras)),
+        Ok((found, status)) => {
+            let remark = remark_on_found(rt.alloc(), &found, plans, extras);
+            Ok(Told {
+                found,
+                status,
+                remark,
+            })
+        }
         Err(stopped) => Err(halt_of(rt.alloc(), stopped, plans, play, extras)),
     }
 }
@@ -212,12 +214,20 @@ fn bench_in_form<R: AllocGlobal + Threads + Wait + Clock + Sync, I: Input, J: In
         fill,
         answers,
     ) {
-        Ok(found) => tell_found(rt.alloc(), found, plans, out, play.explain, extras),
+        Ok((found, status)) => {
+            write_in_form(rt.alloc(), &found, plans, out, play.explain, extras)?;
+            let remark = remark_on_found(rt.alloc(), &found, plans, extras);
+            Ok(Told {
+                found,
+                status,
+                remark,
+            })
+        }
         Err(stopped) => Err(halt_of(rt.alloc(), stopped, plans, play, extras)),
     }
 }
 
-// What is found by the readers themselves.
+// What is found by the readers themselves, and the status.
 fn find_by<R: AllocGlobal + Threads + Wait + Clock + Sync, I: Input, J: Input>(
     rt: &R,
     readers: &mut [I],
@@ -225,12 +235,18 @@ fn find_by<R: AllocGlobal + Threads + Wait + Clock + Sync, I: Input, J: Input>(
     starters: &str,
     fill: bool,
     answers: &[bool],
-) -> Result<GivenOutcome, Unrehearsed>
+) -> Result<(GivenOutcome, Status), Unrehearsed>
     ensures answered { IfOk result (λ it. IsAnswered I.reader J.reader
-        (readers.old, cert.old) (outcome_status it.outcome) (readers.new, cert.new)) }
-    ensures winners { IfOk result (λ it. HasWinners it.outcome) }
+        (readers.old, cert.old) it.1 (readers.new, cert.new)) }
+    ensures winners { IfOk result (λ it. HasWinners it.0.outcome) }
 {
-    find_rehearsed(rt, rt.alloc(), readers, cert, starters, fill, answers)
+    match find_rehearsed(rt, rt.alloc(), readers, cert, starters, fill, answers) {
+        Ok(found) => {
+            let status = status_of_outcome(&found.outcome);
+            Ok((found, status))
+        }
+        Err(stopped) => Err(stopped),
+    }
 }
 
 // ---- without a certificate
@@ -277,7 +293,14 @@ fn alone_exactly<R: AllocGlobal + Threads + Wait + Clock + Sync, I: Input, O: Ou
         fill,
         answers,
     ) {
-        Ok((found, status)) => Ok(told_of(rt.alloc(), found, status, plans, extras)),
+        Ok((found, status)) => {
+            let remark = remark_on_found(rt.alloc(), &found, plans, extras);
+            Ok(Told {
+                found,
+                status,
+                remark,
+            })
+        }
         Err(stopped) => Err(halt_of(rt.alloc(), stopped, plans, play, extras)),
     }
 }
@@ -312,7 +335,15 @@ fn alone_in_form<R: AllocGlobal + Threads + Wait + Clock + Sync, I: Input, O: Ou
 {
     let Play { starters, fill, .. } = play;
     match find_alone(rt, plans.readers.as_mut_slice(), starters, fill, answers) {
-        Ok(found) => tell_found(rt.alloc(), found, plans, out, play.explain, extras),
+        Ok((found, status)) => {
+            write_in_form(rt.alloc(), &found, plans, out, play.explain, extras)?;
+            let remark = remark_on_found(rt.alloc(), &found, plans, extras);
+            Ok(Told {
+                found,
+                status,
+                remark,
+            })
+        }
         Err(stopped) => Err(halt_of(rt.alloc(), stopped, plans, play, extras)),
     }
 }
@@ -323,50 +354,22 @@ fn find_alone<R: AllocGlobal + Threads + Wait + Clock + Sync, I: Input>(
     starters: &str,
     fill: bool,
     answers: &[bool],
-) -> Result<GivenOutcome, Unrehearsed>
-    ensures judged { IfOk result (λ it. OfGivenPlan I.reader (Judges (outcome_status it.outcome)) readers.old readers.new) }
-    ensures winners { IfOk result (λ it. HasWinners it.outcome) }
+) -> Result<(GivenOutcome, Status), Unrehearsed>
+    ensures judged { IfOk result (λ it. OfGivenPlan I.reader (Judges it.1) readers.old readers.new) }
+    ensures winners { IfOk result (λ it. HasWinners it.0.outcome) }
 {
-    find_self_rehearsed(rt, rt.alloc(), readers, starters, fill, answers)
+    match find_self_rehearsed(rt, rt.alloc(), readers, starters, fill, answers) {
+        Ok(found) => {
+            let status = status_of_outcome(&found.outcome);
+            Ok((found, status))
+        }
+        Err(stopped) => Err(stopped),
+    }
 }
 
 // ---- what is written of it, and what is said
 
-// What was written, and what is to be said of it.
-fn told_of<I: Input>(
-    alloc: Global,
-    found: GivenOutcome,
-    status: Status,
-    plans: &Sources<'_, I>,
-    extras: Extras,
-) -> Told
-    ensures { result.status ≡ status }
-{
-    let remark = remark_on_found(alloc, &found, plans, extras);
-    Told {
-        found,
-        status,
-        remark,
-    }
-}
-
 // Writes what came of it, in this form.
-fn tell_found<I: Input, O: Output>(
-    alloc: Global,
-    found: GivenOutcome,
-    plans: &Sources<'_, I>,
-    out: &mut O,
-    explain: bool,
-    extras: Extras,
-) -> Result<Told, Halt>
-    requires { HasWinners found.outcome }
-    ensures { IfOk result (λ it. it.status ≡ outcome_status found.outcome) }
-{
-    write_in_form(alloc, &found, plans, out, explain, extras)?;
-    let status = status_of_outcome(&found.outcome);
-    Ok(told_of(alloc, found, status, plans, extras))
-}
-
 fn write_in_form<I: Input, O: Output>(
     alloc: Global,
     found: &GivenOutcome,

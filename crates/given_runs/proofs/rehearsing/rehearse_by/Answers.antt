@@ -23,4 +23,4 @@ returns-in-Ok-clause-stops g c =
 pub returns-in-Err-clause-stops : goal.returns-in-Err-clause-stops
 returns-in-Err-clause-stops g c =
     subst (λ (e : RunError). HaltsAtStarters g.J.Input.reader c.args.starters.now (plan_contents c.args.given.plan) c.args.cert.now e c.read_within.new.reader)
-    (sym (ap (λ (h : Halted). h.error) c.from-2.ensures.0 ∙ c.from.ensures.0)) (unread c.in-Err.ensures.stops)
+    (sym (ap (λ (h : Halted). h.error) c.from-in-Err.ensures.0 ∙ c.from.ensures.0)) (unread c.in-Err.ensures.stops)

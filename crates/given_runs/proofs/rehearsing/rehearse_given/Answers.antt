@@ -11,8 +11,8 @@ returns-in-Ok-clause-outcome g c =
 pub returns-in-Err-clause-refused : goal.returns-in-Err-clause-refused
 returns-in-Err-clause-refused g c =
     let why = subst (λ (t : List ℕ). IsUnplayedOf c.args.given.plan c.args.starters.now t c.in-Err.unplayed) c.as_slice.ensures.value c.in-Err.ensures.refused in
-    lacks_bench c.args.given.plan c.args.starters.now c.args.cert.items c.in-Err.unplayed c.unrehearsed.result.halted.error c.unrehearsed.ensures.error why
+    lacks_bench c.args.given.plan c.args.starters.now c.args.cert.items c.in-Err.unplayed c.stopped_by.result.halted.error c.stopped_by.ensures.error why
 
 pub returns-in-Err-clause-back : goal.returns-in-Err-clause-back
 returns-in-Err-clause-back g c =
-    handed_back c.args.given c.args.starters.now c.as_slice.result.now c.in-Err.unplayed c.unrehearsed.result.given c.in-Err.ensures.refused c.unrehearsed.ensures.back
+    handed_back c.args.given c.args.starters.now c.as_slice.result.now c.in-Err.unplayed c.stopped_by.result.given c.in-Err.ensures.refused c.stopped_by.ensures.back
