@@ -6,12 +6,12 @@ use bus_rows::{Labels, labels_of};
 use capture_check::Transaction;
 use decoding::{Ending, ExplainedSink};
 use drives::{Does, Judged, Judging, Verdict};
+use dump_findings::{Explains, Layout, Others, Selection, Tallies};
 use object_lines::ObjectLines;
 use plan_core::Plan;
 use plan_words::PlanWords;
 use run_parts::{Output, RunError};
 use std::alloc::{AllocError, Global};
-use transaction_lines::{Explains, Layout, Others, Selection, Tallies};
 
 /// Writes the objects of a capture.
 pub struct CaptureObjects<'a, 'w, O> {
@@ -45,7 +45,7 @@ impl<O> Drop for CaptureObjects<'_, '_, O> {
 
 impl<'a, 'w, O: Output> CaptureObjects<'a, 'w, O> {
     ghost use Rattle.std.specs.Prelude.{◌≡◌, IfOk};
-    ghost use Rattle.transaction_lines.specs.Statuses.{departed_in};
+    ghost use Rattle.dump_findings.specs.Statuses.{departed_in};
 
     /// Nothing has been written of a capture that is explained by the plan of these words.
     ///

@@ -4,11 +4,11 @@ use crate::transactions::{push_bytes, push_count, push_made, push_times};
 use crate::written::Written;
 use capture_check::Transaction;
 use decoding::TransactionSink;
+use dump_findings::{Addresses, Calls, Selection};
 use growing_text::Text;
 use object_lines::ObjectLines;
 use run_parts::{Output, RunError};
 use std::alloc::{AllocError, Global};
-use transaction_lines::{Addresses, Calls, Selection};
 
 /// Writes the objects of transactions with their bytes.
 #[derive(Drop)]

@@ -2,13 +2,13 @@
 
 use bus_rows::{Labels, bytes_of};
 use capture_check::{Mark, Transaction, Until};
+use dump_findings::{Cut, Cuts, Leaves, Selection, nearest};
 use dump_tokens::Scale;
 use message_tree::Bit;
 use object_lines::{ObjectLines, one_at};
 use places::Offered;
 use plan_words::PlanWords;
 use std::alloc::AllocError;
-use transaction_lines::{Cut, Cuts, Leaves, Selection, nearest};
 
 /// When it begins and ends, and how.
 pub(crate) fn push_times(lines: &mut ObjectLines, transaction: &Transaction, scale: Option<Scale>) {

@@ -1,9 +1,9 @@
 // Objects that are written as they come.
 
+use dump_findings::Selection;
 use object_lines::ObjectLines;
 use run_parts::{Output, RunError};
 use std::alloc::Global;
-use transaction_lines::Selection;
 
 /// Objects, one a line, and where they are written.
 #[derive(Drop)]

@@ -6,8 +6,8 @@ use Rattle.run_ends.specs.declared.endings.Recorded.{Recorded}
 use Rattle.run_ends.specs.declared.endings.Recorded.TheVariants.{Bus, Bytes}
 use Rattle.run_ends.specs.declared.endings.Remark.{Remark}
 use Rattle.run_ends.specs.declared.endings.Remark.TheVariants.{Recording}
-use Rattle.transaction_lines.specs.Statuses.{JudgesSeen}
-use Rattle.transaction_lines.specs.declared.selecting.Seen.{Seen}
+use Rattle.dump_findings.specs.Statuses.{JudgesSeen}
+use Rattle.dump_findings.specs.declared.selecting.Seen.{Seen}
 
 -- what the transactions come to that a run told of
 abbrev pub seen_in : Recorded → Option Seen

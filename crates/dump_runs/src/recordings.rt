@@ -22,6 +22,7 @@ use byte_lines::{ByteCounts, write_decoded};
 use capture_check::Rises;
 use decoding::Explaining;
 use drives::Driving;
+use dump_findings::{Layout, Seen, Selection, status_of_seen};
 use dump_objects::{CaptureObjects, DecodeObjects, write_signals};
 use dump_tokens::{Bus, BusLines, Drives, Limits, Quiet, Window};
 use given_plans::{GivenPlan, Halted, Provenance};
@@ -40,7 +41,7 @@ use std::alloc::Global;
 use std::rt::Files;
 use std::thread::Threads;
 use std::time::Clock;
-use transaction_lines::{CaptureLines, DecodeLines, Layout, Seen, Selection, status_of_seen};
+use transaction_lines::{CaptureLines, DecodeLines};
 use vcd_read::{Probe, Wrong};
 use waves::wave_of_recording;
 

@@ -4,13 +4,13 @@ use crate::wires::{Span, Wired};
 use bus_rows::bytes_of;
 use capture_check::{Mark, Transaction, Until};
 use decoding::ExplainedSink;
+use dump_findings::{Leaves, Seen, Selection, mark_words, nearest, offer_words};
 use dump_tokens::Scale;
 use plan_core::Plan;
 use run_parts::RunError;
 use serde::Serialize;
 use signals::RecordedLines;
 use std::alloc::{AllocError, Global};
-use transaction_lines::{Leaves, Seen, Selection, mark_words, nearest, offer_words};
 
 /// The transactions that are told, in the order in which they ended.
 #[derive(Drop)]

@@ -7,6 +7,7 @@ ghost use Rattle.verdicts.specs.Faults.{AreFaults, fault_list};
 use bus_rows::Paint;
 use capture_check::{Rises, Transaction};
 use decoding::{ExplainedSink, Explaining};
+use dump_findings::{Layout, Selection};
 use dump_tokens::Bus;
 use given_plans::GivenPlan;
 use order::{order_of, order_report};
@@ -22,7 +23,7 @@ use spellings::print_plan;
 use std::alloc::{AllocError, Global};
 use std::str;
 use std::thread::Threads;
-use transaction_lines::{CaptureLines, Layout, Selection};
+use transaction_lines::CaptureLines;
 use verdicts::{Checked, NoGate};
 
 /// Writes the page of a plan.

@@ -7,6 +7,7 @@ use crate::messages::refused_at;
 use crate::styles::Format;
 use crate::voices::{Voice, refused, refused_drive, refused_timescale, say, say_these};
 use diagnostics::reason_of;
+use dump_findings::Seen;
 use dump_hints::{
     Names, on_bytes, on_choice, on_dump, on_recording, on_rises, on_signals, on_silence,
     on_unexplained,
@@ -23,7 +24,6 @@ use run_parts::{RunError, Status};
 use std::alloc::{AllocError, Global};
 use std::io::{self, Read, Seek};
 use std::time::Clock;
-use transaction_lines::Seen;
 use vcd_read::Probe;
 
 /// What hints say of a run beside its files.

@@ -3,6 +3,7 @@
 use crate::inputs::NamedSources;
 use capture_check::Rises;
 use diagnostics::{Diagnostic, diagnose_refusal};
+use dump_findings::Seen;
 use dump_tokens::Window;
 use given_plans::{Halted, RefusedText};
 use hints::{Earlier, Hints, RefusedIn, first_stand, missing_semicolon_at};
@@ -11,7 +12,6 @@ use refusal_objects::{Detail, EarlierAt, TextDetail};
 use run_parts::{RunError, Status};
 use std::alloc::{AllocError, Global};
 use std::io;
-use transaction_lines::Seen;
 use vcd_read::Wrong;
 
 /// A run that has ended with its report: its status, and what is to be said to people.

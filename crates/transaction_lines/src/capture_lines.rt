@@ -1,34 +1,22 @@
 // The lines of a capture, as its transactions end.
 
 use crate::captures::{after_transaction, below_transaction};
+use crate::counts::{push_stopped, push_tallies};
 use crate::drove::{below_drives, drives_line};
 use crate::moments::push_times;
 use crate::pulse_lines::pulse_line;
-use crate::selecting::Selection;
-use crate::tallies::{Tallies, push_stopped};
 use crate::written::Written;
 use bus_rows::{Labels, Paint, called_by, labels_of};
 use capture_check::{Transaction, Until};
 use decoding::{Ending, ExplainedSink};
 use drives::Judging;
+use dump_findings::{Layout, Selection, Tallies};
 use dump_tokens::Quiet;
 use growing_text::Text;
 use plan_core::Plan;
 use plan_words::PlanWords;
 use run_parts::{Output, RunError};
 use std::alloc::{AllocError, Global};
-
-/// How the lines of a capture are written.
-#[derive(Clone, Copy)]
-pub struct Layout {
-    /// Whether lines for people stand below those of transactions.
-    pub explain: bool,
-    pub paint: Paint,
-    /// Whether all that has ended is written before the dump is read on.
-    pub live: bool,
-    /// Whether the first transaction that nobody explains is the last one.
-    pub stops: bool,
-}
 
 /// Writes the lines of a capture.
 pub struct CaptureLines<'a, 'w, O> {
@@ -68,7 +56,7 @@ impl<O> Drop for CaptureLines<'_, '_, O> {
 
 impl<'a, 'w, O: Output> CaptureLines<'a, 'w, O> {
     ghost use Rattle.std.specs.Prelude.{◌≡◌, IfOk};
-    ghost use Rattle.transaction_lines.specs.Statuses.{departed_in};
+    ghost use Rattle.dump_findings.specs.Statuses.{departed_in};
 
     /// Nothing has been written of a capture that is explained by the plan of these words.
     ///
@@ -234,7 +222,7 @@ impl<'a, 'w, O: Output> CaptureLines<'a, 'w, O> {
             has_stopped: _,
         } = self;
         if let Some(tallies) = &tallies {
-            tallies.push_to(&mut written.text, &labels);
+            push_tallies(&mut written.text, tallies, &labels);
         }
         if let Some(judging) = &judging {
             selection.departed = judging.wrong;

@@ -1,12 +1,11 @@
 // Lines for people below those of transactions.
 
-use crate::glitches::{Cut, Cuts};
-use crate::leaving::{Leaves, NEAREST, bytes_until, mark_words, nearest, offer_words};
 use bus_rows::{
     ALIKE, BYTES, Bytes, Labels, begin, bus_row, row_of, row_of_marks, say_all, tell_item,
     tell_rows,
 };
 use capture_check::{Mark, Transaction, Until};
+use dump_findings::{Cut, Cuts, Leaves, NEAREST, bytes_until, mark_words, nearest, offer_words};
 use growing_text::{Lines, Text};
 use plan_core::Plan;
 use plan_words::PlanWords;

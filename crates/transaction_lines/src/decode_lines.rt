@@ -1,13 +1,12 @@
 // The lines of the transactions of a dump, without a plan.
 
-use crate::addresses::Addresses;
+use crate::counts::{push_addresses, push_stopped};
 use crate::moments::push_times;
-use crate::selecting::Selection;
-use crate::tallies::push_stopped;
 use crate::written::Written;
 use bus_rows::with_bytes;
 use capture_check::{Transaction, Until};
 use decoding::TransactionSink;
+use dump_findings::{Addresses, Selection};
 use growing_text::Text;
 use run_parts::{Output, RunError};
 use std::alloc::{AllocError, Global};
@@ -90,7 +89,7 @@ impl<'a, O: Output> DecodeLines<'a, O> {
         ensures { self.new.selection ≡ self.old.selection }
     {
         if let Some(addresses) = &self.addresses {
-            addresses.push_to(&mut self.written.text);
+            push_addresses(&mut self.written.text, addresses);
         }
         push_stopped(&mut self.written.text, self.selection.seen);
         self.written.text.push("\n");

@@ -9,7 +9,7 @@ use std::alloc::{AllocError, Global};
 use std::mem;
 
 /// How many participants are named for a transaction.
-pub(crate) const NEAREST: usize = 3;
+pub const NEAREST: usize = 3;
 
 /// Where a participant leaves a transaction: how many marks it goes along with, and what it does then.
 #[derive(Clone, Copy)]
@@ -63,7 +63,11 @@ fn leaving(start: Place<'_>, marks: &[Mark]) -> (usize, Offered) {
 }
 
 /// The bytes of who goes along with these marks, up to the end of the one in which it leaves them.
-pub(crate) fn bytes_until(
+///
+/// # Errors
+///
+/// Where an allocation fails.
+pub fn bytes_until(
     alloc: Global,
     plan: &Plan,
     leaves: Leaves,

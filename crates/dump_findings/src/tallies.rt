@@ -1,9 +1,7 @@
 // How often each participant explains a transaction.
 
-use crate::selecting::{Seen, Selection};
-use bus_rows::Labels;
+use crate::selecting::Selection;
 use capture_check::{Transaction, Until};
-use growing_text::Text;
 use plan_core::Plan;
 use std::alloc::{AllocError, Global};
 
@@ -85,33 +83,4 @@ impl Tallies {
             }
         }
     }
-
-    /// The lines of the summary: the participants in the order of their numbers, and then the rest.
-    pub(crate) fn push_to(&self, text: &mut Text, labels: &Labels) {
-        for (label, count) in labels.all().iter().zip(self.senders.as_slice()) {
-            text.push(label.as_str());
-            push_count(text, " ", count.alone);
-            push_count(text, " alone, ", count.with_others);
-            text.push(" with others\n");
-        }
-        push_others(text, self.others);
-    }
-}
-
-fn push_others(text: &mut Text, others: Others) {
-    push_count(text, "unexplained ", others.unexplained);
-    push_count(text, "\ncut ", others.cut);
-    push_count(text, "\nunfinished ", others.unfinished);
-    text.push("\n");
-}
-
-pub(crate) fn push_count(text: &mut Text, before: &str, count: u64) {
-    text.push(before);
-    text.push_number(count);
-}
-
-/// Adds `N transactions`.
-pub(crate) fn push_stopped(text: &mut Text, seen: Seen) {
-    text.push_number(seen.stopped);
-    text.push(" transactions");
 }

@@ -1,9 +1,7 @@
 // How often each address of a recorded bus was called.
 
 use crate::selecting::Selection;
-use crate::tallies::push_count;
 use capture_check::{Mark, Transaction, Until};
-use growing_text::Text;
 use std::alloc::{AllocError, Global};
 
 // How many headers there are: an address of seven bits, and a direction.
@@ -82,18 +80,6 @@ impl Addresses {
     pub fn calls(&self) -> &[Calls] {
         self.calls.as_slice()
     }
-
-    /// The lines of the summary.
-    pub(crate) fn push_to(&self, text: &mut Text) {
-        for calls in self.calls.as_slice() {
-            if calls.times != 0 {
-                push_calls(text, *calls);
-            }
-        }
-        push_count(text, "cut ", self.cut);
-        push_count(text, "\nunfinished ", self.unfinished);
-        text.push("\n");
-    }
 }
 
 // The bits of the header that goes on, if one does.
@@ -127,17 +113,4 @@ impl Header {
             None
         }
     }
-}
-
-fn push_calls(text: &mut Text, calls: Calls) {
-    let Calls {
-        header,
-        times,
-        nacks,
-    } = calls;
-    text.push_hex(header >> 1);
-    text.push(if header & 1 == 1 { " Rd " } else { " Wr " });
-    text.push_number(times);
-    push_count(text, " times, ", nacks);
-    text.push(" not acknowledged\n");
 }

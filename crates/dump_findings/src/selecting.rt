@@ -1,7 +1,7 @@
 // Which transactions are told, and what they come to.
 
 ghost use Rattle.std.specs.Prelude.{◌≡◌};
-ghost use Rattle.transaction_lines.specs.Statuses.{JudgesSeen, least_of};
+ghost use Rattle.dump_findings.specs.Statuses.{JudgesSeen, least_of};
 
 use capture_check::{Transaction, Until};
 use dump_tokens::{Scale, View};
@@ -43,7 +43,7 @@ pub struct Selection {
 
 impl Selection {
     ghost use Rattle.std.specs.Prelude.{◌≡◌, Some, None, nat_lt, if◌then◌else◌};
-    ghost use Rattle.transaction_lines.specs.Statuses.{JudgesSeen, least_of};
+    ghost use Rattle.dump_findings.specs.Statuses.{JudgesSeen, least_of};
 
     /// No transaction yet of a dump whose numbers count this.
     pub fn new(view: View, scale: Option<Scale>) -> Selection {

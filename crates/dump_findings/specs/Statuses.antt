@@ -3,7 +3,7 @@ use Rattle.std.specs.Prelude.{◌≡◌, ◌≤◌, ℕ, Option, Some, None}
 use Rattle.run_parts.specs.declared.runs.Status.{Status}
 use Rattle.run_parts.specs.declared.runs.Status.TheVariants.{Good, Bad, Refused}
 use Rattle.drives.specs.declared.judging.Judging.{Judging}
-use Rattle.transaction_lines.specs.declared.selecting.Seen.{Seen}
+use Rattle.dump_findings.specs.declared.selecting.Seen.{Seen}
 
 -- how many of them a STOP was to end
 abbrev pub least_of : Option ℕ → ℕ
