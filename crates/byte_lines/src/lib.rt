@@ -1,7 +1,7 @@
 //! The exact lines of `decode`: the transactions of a dump in bytes.
 //!
 //! `bytes` writes what a transaction shows, `lines` its line and the one that counts. `telling` is the sink that gathers the
-//! lines, and `writing` the one that writes them. `runs` has the report of a dump, as a text and as it is written.
+//! lines, and `writing` the one that writes them. `runs` has the report of a dump, as it is written.
 #![tactic(auto)]
 
 mod bytes;
@@ -11,6 +11,5 @@ pub mod telling;
 mod writing;
 
 pub use lines::{push_count, push_transaction};
-pub use runs::{decoded_report, write_decoded};
-pub use telling::{ByteReport, ByteTelling};
+pub use runs::write_decoded;
 pub use writing::ByteCounts;

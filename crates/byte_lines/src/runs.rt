@@ -1,47 +1,18 @@
-// The report of a dump, as a text and as it is written.
+// The report of a dump, as it is written.
 
-ghost use Rattle.std.specs.Prelude.{ℕ, List, string_bytes, IfOk, IfErr};
-ghost use Rattle.byte_lines.specs.Decoded.{DecodeOf};
+ghost use Rattle.std.specs.Prelude.{IfOk, IfErr};
 ghost use Rattle.byte_lines.specs.DecodedRuns.{HaltsDecoded, TellsDecoded};
-ghost use Rattle.decoding.specs.Dumps.{HaltsAtDump};
-ghost use Rattle.run_parts.specs.Runs.{ReadsText};
 ghost use Rattle.vcd_read.specs.Views.{asked};
 
-use crate::telling::{ByteReport, ByteTelling};
+use crate::telling::ByteTelling;
 use crate::writing::{ByteCounts, ByteWriting, write_last};
 use decoding::decode;
 use run_parts::{Input, Output, RunError};
 use std::alloc::Global;
 use vcd_read::{Probe, Wrong};
 
-/// The report of the dump that the reader gives: its transactions in bytes, without the levels that a line has for less than
-/// `least`, in the unit of the dump. Where the dump is refused, `wrong` then has what is wrong, as far as there was memory for
-/// it.
-///
-/// # Errors
-///
-/// `Read` where the reader failed or gave no end, `Vcd` with the first refusal of the dump, and `NoMemory` where an allocation
-/// fails.
-pub fn decoded_report<J: Input>(
-    alloc: Global,
-    vcd: &mut J,
-    scl: Probe<'_>,
-    sda: Probe<'_>,
-    least: u64,
-    wrong: &mut Option<Wrong>,
-) -> Result<ByteReport, RunError>
-    ensures report { IfOk result (λ it. (dump : List ℕ) × ReadsText J.reader vcd.old dump vcd.new
-        × DecodeOf least (asked scl.entry) (asked sda.entry) dump (string_bytes it.report)) }
-    ensures stops { IfErr result (λ error.
-        HaltsAtDump J.reader (asked scl.entry) (asked sda.entry) vcd.old error vcd.new) }
-{
-    let mut telling = ByteTelling::new(alloc);
-    decode(alloc, vcd, scl, sda, least, &mut telling, wrong)?;
-    let report = telling.finish()?;
-    Ok(report)
-}
-
-/// Writes the same report while it reads the dump, in blocks, or live: then the lines of what has ended in a block of the dump
+/// Writes the transactions of the dump that the reader gives, in bytes, without the levels that a line has for less than `least`,
+/// in the unit of the dump. It writes while it reads, in blocks, or live: then the lines of what has ended in a block of the dump
 /// are written before the next block is read. Of a block in which the dump is refused these are the lines of all that ended
 /// before, and `wrong` then has what is wrong there, as far as there was memory for it.
 ///
