@@ -10,9 +10,11 @@ use Rattle.given_plans.specs.Sources.{DueFor, GiveThePlan, ReadsTexts, bytes_of}
 use Rattle.given_plans.specs.declared.plans.Halted.{Halted}
 use Rattle.given_runs.specs.Due.{AnsweredPlan, RehearsedPlan, SelfRehearsedPlan}
 use Rattle.given_runs.specs.Inputs.{DueForBoth, ReadsTextsAndOne}
+use Rattle.given_runs.specs.declared.checking.GivenCheck.{GivenCheck}
 use Rattle.given_runs.specs.declared.rehearsing.GivenOutcome.{GivenOutcome}
 use Rattle.given_runs.specs.declared.rehearsing.Unrehearsed.{Unrehearsed}
 use Rattle.plan_core.specs.Contents.{Contents}
+use Rattle.plan_core.specs.PlanContents.{plan_contents}
 use Rattle.plan_runs.specs.Statuses.{IsAnswered, IsOf, OfGivenPlan}
 use Rattle.report.specs.Checks.{Judges}
 use Rattle.run_parts.specs.Devices.{Reader, Writer}
@@ -43,6 +45,14 @@ module _ {D E O : Type 0} (first : Reader D) (second : Reader E) (writer : Write
 pub of_this : {D : Type 0} (reader : Reader D) (this : Contents) (P Q : Contents → Type 0) (befores nows : List D) → (P this → Q this) → OfGivenPlan reader (IsOf this P) befores nows → OfGivenPlan reader Q befores nows
 of_this reader this P Q befores nows f it =
     record { texts = it.texts; read = it.read; plan = it.plan; given = it.given; holds = subst Q (sym it.holds.0) (f it.holds.1) }
+
+module _ {D : Type 0} (reader : Reader D) (befores nows : List D) where
+  pub is_checked : (r : Result (GivenCheck × Status) Halted) → IfOk r (λ it. ReadsTexts reader befores (bytes_of it.0.provenance.texts.items) nows) →
+      IfOk r (λ it. GiveThePlan (bytes_of it.0.provenance.texts.items) (plan_contents it.0.checked.plan)) → IfOk r (λ it. Judges it.1 (plan_contents it.0.checked.plan)) →
+      IfOk r (λ it. OfGivenPlan reader (IsOf (plan_contents it.0.checked.plan) (Judges it.1)) befores nows)
+  is_checked (Ok it) read given judged =
+      record { texts = bytes_of it.0.provenance.texts.items; read = read; plan = plan_contents it.0.checked.plan; given = given; holds = (refl, judged) }
+  is_checked (Err e) read given judged = tt
 
 -- ---- rehearsals
 

@@ -130,10 +130,9 @@ fn check_exactly<R: AllocGlobal + Threads + Sync, I: Input, O: Output, G: Gate +
     ensures status { IfOk result (λ it. OfGivenPlan I.reader (IsOf (plan_contents it.found.checked.plan) (Judges it.status))
         plans.old.readers.items plans.new.readers.items) }
 {
-    let alloc = rt.alloc();
-    match check_given(rt, alloc, plans.readers.as_mut_slice(), out, workers, gate) {
+    match check_readers(rt, plans.readers.as_mut_slice(), out, workers, gate) {
         Ok((found, status)) => {
-            let remark = remark_later(alloc, &found, plans, extras);
+            let remark = remark_later(rt.alloc(), &found, plans, extras);
             Ok(Ran {
                 found,
                 status,
@@ -142,6 +141,24 @@ fn check_exactly<R: AllocGlobal + Threads + Sync, I: Input, O: Output, G: Gate +
         }
         Err(halted) => Err(plans.halt(halted)),
     }
+}
+
+// The same over the readers themselves.
+fn check_readers<R: AllocGlobal + Threads + Sync, I: Input, O: Output, G: Gate + Sync>(
+    rt: &R,
+    readers: &mut [I],
+    out: &mut O,
+    workers: u32,
+    gate: &G,
+) -> Result<(GivenCheck, Status), Halted>
+    ensures report { IfOk result (λ it. Reports (ReadsTexts I.reader) (DueFor CheckedPlan) O.writer
+        readers.old out.old it.1 readers.new out.new) }
+    ensures judged { IfOk result (λ it. OfGivenPlan I.reader (IsOf (plan_contents it.0.checked.plan) (Judges it.1))
+        readers.old readers.new) }
+    ensures faults { IfOk result (λ it.
+        AreFaults (plan_contents it.0.checked.plan) (fault_list it.0.checked.faults)) }
+{
+    check_given(rt, rt.alloc(), readers, out, workers, gate)
 }
 
 // What is to be said of a plan whose exact report was written. Where there is no memory for that, nothing is.
