@@ -10,14 +10,14 @@ convert=$top/tools/csv_to_vcd
 
 if command -v python3 >/dev/null; then
     # Each example is the transaction of examples/probe_*.vcd: a START at 5 us, a STOP at 160 us.
-    probe=$'5-160 service/probe_10\n1 transactions, 0 unexplained\nstatus 0'
+    probe=$'5-160 service/probe_10\n1 transactions, 0 unexplained, status 0'
     "$convert" "$examples/probe_logic.csv" >logic.vcd
     same "Logic 2" "$probe" "$(answer capture "$plan" logic.vcd --scl "Channel 0" --sda "Channel 1")"
     "$convert" "$examples/probe_kingst.csv" >kingst.vcd
     same "Kingst" "$probe" "$(answer capture "$plan" kingst.vcd --scl "Channel 0" --sda "Channel 1")"
     "$convert" "$examples/probe_pulseview.csv" >pulseview.vcd
     same "PulseView" "$probe" "$(answer capture "$plan" pulseview.vcd --scl "I2C SCL" --sda "I2C SDA")"
-    same "in parts of a second" $'5 us-160 us service/probe_10\n1 transactions, 0 unexplained\nstatus 0' \
+    same "in parts of a second" $'5 us-160 us service/probe_10\n1 transactions, 0 unexplained, status 0' \
         "$(answer capture "$plan" logic.vcd --scl "Channel 0" --sda "Channel 1" --times si)"
     same "a table from a pipe" "$(cat logic.vcd)" "$("$convert" /dev/stdin < <(cat "$examples/probe_logic.csv"))"
     same "one that stands in a file" "$(cat logic.vcd)" "$("$convert" /dev/stdin <"$examples/probe_logic.csv")"
@@ -160,20 +160,16 @@ v2=$'refused V2 line 1\n'
 for command in "capture $plan" decode learn signals "page $plan --capture"; do
     read -ra words <<<"$command"
     same "FST: ${words[0]}" "$v2$fst
-hint:   fst2vcd bus.fst > bus.vcd
-status 2" "$(answer "${words[@]}" bus.fst --hints always)"
+hint:   fst2vcd bus.fst > bus.vcd, status 2" "$(answer "${words[@]}" bus.fst --hints always)"
     same "a session: ${words[0]}" "$v2$session
-hint:   sigrok-cli -i bus.sr -O vcd > bus.vcd
-status 2" "$(answer "${words[@]}" bus.sr --hints always)"
+hint:   sigrok-cli -i bus.sr -O vcd > bus.vcd, status 2" "$(answer "${words[@]}" bus.sr --hints always)"
     same "a table: ${words[0]}" "$v2$rows
-hint:   tools/csv_to_vcd bus.csv > bus.vcd
-status 2" "$(answer "${words[@]}" bus.csv --hints always)"
-    same "no hint: ${words[0]}" "${v2}status 2" "$(answer "${words[@]}" bus.csv)"
+hint:   tools/csv_to_vcd bus.csv > bus.vcd, status 2" "$(answer "${words[@]}" bus.csv --hints always)"
+    same "no hint: ${words[0]}" "${v2%$'\n'}, status 2" "$(answer "${words[@]}" bus.csv)"
 done
 same "FST in the place of a plan" "refused P3 line 1
 hint: this is an FST file, as GTKWave has it: 'fst2vcd FILE' writes the dump
-hint: that it holds
-status 2" "$(answer check bus.fst --hints always)"
+hint: that it holds, status 2" "$(answer check bus.fst --hints always)"
 same "an FST file as objects" '{"kind":"hint","form":"sentence","text":"this is an FST file, as GTKWave has it; a dump of it is written by"}
 {"kind":"hint","form":"line","text":"fst2vcd bus.fst > bus.vcd"}' \
     "$("$twire" decode bus.fst --hints always --format json 2>&1 | tail -n +2)"
@@ -194,16 +190,13 @@ same "a name that looks like an option" "sigrok-cli -i ./-x.sr -O vcd > ./-x.vcd
 
 # A pipe cannot be read once more, but its first line is known where that is refused.
 same "FST from a pipe" "$v2$fst
-hint:   fst2vcd FILE.fst > FILE.vcd
-status 2" "$(answer decode - --hints always < <(cat bus.fst))"
+hint:   fst2vcd FILE.fst > FILE.vcd, status 2" "$(answer decode - --hints always < <(cat bus.fst))"
 same "a session from a pipe" "$v2$session
-hint:   sigrok-cli -i FILE.sr -O vcd > FILE.vcd
-status 2" "$(answer decode /dev/stdin --hints always < <(cat bus.sr))"
+hint:   sigrok-cli -i FILE.sr -O vcd > FILE.vcd, status 2" "$(answer decode /dev/stdin --hints always < <(cat bus.sr))"
 mkfifo bus.fifo
 cat bus.csv >bus.fifo &
 same "a table from a FIFO" "$v2$rows
-hint:   tools/csv_to_vcd FILE.csv > FILE.vcd
-status 2" "$(answer capture "$plan" bus.fifo --hints always)"
+hint:   tools/csv_to_vcd FILE.csv > FILE.vcd, status 2" "$(answer capture "$plan" bus.fifo --hints always)"
 wait
 
 # What a table begins with, and what is none.

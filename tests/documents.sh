@@ -114,7 +114,7 @@ for page in "${pages[@]}"; do
         elif [[ $link == *#* ]]; then
             same "$page: the link $link" 1 "$(anchors "$target" | grep -cx -- "${link#*#}")"
         else
-            passed=$((passed + 1))
+            passes
         fi
     done < <(awk '/^```/ { inside = !inside } !inside' "$page" | grep -oE '\]\([^)]*\)' | sed -e 's/^](//' -e 's/)$//' | grep -v '^https\?:')
 done

@@ -23,7 +23,7 @@ laid() {
     "$twire" format - <found >again
     alike "$1: again" wanted again
     same "$1: what is laid out is not changed" "status 0" "$(answer format --check wanted)"
-    cmp -s text wanted || same "$1: --check" "$(changes)"$'\nstatus 1' "$(answer format --check text)"
+    cmp -s text wanted || same "$1: --check" "$(changes), status 1" "$(answer format --check text)"
 }
 
 # refused NAME TEXT ERR
@@ -148,7 +148,7 @@ hinted "another version" 'plan 3'
 
 expect "no file" 2 "" "refused read" format none
 printf 'brief 1\n\n\n' >text
-same "what --check says" "text:2: 'twire format --in-place' would change it from here on"$'\nstatus 1' "$(answer format --check --hints always text)"
+same "what --check says" "text:2: 'twire format --in-place' would change it from here on, status 1" "$(answer format --check --hints always text)"
 same "what it says of standard input" "<stdin>:2: 'twire format --in-place' would change it from here on" "$("$twire" format --check - <text)"
 
 # ---- command lines
@@ -217,7 +217,7 @@ fi
 # A full disk, as far as a shell can have one: files of at most 1 KiB.
 { printf 'brief 1\n\n\n'; for ((k = 0; k < 300; k++)); do printf 'device  a%s 0x48;\n' "$k"; done; } >large
 cp large large_before
-same "no room" $'refused write\nstatus 2' "$(ulimit -f 1 && trap '' XFSZ && answer format --in-place large)"
+same "no room" "refused write, status 2" "$(ulimit -f 1 && trap '' XFSZ && answer format --in-place large)"
 alike "no room: the file" large_before large
 same "no room: nothing is left" "" "$(find . -name '*.part')"
 

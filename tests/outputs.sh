@@ -1,39 +1,22 @@
 #!/usr/bin/env bash
 # Files that twire writes: each is there whole or not at all, and a run that ends without its report leaves what was there.
-# The last line is 'N passed, M failed', and the exit status is 1 where a case fails.
-#
-# It runs the launcher at the top of the repository, or the program that TWIRE names.
-set -u
+source "$(dirname -- "$(readlink -f -- "${BASH_SOURCE[0]}")")/suite.bash" || exit 1
 
-tests=$(dirname -- "$(readlink -f -- "${BASH_SOURCE[0]}")")
-twire=$(readlink -f -- "${TWIRE:-$tests/../twire}")
-work=$(mktemp -d)
-trap 'rm -rf -- "$work"' EXIT
-cd -- "$work" || exit 1
-
-passed=0
-failed=0
 
 # judge NAME: a case, which passes where nothing stands in the file wrong and in the folder nothing that was not there.
 judge() {
     ls -A | grep -E '\.part$' >>wrong
-    if [[ -s wrong ]]; then
-        failed=$((failed + 1))
-        echo "FAILED: $1"
-        cat wrong
-    else
-        passed=$((passed + 1))
-    fi
+    [[ ! -s wrong ]]
+    held "$1" wrong
     : >wrong
 }
 
 # ran STATUS ERR ARG..: a run with this status and this on standard error, which writes no report on standard output.
 ran() {
-    local status=$1 err=$2
+    local wanted=$1 err=$2
     shift 2
-    "$twire" "$@" >out 2>err
-    local found=$?
-    [[ $found == "$status" ]] || echo "$*: status $found" >>wrong
+    call "$@"
+    [[ $status == "$wanted" ]] || echo "$*: status $status" >>wrong
     [[ $(cat err) == "$err" ]] || { echo "$*: on standard error" && cat err; } >>wrong
     [[ ! -s out ]] || { echo "$*: on standard output" && cat out; } >>wrong
 }
@@ -43,7 +26,6 @@ has() {
     [[ -f $1 && $(cat "$1") == "$2" ]] || echo "$1: $(cat "$1" 2>&1)" >>wrong
 }
 
-"$twire" --version >/dev/null 2>&1
 : >wrong
 
 plan="plan 1
@@ -150,7 +132,7 @@ judge "waves over the certificate from standard input"
 [[ $? == 2 && $(cat err) == "refused write" ]] || cat err >>wrong
 has plan "$plan"
 judge "waves of a bench over the plan from standard input"
-"$tests/../tools/dump" 100100000 >read.vcd
+"$top/tools/dump" 100100000 >read.vcd
 cp read.vcd dump_kept
 for command in "page plan --capture - -o read.vcd" "learn - -o read.vcd" "page plan --capture read.vcd -o read.vcd"; do
     ran 2 "refused write" $command <read.vcd
@@ -373,7 +355,7 @@ hint: was not written"
 judge "a name with blanks is broken nowhere"
 # Why there is nothing to draw: a pair that is safe, none of this number, a plan that is not accepted. (pairs 0 and 1, of which
 # the first is unsafe)
-stop=$tests/../examples/stop_meets_data.plan
+stop=$examples/stop_meets_data.plan
 for it in "1:pair 1 is safe" "2:the plan has no pair 2"; do
     "$twire" check "$stop" --wave w.vcd --pair "${it%%:*}" --hints always >out 2>err
     tr '\n' ' ' <err | sed 's/ hint: / /g; s/ $//' >words
@@ -385,7 +367,7 @@ done
 head -n 1 err >first
 has first "error: unexpected argument '\x1b[31m\xe2\x80\xae' found"
 judge "a word that is refused is escaped"
-"$tests/../tools/dump" 100100000 >"my dump.vcd"
+"$top/tools/dump" 100100000 >"my dump.vcd"
 cp plan 'my plan; $(touch made)'
 "$twire" capture 'my plan; $(touch made)' "my dump.vcd" --scl clock --hints always >out 2>err
 command=$(sed -n 's/^hint:   twire \(capture .*\)/\1/p' err)
@@ -424,7 +406,7 @@ echo "$cert" >right.cert
 shown "a right certificate in colours" "accepted ${green}safe${plain}" verify plan right.cert --color always
 echo "$unsafe_cert" >fault.cert
 shown "a right fault in colours" "accepted ${red}unsafe${plain}" verify unsafe fault.cert --color always
-"$tests/../tools/dump" 100101000 >other.vcd
+"$top/tools/dump" 100101000 >other.vcd
 shown "a transaction that nobody explains in colours" "5-160 ${red}unexplained${plain}
 1 transactions, 1 unexplained" capture plan other.vcd --color always
 shown "marks in a colour" "refused P3 line 1
@@ -433,7 +415,7 @@ hint:   plan 1 ;
 hint:          ${red}^${plain}
 hint: expected here: 'message', 'controller' or 'interrupt'" check refused --color always --hints always
 shown "no colours in a certificate" "$cert" certify plan --color always
-"$tests/../tools/dump" 100101000 >timed.vcd
+"$top/tools/dump" 100101000 >timed.vcd
 shown "the same, with times in parts of a second" "5 us-160 us ${red}unexplained${plain}
 1 transactions, 1 unexplained" capture plan timed.vcd --color always --times si
 NO_COLOR=1 shown "colours that are asked for, where the environment has none" "${green}safe${plain}: 1 pairs" check plan --color always
@@ -556,5 +538,4 @@ fault "standard input as both files" verify - -
 fault "standard input as both files, by two names" verify /dev/stdin /dev/fd/0
 fault "standard input as the plan and the capture" capture - /dev/stdin
 
-echo "$passed passed, $failed failed"
-((failed == 0))
+finish

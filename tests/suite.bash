@@ -2,8 +2,8 @@
 #
 #     source "$(dirname -- "$(readlink -f -- "${BASH_SOURCE[0]}")")/suite.bash" || exit 1
 #
-# and ends with `finish`: the last line is 'N passed, M failed', and the exit status is 1 where a case failed. A suite that is cut
-# off before says so, and its exit status is not 0 either.
+# and ends with `finish`: the last line is 'N passed, M failed', and the exit status is 1 where a case failed. A suite that is
+# cut off before says so, and its exit status is not 0 either.
 #
 # A suite has
 #
@@ -32,7 +32,9 @@
 #
 #     same NAME WANTED FOUND              two texts are the same
 #     alike NAME WANTED FOUND             two files have the same bytes
-#     held NAME FILE..                    the command before this one succeeded; if it did not, these files are shown
+#     held NAME FILE..                    the command before this one succeeded; if it did not, these files are shown. (A
+#                                         command in NAME itself would be the one before it)
+#     count FILE                          the cases of another program, which wrote this file and ended it as a suite does
 #
 # tests/harness.sh shows each of them, and that it fails where it has to.
 set -u
@@ -58,6 +60,7 @@ at_exit() {
     local told=$? job
     for job in $(jobs -p); do
         kill -KILL "$job"
+        wait "$job"
     done 2>/dev/null
     cd /
     rm -rf -- "$work" 2>/dev/null || { chmod -R u+rwX -- "$work"; rm -rf -- "$work"; }
@@ -102,6 +105,18 @@ alike() {
     else
         fails "$1"
         diff -au "$2" "$3" | head -n 40
+    fi
+}
+
+count() {
+    local last
+    last=$(tail -n 1 -- "$1")
+    sed '$d' -- "$1"
+    if [[ $last =~ ^([0-9]+)\ passed,\ ([0-9]+)\ failed$ ]]; then
+        passed=$((passed + BASH_REMATCH[1]))
+        failed=$((failed + BASH_REMATCH[2]))
+    else
+        fails "$last"
     fi
 }
 
@@ -169,10 +184,12 @@ unwritten() {
     judge "$1" 2 "" "$2" >&2
 }
 
-# answer ARG..: all that a call writes, and a line with its status.
+# answer ARG..: all that a call writes, and its status, as in 'refused read, status 2'.
 answer() {
-    called "$@" 2>&1
-    echo "status $?"
+    local text status
+    text=$(called "$@" 2>&1)
+    status=$?
+    echo "${text:+$text, }status $status"
 }
 
 # lines FILE LINE..: a file of these lines.

@@ -1,8 +1,6 @@
 #!/usr/bin/env bash
 # The checks of a team, as docs/GUIDE.md has them: its script and its workflow, in a git repository of its own, with the
 # mistakes that people make. Each ends with a line that says what to do, and once that is done the checks pass.
-#
-# It runs the launchers of twire and twire-verify, or the programs that TWIRE and TWIRE_VERIFY name.
 source "$(dirname -- "$(readlink -f -- "${BASH_SOURCE[0]}")")/suite.bash" || exit 1
 
 guide=$top/docs/GUIDE.md
