@@ -87,9 +87,9 @@ alike "bench without a certificate" bench PLAN bmc/get,pch/page_1 --certify
 alike "print" print PLAN
 # (a page has the name of the first file, and the places of messages)
 want 0 "$("$twire" page whole.brief | sed 's/whole\.brief/devices.brief/; s/"place":"[^"]*"//g')" ""
-"$twire" page devices.brief --with bmc.brief --with pch.brief >page 2>err
-status=$?
-sed 's/"place":"[^"]*"//g' page >out
+call page devices.brief --with bmc.brief --with pch.brief
+cp out page
+sed -i 's/"place":"[^"]*"//g' out
 compare "page"
 same "places on the page" "bmc.brief:2 devices.brief:4 pch.brief:3" \
     "$(grep -o '"place":"[^"]*"' page | cut -d '"' -f 4 | sort -u | paste -sd ' ')"

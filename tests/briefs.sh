@@ -54,11 +54,8 @@ run "a brief of a plan from a pipe" brief /dev/stdin < <(cat board.plan)
 
 # Each form of an address and of a data byte.
 want_plan() {
-    local name=$1 text=$2
-    shift 2
-    lines this.brief "brief 1" "$@"
-    want 0 "$text" ""
-    run "$name" expand this.brief
+    lines this.brief "brief 1" "${@:3}"
+    expect "$1" 0 "$2" "" expand this.brief
 }
 
 one() {
@@ -274,18 +271,12 @@ run "a brief from closed standard input" expand - <&-
 run "a brief of a missing plan" brief missing.plan
 run "a brief of a directory" brief directory
 run "a brief of a plan from closed standard input" brief - <&-
-want 2 "" "refused write"
 for command in "expand board.brief" "brief board.plan"; do
     # shellcheck disable=SC2086
-    "$twire" $command >&- 2>err
-    status=$?
-    : >out
-    compare "closed standard output: $command"
+    unwritten "closed standard output: $command" "refused write" $command >&-
     if [[ -c /dev/full ]]; then
         # shellcheck disable=SC2086
-        "$twire" $command >/dev/full 2>err
-        status=$?
-        compare "full device: $command"
+        unwritten "full device: $command" "refused write" $command >/dev/full
     fi
 done
 
@@ -316,10 +307,7 @@ done
     echo "controller c m0 m255 ;"
 } >large.brief
 "$twire" expand large.brief >large.plan 2>err
-status=$?
-grep -c '^message m[0-9]* write 1010000 0011000x xxxxxxxx' large.plan >out
-want 0 "256" ""
-compare "a large brief"
+same "a large brief" "0 256" "$?$(<err) $(grep -c '^message m[0-9]* write 1010000 0011000x xxxxxxxx' large.plan)"
 
 # ---- Hints.
 
@@ -383,10 +371,9 @@ run "hints on a missing brief" expand missing.brief --hints always
 
 # as_plan NAME ARG..: the case gives what it gives where the words `ANY` are the plan; here they are the brief.
 as_plan() {
-    local name=$1
-    shift
-    want_of "${@/#ANY/any.plan}"
-    run "$name" "${@/#ANY/any.brief}"
+    local words=("${@:2}")
+    want_of "${words[@]/#ANY/any.plan}"
+    run "$1" "${words[@]/#ANY/any.brief}"
 }
 
 for brief in "$examples"/*.brief; do

@@ -242,7 +242,7 @@ awk 'BEGIN {
     }
     print "#106\n1&\n1#\n0$\n0%\n#110\n1!\n#115\n1%\n#116\n0&\n#126"
 }' >fault_due
-alike "the waves of a fault" fault_due fault.vcd
+same_file "the waves of a fault" fault_due fault.vcd
 
 # What sigrok decodes of a run: a byte that is written, a repeated START, and a read of two bytes, the last not acknowledged.
 if command -v sigrok-cli >/dev/null; then

@@ -172,20 +172,12 @@ run "plan with a directory" verify safe.plan directory
 
 # Standard output that takes nothing.
 
-want 2 "" "refused write"
 for plan in safe.plan unsafe.plan; do
-    "$twire" check "$plan" >&- 2>err
-    status=$?
-    : >out
-    compare "closed standard output: $plan"
+    unwritten "closed standard output: $plan" "refused write" check "$plan" >&-
 done
-"$twire" --help >&- 2>err
-status=$?
-compare "closed standard output: help"
+unwritten "closed standard output: help" "refused write" --help >&-
 if [[ -c /dev/full ]]; then
-    "$twire" check unsafe.plan >/dev/full 2>err
-    status=$?
-    compare "full device"
+    unwritten "full device" "refused write" check unsafe.plan >/dev/full
 fi
 
 # A pipe that nobody reads any more.
@@ -195,7 +187,8 @@ mkfifo report.fifo
     exec "$twire" check unsafe.plan >&4 2>err
 )
 status=$?
-compare "broken pipe"
+: >out
+judge "broken pipe" 2 "" "refused write"
 
 # Memory that is refused: a limit that leaves room for the program, and not for the text. A trial build cannot run below
 # any limit.
@@ -212,18 +205,15 @@ fi
 # Whoever has read enough of the help closes the pipe: that is no fault.
 : >err
 for k in {1..20}; do
-    { "$twire" help 2>>err; echo "$?" >status; } | head -n 1 >out
-    [[ $(cat status) == 0 ]] || break
+    "$twire" help 2>>err | head -n 1 >out
+    status=${PIPESTATUS[0]}
+    ((status == 0)) || break
 done
-want 0 "$(head -n 1 "$top/docs/help/twire.txt")" ""
-compare "the first line of the help alone"
+judge "the first line of the help alone" 0 "$(head -n 1 "$top/docs/help/twire.txt")" ""
 
 # With a closed standard error the status is left.
-want 2 "" ""
 "$twire" check missing.plan >out 2>&-
-status=$?
-: >err
-compare "closed standard error"
+same "closed standard error" "2 " "$? $(<out)"
 
 # Command lines.
 
@@ -504,13 +494,9 @@ want 2 "" "refused workers
 hint: '--workers' takes 1 to 8"
 run "hints on a number of workers" check safe.plan --workers 9 --hints always
 if [[ -c /dev/full ]]; then
-    "$twire" check safe.plan --hints always >/dev/full 2>err
-    status=$?
-    : >out
-    want 2 "" "refused write
+    unwritten "hints on a full device" "refused write
 hint: standard output did not take the whole report:
-hint: No space left on device (os error 28)"
-    compare "hints on a full device"
+hint: No space left on device (os error 28)" check safe.plan --hints always >/dev/full
 fi
 
 want 2 "" "error: invalid value 'x' for '--hints <WHEN>'

@@ -216,13 +216,9 @@ run "with these items the pair with the interrupt is left" check --explain --mos
 
 # between NAME LINE..: the last line of each group, where a summary of p.plan explains all of them.
 between() {
-    local name=$1
-    shift
-    want 1 "$(printf '    %s\n' "$@")" ""
-    "$twire" check --summary --most 100 p.plan 2>err >explained
-    status=$?
-    grep ' × ' explained >out
-    compare "$name"
+    call check --summary --most 100 p.plan
+    sed -i '/ × /!d' out
+    judge "$1" 1 "$(printf '    %s\n' "${@:2}")" ""
 }
 
 # A family of writes of one to three bytes and one of four to six; three plain writes, which meet in their second byte or
@@ -305,13 +301,9 @@ compare "two messages of five controllers"
 
 # mends NAME LINE..: what stands below the lines of each group of p.plan that say between whom it is, and how many pairs it has.
 mends() {
-    local name=$1
-    shift
-    want 1 "$(printf '    %s\n' "$@")" ""
-    "$twire" check --summary --most 100 p.plan 2>err >explained
-    status=$?
-    sed -n '/^unsafe/q; / × .*differ$/,/ group /p' explained | grep -v ' × \| group ' >out
-    compare "$name"
+    call check --summary --most 100 p.plan
+    sed -i -n '/^unsafe/q; / × .*differ$/,/ group /{/ × \| group /!p}' out
+    judge "$1" 1 "$(printf '    %s\n' "${@:2}")" ""
 }
 
 # Each two of these meet after one byte or two, before which their first byte is open in both.
@@ -338,9 +330,8 @@ mends "another fault after a NACK" "to mend it: a bit in slot 4..6, 9..16, known
 plan 'plan 1' "message m write 1010000 00000001 00000001 stop else stop else again write 1010000 stop else stop else stop ;" \
     "message n write 1010000 00000001 00000001 00000001$(tails 4)" 'controller a m ;' 'controller b n ;'
 want 1 "    nothing was found that mends it and leaves a pair to check" ""
-"$twire" check --summary p.plan 2>err >explained
-status=$?
-sed '1,/^unsafe/d' explained >out
+call check --summary p.plan
+sed -i '1,/^unsafe/d' out
 compare "nothing mends the only pair"
 # Beside another group that the same shape mends: no way mends each. A 'plan 1' has no 'never'.
 sed -i "2i message put write 1010001$(any 1)$(tails 2)\nmessage probe write 1010001$(tails 1)\nmessage far read 0100000 1 stop else stop ;" p.plan
@@ -349,9 +340,8 @@ echo 'controller c far ;' >>p.plan
 want 1 "    to mend each: this, which leaves 6 of 11 pairs unchecked:
     never a b ;
     (the first line becomes 'plan 2')" ""
-"$twire" check --summary p.plan 2>err >explained
-status=$?
-sed '1,/^unsafe/d' explained >out
+call check --summary p.plan
+sed -i '1,/^unsafe/d' out
 compare "no bit and no shape mends each pair"
 sed 's/^plan 1/plan 2/' p.plan >q.plan
 echo 'never a b ;' >>q.plan
@@ -360,9 +350,8 @@ run "the item that is named, where the first line became 'plan 2'" check q.plan
 # What mends all pairs does not depend on how many groups are explained.
 want 1 "$("$twire" check --summary --most 100 p.plan | sed '1,/^unsafe/d')" ""
 for most in 0 1; do
-    "$twire" check --summary --most "$most" p.plan 2>err >explained
-    status=$?
-    sed '1,/^unsafe/d' explained >out
+    call check --summary --most "$most" p.plan
+    sed -i '1,/^unsafe/d' out
     compare "the last lines with --most $most"
 done
 
@@ -677,9 +666,8 @@ brief 'brief 1' 'message page write 0x50 any*1..3 ;' 'message page_4 write 0x50 
     'controller bmc page ;' 'controller pch page_4 page_5 ; controller seq page_2 ;'
 want 1 "    bmc/page_* × pch/page_*, pch/page_* × seq/page_2: 8 pairs, lengths differ
     bmc/page_* × seq/page_2: 2 pairs, lengths differ" ""
-"$twire" check --summary --most 100 board.brief >explained 2>err
-status=$?
-grep ' × ' explained >out
+call check --summary --most 100 board.brief
+sed -i '/ × /!d' out
 compare "a family and messages that are alike"
 
 # Families are named by their labels, and controllers of one message themselves.
@@ -700,11 +688,9 @@ compare "many pairs of a brief"
 
 # advice NAME UNSAFE LINE..: what is said below the report on the brief, without its pairs and groups.
 advice() {
-    local name=$1
-    want 1 "unsafe: $2 pairs$(printf '\n    %s' "${@:3}")" ""
     call check --explain --most 0 board.brief
     sed -i '/^pair/d; /^    not explained/,/^unsafe/{/^unsafe/!d}' out
-    compare "$name"
+    judge "$1" 1 "unsafe: $2 pairs$(printf '\n    %s' "${@:3}")" ""
 }
 # What is said where a bit mends each pair, and where the same shape alone does.
 bit="to mend each: a bit before its slot, known in both and different; or the"
@@ -872,9 +858,8 @@ run "messages of two files" check --explain first.brief --with second.brief
 printf '%s\n' 'brief 1' 'interrupt al 0x48 ;' >alert.brief
 printf '%s\n' 'brief 1' 'message get read 0x48 1 ;' 'controller a get ;' >get.brief
 want 1 "    see get.brief:2 and alert.brief:2" ""
-"$twire" check --explain get.brief --with alert.brief >report 2>err
-status=$?
-grep '^    see' report >out
+call check --explain get.brief --with alert.brief
+sed -i '/^    see/!d' out
 compare "a message and an interrupt of two files"
 
 # The paths of places stay whole. Neither is a line too long, unless a path alone is, nor does 'see' stand alone.
@@ -1014,12 +999,9 @@ run "nobody could win" order --explain p.plan
 
 # summed NAME STATUS LINE..: the lines for people of who wins by board.brief.
 summed() {
-    local name=$1
-    want "$2" "$(printf '    %s\n' "${@:3}")"$'\n'"$frequency" ""
-    "$twire" order --explain board.brief >explained 2>err
-    status=$?
-    grep '^    ' explained >out
-    compare "$name"
+    call order --explain board.brief
+    sed -i '/^    /!d' out
+    judge "$1" "$2" "$(printf '    %s\n' "${@:3}")"$'\n'"$frequency" ""
 }
 # A controller that is split is one. Nobody wins unsafe pairs.
 brief 'brief 1' 'device sensor 0x48 ;' 'message set write sensor 0x01 any ;' \
@@ -1200,11 +1182,7 @@ names() {
 } >p.plan
 alike "720 unsafe pairs, all groups explained" check p.plan --most 1000000
 same "each of 120 groups has its reason" 120 "$(grep -c '^    slot [0-9]*, UM10204 3\.1\.8: a' explained)"
-want 2 "" "refused write"
-"$twire" check p.plan --explain --most 1000000 >/dev/full 2>err
-status=$?
-: >out
-compare "an explained report that a full device takes no part of"
+unwritten "an explained report that a full device takes no part of" "refused write" check p.plan --explain --most 1000000 >/dev/full
 "$twire" check p.plan --explain --most 1000000 2>err | head -c 70000 >out
 status=${PIPESTATUS[0]}
 head -c 70000 explained >want_out

@@ -141,8 +141,8 @@ expect "bench with a certificate of zeros" 2 "wrong C1 line 1" "" bench plan zer
 
 # ---- a file that changes once it has been opened, and before it is read: the plan's FIFO holds the run
 
-# held CHANGE..: runs `capture` on a dump that is changed so while the run waits for its plan.
-held() {
+# paused CHANGE..: runs `capture` on a dump that is changed so while the run waits for its plan.
+paused() {
     "$twire" capture fifo changing >out 2>err &
     pid=$!
     exec 3>fifo
@@ -158,13 +158,13 @@ grow_dump() { "$top/tools/dump" 100100010 | sed -n '/^#5 /,$s/^#/#1000/p' >>chan
 remove_dump() { rm changing; }
 
 cp vcd changing
-held cut_dump
+paused cut_dump
 judge "a dump that is emptied before it is read" 2 "" "refused V1 scl"
 cp vcd changing
-held grow_dump
+paused grow_dump
 judge "a dump that grows before it is read" 1 $'5-160 a/m\n10005-1000160 unexplained\n2 transactions, 1 unexplained' ""
 cp vcd changing
-held remove_dump
+paused remove_dump
 judge "a dump that is removed before it is read" 0 "$explained" ""
 
 # ---- a file that changes before its refusal is told, and its hints with it

@@ -19,9 +19,9 @@ laid() {
     printf '%b' "$3" >wanted
     "$twire" format text >found 2>err
     same "$1: the status" "0" "$?$(cat err)"
-    alike "$1" wanted found
+    same_file "$1" wanted found
     "$twire" format - <found >again
-    alike "$1: again" wanted again
+    same_file "$1: again" wanted again
     same "$1: what is laid out is not changed" "status 0" "$(answer format --check wanted)"
     cmp -s text wanted || same "$1: --check" "$(changes), status 1" "$(answer format --check text)"
 }
@@ -33,7 +33,7 @@ refused() {
     expect "$1" 2 "" "$3" format text
     expect "$1: --check" 2 "" "$3" format --check text
     expect "$1: --in-place" 2 "" "$3" format --in-place text
-    alike "$1: the file" before text
+    same_file "$1: the file" before text
 }
 
 # ---- lines
@@ -136,10 +136,10 @@ hinted() {
     printf '%b' "$2" >text
     "$twire" check --hints always text 2>wanted
     "$twire" format --hints always text 2>found
-    alike "$1: hints" wanted found
+    same_file "$1: hints" wanted found
     "$twire" check --format json text 2>wanted
     "$twire" format --format json text 2>found
-    alike "$1: JSON" wanted found
+    same_file "$1: JSON" wanted found
 }
 
 hinted "a byte" 'brief 1\ndevice a 0x48 ; # \0303\0251\n'
@@ -164,7 +164,7 @@ unparsed "standard input in place by its path" "'--in-place' wants a file, and s
 unparsed "two files" "unexpected argument 'text' found" text text
 unparsed "no file" "the following required arguments were not provided:"
 same "the help" 0 "$("$twire" format --help >found; echo $?)"
-alike "the help" "$top/docs/help/format.txt" found
+same_file "the help" "$top/docs/help/format.txt" found
 
 # ---- files
 
@@ -181,7 +181,7 @@ ln -s text link
 mkdir folder
 ln -s ../link folder/far
 in_place "in place" 0 "" text
-alike "in place: the file" wanted text
+same_file "in place: the file" wanted text
 same "in place: the mode" 640 "$(stat -c %a text)"
 touch -d '2001-02-03 04:05:06' text
 number=$(stat -c '%i %Y' text)
@@ -189,12 +189,12 @@ in_place "nothing to change" 0 "" text
 same "nothing to change: the file" "$number" "$(stat -c '%i %Y' text)"
 printf 'brief 1\n\n\ndevice  a 0x48;' >text
 in_place "through links" 0 "" folder/far
-alike "through links: the file" wanted text
+same_file "through links: the file" wanted text
 same "through links: the links" "text ../link" "$(readlink link folder/far | xargs)"
 printf 'brief 1\n\n\ndevice  a 0x48;' >text
 ln text second
 in_place "a file of two names" 0 "" text
-alike "a file of two names: this one" wanted text
+same_file "a file of two names: this one" wanted text
 same "a file of two names: the other one" "device  a 0x48;" "$(sed -n 4p second)"
 mkfifo fifo
 timeout 10 cat second >fifo &
@@ -211,14 +211,14 @@ if ((EUID != 0)); then
     chmod 555 folder
     in_place "a folder that cannot be written" 2 "refused write" folder/text
     chmod 755 folder
-    alike "a folder that cannot be written: the file" second folder/text
+    same_file "a folder that cannot be written: the file" second folder/text
 fi
 
 # A full disk, as far as a shell can have one: files of at most 1 KiB.
 { printf 'brief 1\n\n\n'; for ((k = 0; k < 300; k++)); do printf 'device  a%s 0x48;\n' "$k"; done; } >large
 cp large large_before
 same "no room" "refused write, status 2" "$(ulimit -f 1 && trap '' XFSZ && answer format --in-place large)"
-alike "no room: the file" large_before large
+same_file "no room: the file" large_before large
 same "no room: nothing is left" "" "$(find . -name '*.part')"
 
 # ---- the examples
@@ -230,17 +230,17 @@ kept() {
     "$twire" format "$1" >found
     same "$name: the status" 0 $?
     "$twire" format found >again
-    alike "$name: twice is once" found again
-    alike "$name: as it stands" "$1" found
+    same_file "$name: twice is once" found again
+    same_file "$name: as it stands" "$1" found
     same "$name: its comments" "$(grep -o '#.*' "$1" | sed 's/[[:blank:]]*$//')" "$(grep -o '#.*' found)"
     # every line ends in CR LF and begins with a tab, and the blanks are two
     sed 's/  */  /g; s/^/\t/; s/$/ \r/' "$1" >loose
     "$twire" $command loose >wanted
     "$twire" format loose >found
     "$twire" $command found >again
-    alike "$name: it means the same" wanted again
+    same_file "$name: it means the same" wanted again
     "$twire" $command "$1" >again
-    alike "$name: as before" wanted again
+    same_file "$name: as before" wanted again
 }
 
 for file in "$examples"/*.brief "$examples"/*.plan; do

@@ -62,7 +62,7 @@ done
 sort -u kinds >met
 printf '%s\n' address arbitration bus certificate "certificate explained" count group "group explained" hint lint order pair participant plan "plan explained" \
     refusal signal signals too_few total transaction "transaction explained" transactions "transactions explained" wire "wire explained" won >wanted
-alike "the kinds of objects that were met" wanted met
+same_file "the kinds of objects that were met" wanted met
 
 # ---- Objects as they are written.
 

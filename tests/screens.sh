@@ -9,7 +9,7 @@ export NO_COLOR=1
 # screen COMMAND: the command on a terminal, beside the text of the file want; its lines end in CR LF there.
 screen() {
     script -qec "$1" /dev/null </dev/null | tr -d '\r' >found
-    alike "$1" want found
+    same_file "$1" want found
     same "$1: 80 columns" "" "$(grep '.\{81,\}' found)"
 }
 
@@ -48,6 +48,6 @@ done <"$top/docs/SCREENS.md"
 # The help that is asked for is the same as that which comes without a command.
 ./twire >want 2>&1
 ./twire help >found 2>&1
-alike "help that is asked for" want found
+same_file "help that is asked for" want found
 
 finish

@@ -31,12 +31,14 @@
 # And cases of other kinds:
 #
 #     same NAME WANTED FOUND              two texts are the same
-#     alike NAME WANTED FOUND             two files have the same bytes
+#     same_file NAME WANTED FOUND         two files have the same bytes
 #     held NAME FILE..                    the command before this one succeeded; if it did not, these files are shown. (A
 #                                         command in NAME itself would be the one before it)
 #     count FILE                          the cases of another program, which wrote this file and ended it as a suite does
 #
 # tests/harness.sh shows each of them, and that it fails where it has to.
+#
+# shellcheck disable=SC2034
 set -u
 
 tests=$(dirname -- "$(readlink -f -- "${BASH_SOURCE[0]}")")
@@ -99,7 +101,7 @@ same() {
     fi
 }
 
-alike() {
+same_file() {
     if cmp -s "$2" "$3"; then
         passes
     else
