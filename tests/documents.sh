@@ -8,7 +8,6 @@ mkdir bin
 ln -s "$top/examples" examples
 ln -s "$twire" bin/twire
 export PATH=$work/bin:$PATH
-twire --version >found 2>&1
 
 # ---- commands, plans and briefs
 

@@ -1036,7 +1036,8 @@ same "bytes in the middle of a long row are counted" "    bus  S 48 Wr A .. 249 
     $long/$long
          S 48 Wr A .. 249 bytes alike .. xx00xx11 A P   next: a STOP
     b/other
-         S 48 Wr A .. 249 bytes alike .. xx00xx11 A 00  next: a data bit" "$("$twire" check --explain p.plan 2>&1 | sed -n '3,7p')"
+         S 48 Wr A .. 249 bytes alike .. xx00xx11 A 00  next: a data bit" \
+    "$("$twire" check --explain p.plan 2>&1 | sed -n '3,7p')"
 sed -i '/interrupt/d; s/^plan 1/plan 2/' p.plan
 echo "never $long b ;" >>p.plan
 "$twire" certify p.plan >c.cert
@@ -1159,7 +1160,8 @@ brief 'brief 1' 'message short write 0x50 0x01*6 read 0x50 1 ;' 'message long wr
     'controller host long ;'
 same "known bytes in a row that is too long" "    bus        S 50 Wr A .. 6 bytes alike ..
     bmc/short  S 50 Wr A .. 6 bytes alike .. Sr        next: a repeated START
-    host/long  S 50 Wr A .. 6 bytes alike .. xxxxxxxx  next: a data bit" "$("$twire" check --explain board.brief 2>&1 | sed -n '3,5p')"
+    host/long  S 50 Wr A .. 6 bytes alike .. xxxxxxxx  next: a data bit" \
+    "$("$twire" check --explain board.brief 2>&1 | sed -n '3,5p')"
 
 # ---- Many pairs.
 
@@ -1182,7 +1184,8 @@ names() {
 } >p.plan
 alike "720 unsafe pairs, all groups explained" check p.plan --most 1000000
 same "each of 120 groups has its reason" 120 "$(grep -c '^    slot [0-9]*, UM10204 3\.1\.8: a' explained)"
-unwritten "an explained report that a full device takes no part of" "refused write" check p.plan --explain --most 1000000 >/dev/full
+unwritten "an explained report that a full device takes no part of" "refused write" \
+    check p.plan --explain --most 1000000 >/dev/full
 "$twire" check p.plan --explain --most 1000000 2>err | head -c 70000 >out
 status=${PIPESTATUS[0]}
 head -c 70000 explained >want_out

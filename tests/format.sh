@@ -148,7 +148,8 @@ hinted "another version" 'plan 3'
 
 expect "no file" 2 "" "refused read" format none
 printf 'brief 1\n\n\n' >text
-same "what --check says" "text:2: 'twire format --in-place' would change it from here on, status 1" "$(answer format --check --hints always text)"
+same "what --check says" "text:2: 'twire format --in-place' would change it from here on, status 1" \
+    "$(answer format --check --hints always text)"
 same "what it says of standard input" "<stdin>:2: 'twire format --in-place' would change it from here on" "$("$twire" format --check - <text)"
 
 # ---- command lines

@@ -98,7 +98,8 @@ data='{"kind":"group","group":0,"pairs":2,"between":[["a/w","b/p"],["a/w","c/p"]
 answer='{"kind":"group","group":1,"pairs":1,"between":[["b/q","!al"]],"frame":0,"part":"header","example":{"pair":5,"participants":["b/q","!al"],"meet":["answer","claim"],"after":"00100001"'
 groups=$data$'\n'$answer',"explain":{"slot":8,"rule":"interrupts","bus":"S 10 Rd","bytes":["S 10 Rd","S 10 Rd (waits)"],"open":[[],[]]}},"explain":{"parting":[],"shape":false,"never":[],"unchecked":0}}
 {"kind":"plan","safe":false,"pairs":7,"unsafe_pairs":3,"explain":{"explained":2,"groups":2,"never":[["a","b"],["a","c"]],"unchecked":3,"interrupts":[5],"unsent":[],"kept_apart":2}}'
-expect "a pair with an interrupt, and pairs that are kept apart" 1 "$pairs"$'\n'"$groups" "" check --format json --explain p.plan
+expect "a pair with an interrupt, and pairs that are kept apart" 1 "$pairs"$'\n'"$groups" "" \
+    check --format json --explain p.plan
 expect "groups alone" 1 "$groups" "" check --format json --summary p.plan
 expect "one of two groups is explained" 1 "$pairs"$'\n'"$data"$'\n'"$answer"'}}
 {"kind":"plan","safe":false,"pairs":7,"unsafe_pairs":3,"explain":{"explained":1,"groups":2,"never":[["a","b"],["a","c"]],"unchecked":3,"interrupts":[5],"unsent":[],"kept_apart":2}}' \
@@ -374,7 +375,8 @@ expect "likely mistakes" 0 '{"kind":"lint","code":"same address","names":["c","a
 {"kind":"lint","code":"idle controller","names":["y"],"places":[{"file":"second.brief","line":8}]}
 {"kind":"plan","safe":true,"pairs":0,"unsafe_pairs":0}' "" check first.brief --with second.brief --format json
 "$twire" print first.brief --with second.brief -o odd.plan
-expect "likely mistakes of a plan text" 0 '{"kind":"plan","safe":true,"pairs":0,"unsafe_pairs":0}' "" check odd.plan --format json
+expect "likely mistakes of a plan text" 0 '{"kind":"plan","safe":true,"pairs":0,"unsafe_pairs":0}' "" \
+    check odd.plan --format json
 both check first.brief --with second.brief
 
 expect "a file in place of a report stays" 0 "plan 1" "" print --format json - <<<'plan 2'
@@ -385,7 +387,8 @@ For more information, try '--help'." check --format xml "$two"
 "$twire" check --format json --color always "$two" >coloured
 expect "no colours" 0 "$(cat coloured)" "" check --format json "$two"
 if [[ -w /dev/full ]]; then
-    unwritten "a full device" '{"kind":"refusal","code":"write","reason":"standard output did not take the whole report: No space left on device (os error 28)"}' \
+    unwritten "a full device" \
+        '{"kind":"refusal","code":"write","reason":"standard output did not take the whole report: No space left on device (os error 28)"}' \
         check --format json --hints never "$two" >/dev/full
 fi
 

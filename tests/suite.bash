@@ -27,6 +27,7 @@
 #     call ARG..                          leaves what a call gives in the files out and err, and in status
 #     compare NAME                        compares these with what is wanted
 #     judge NAME STATUS OUT ERR           the same, with what is wanted
+#     answer ARG..                        writes all that a call says, and its status, as in 'refused read, status 2'
 #
 # And cases of other kinds:
 #
@@ -35,6 +36,10 @@
 #     held NAME FILE..                    the command before this one succeeded; if it did not, these files are shown. (A
 #                                         command in NAME itself would be the one before it)
 #     count FILE                          the cases of another program, which wrote this file and ended it as a suite does
+#     passes, fails NAME                  what a suite judges itself
+#
+# `lines FILE LINE..` writes a file. A suite in which something stands before the program, as a limit of time, has a function
+# `called` of its own.
 #
 # tests/harness.sh shows each of them, and that it fails where it has to.
 #
@@ -77,7 +82,7 @@ passes() {
     passed=$((passed + 1))
 }
 
-# fails NAME: what is shown of it follows.
+# (what is shown of the case follows)
 fails() {
     failed=$((failed + 1))
     echo "FAILED: $1"
@@ -124,7 +129,6 @@ count() {
 
 # ---- a call
 
-# (a suite may put words before the program)
 called() {
     "$twire" "$@"
 }
@@ -186,7 +190,6 @@ unwritten() {
     judge "$1" 2 "" "$2" >&2
 }
 
-# answer ARG..: all that a call writes, and its status, as in 'refused read, status 2'.
 answer() {
     local text status
     text=$(called "$@" 2>&1)
@@ -194,7 +197,6 @@ answer() {
     echo "${text:+$text, }status $status"
 }
 
-# lines FILE LINE..: a file of these lines.
 lines() {
     printf '%s\n' "${@:2}" >"$1"
 }
