@@ -98,12 +98,10 @@ same "places on the page" "bmc.brief:2 devices.brief:4 pch.brief:3" \
 
 # refused CODE LINE LINES..: the second of three files is refused.
 refused() {
-    local code=$1 line=$2
-    shift 2
-    lines second.brief "$@"
-    want 2 "" "refused $code line $line of second.brief"
-    run "$code line $line: $*" expand devices.brief second.brief pch.brief
-    run "$code line $line, of check: $*" check devices.brief --with second.brief --with pch.brief
+    lines second.brief "${@:3}"
+    want 2 "" "refused $1 line $2 of second.brief"
+    run "$1 line $2: ${*:3}" expand devices.brief second.brief pch.brief
+    run "$1 line $2, of check: ${*:3}" check devices.brief --with second.brief --with pch.brief
 }
 
 refused P1 2 "brief 1" "# caf$(printf '\303\251')"

@@ -123,11 +123,8 @@ run "white space of each kind" expand this.brief
 # ---- Refusals, with the line of the brief.
 
 refused() {
-    local code=$1 line=$2
-    shift 2
-    lines this.brief "$@"
-    want 2 "" "refused $code line $line"
-    run "$code line $line: $*" expand this.brief
+    lines this.brief "${@:3}"
+    expect "$1 line $2: ${*:3}" 2 "" "refused $1 line $2" expand this.brief
 }
 
 refused P1 2 "brief 1" "# caf$(printf '\303\251')"

@@ -59,11 +59,8 @@ run "no plan to print" print missing.plan
 # Refused plans.
 
 refused() {
-    local code=$1 line=$2
-    shift 2
-    lines refused.plan "$@"
-    want 2 "" "refused $code line $line"
-    run "$code line $line: $*" check refused.plan
+    lines refused.plan "${@:3}"
+    expect "$1 line $2: ${*:3}" 2 "" "refused $1 line $2" check refused.plan
 }
 
 refused P1 2 "plan 1" "# caf$(printf '\303\251')"

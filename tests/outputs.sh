@@ -13,12 +13,10 @@ right() {
 
 # ran STATUS ERR ARG..: a run with this status and this on standard error, which writes no report on standard output.
 ran() {
-    local wanted=$1 err=$2
-    shift 2
-    call "$@"
-    [[ $status == "$wanted" ]] || echo "$*: status $status" >>wrong
-    [[ $(cat err) == "$err" ]] || { echo "$*: on standard error" && cat err; } >>wrong
-    [[ ! -s out ]] || { echo "$*: on standard output" && cat out; } >>wrong
+    call "${@:3}"
+    [[ $status == "$1" ]] || echo "${*:3}: status $status" >>wrong
+    [[ $(cat err) == "$2" ]] || { echo "${*:3}: on standard error" && cat err; } >>wrong
+    [[ ! -s out ]] || { echo "${*:3}: on standard output" && cat out; } >>wrong
 }
 
 # has FILE TEXT: the file has this text and no more.
@@ -160,13 +158,10 @@ right "nothing is left in the folder"
 # The waves of a check and of a rehearsal: a file that cannot be written is named, and no file that was read is written over.
 # drew STATUS HINT ARG..: a run with this status, of whose hints these are the first two lines after that of a refusal.
 drew() {
-    local status=$1 hint=$2
-    shift 2
-    "$twire" "$@" --hints always >out 2>err
-    local found=$?
-    [[ $found == "$status" ]] || echo "$*: status $found" >>wrong
+    call "${@:3}" --hints always
+    [[ $status == "$1" ]] || echo "${*:3}: status $status" >>wrong
     [[ $(head -n 3 err) == "refused write
-$hint" ]] || { echo "$*: on standard error" && cat err; } >>wrong
+$2" ]] || { echo "${*:3}: on standard error" && cat err; } >>wrong
 }
 
 "$twire" certify plan -o plan.cert
