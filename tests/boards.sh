@@ -1,56 +1,7 @@
 #!/usr/bin/env bash
 # Runs twire over boards in several briefs: what they mean together, for each command, and what is refused in one of them. It
-# compares the exit status and all that is written. The last line is 'N passed, M failed', and the exit status is 1 where a
-# case fails.
-#
-# It runs the launcher at the top of the repository, or the program that TWIRE names.
-set -u
-
-tests=$(dirname -- "$(readlink -f -- "${BASH_SOURCE[0]}")")
-twire=$(readlink -f -- "${TWIRE:-$tests/../twire}")
-work=$(mktemp -d)
-trap 'rm -rf -- "$work"' EXIT
-cd -- "$work" || exit 1
-
-passed=0
-failed=0
-
-# Counts a case by what stands in the files status, out and err and in those that are wanted.
-compare() {
-    local name=$1
-    if cmp -s want_status status && cmp -s want_out out && cmp -s want_err err; then
-        passed=$((passed + 1))
-        return
-    fi
-    failed=$((failed + 1))
-    echo "FAILED: $name"
-    diff -u --label "wanted status" --label status want_status status
-    diff -u --label "wanted output" --label output want_out out | head -n 40
-    diff -u --label "wanted error" --label error want_err err | head -n 40
-}
-
-# want STATUS OUT ERR: what the next case gives, with an LF after each text that is not empty.
-want() {
-    echo "$1" >want_status
-    printf '%s' "${2:+$2$'\n'}" >want_out
-    printf '%s' "${3:+$3$'\n'}" >want_err
-}
-
-# run NAME ARG..: a case, with this script's standard input.
-run() {
-    local name=$1
-    shift
-    "$twire" "$@" >out 2>err
-    echo "$?" >status
-    compare "$name"
-}
-
-lines() {
-    printf '%s\n' "${@:2}" >"$1"
-}
-
-# The first call may build the program, and says so on standard error.
-"$twire" --version >out 2>err
+# compares the exit status and all that is written.
+source "$(dirname -- "$(readlink -f -- "${BASH_SOURCE[0]}")")/suite.bash" || exit 1
 
 # ---- A board in three files, with one team each.
 
@@ -104,8 +55,8 @@ run "briefs without items" expand empty.brief empty.brief
 
 # ---- Each command, over three files and over all their items in one.
 
-# same NAME ARG..: 'PLAN' stands for the plan.
-same() {
+# alike NAME ARG..: 'PLAN' stands for the plan.
+alike() {
     local name=$1 before=() after=() word
     shift
     for word in "$@"; do
@@ -117,46 +68,40 @@ same() {
             after+=("$word")
         fi
     done
-    "$twire" "${before[@]}" >want_out 2>want_err
-    echo "$?" >want_status
-    run "$name: $(cat want_status)" "${after[@]}"
-    [[ -s want_out ]] || { failed=$((failed + 1)); echo "FAILED: $name: nothing was written"; }
+    want_of "${before[@]}"
+    run "$name: $want_status" "${after[@]}"
+    [[ -s want_out ]] || fails "$name: nothing was written"
 }
 
 "$twire" certify whole.brief -o board.cert
-"$tests/../tools/dump" 100100000 >board.vcd
-same check check PLAN
-same "check with threads" check PLAN --workers 2
-same certify certify PLAN
-same order order PLAN
-same "verify" verify PLAN board.cert
-same "capture" capture PLAN board.vcd
-same "capture, live" capture PLAN board.vcd --live
-same "bench" bench PLAN board.cert bmc/get,pch/page_1
-same "bench without a certificate" bench PLAN bmc/get,pch/page_1 --certify
-same "print" print PLAN
+"$top/tools/dump" 100100000 >board.vcd
+alike check check PLAN
+alike "check with threads" check PLAN --workers 2
+alike certify certify PLAN
+alike order order PLAN
+alike "verify" verify PLAN board.cert
+alike "capture" capture PLAN board.vcd
+alike "capture, live" capture PLAN board.vcd --live
+alike "bench" bench PLAN board.cert bmc/get,pch/page_1
+alike "bench without a certificate" bench PLAN bmc/get,pch/page_1 --certify
+alike "print" print PLAN
 # (a page has the name of the first file, and the places of messages)
-"$twire" page whole.brief | sed 's/whole\.brief/devices.brief/; s/"place":"[^"]*"//g' >want_out
-"$twire" page devices.brief --with bmc.brief --with pch.brief >page 2>err
-echo "$?" >status
-sed 's/"place":"[^"]*"//g' page >out
-echo 0 >want_status
-: >want_err
+want 0 "$("$twire" page whole.brief | sed 's/whole\.brief/devices.brief/; s/"place":"[^"]*"//g')" ""
+call page devices.brief --with bmc.brief --with pch.brief
+cp out page
+sed -i 's/"place":"[^"]*"//g' out
 compare "page"
-want 0 "bmc.brief:2 devices.brief:4 pch.brief:3" ""
-grep -o '"place":"[^"]*"' page | cut -d '"' -f 4 | sort -u | paste -sd ' ' >out
-compare "places on the page"
+same "places on the page" "bmc.brief:2 devices.brief:4 pch.brief:3" \
+    "$(grep -o '"place":"[^"]*"' page | cut -d '"' -f 4 | sort -u | paste -sd ' ')"
 
 # ---- Refusals, with the file.
 
 # refused CODE LINE LINES..: the second of three files is refused.
 refused() {
-    local code=$1 line=$2
-    shift 2
-    lines second.brief "$@"
-    want 2 "" "refused $code line $line of second.brief"
-    run "$code line $line: $*" expand devices.brief second.brief pch.brief
-    run "$code line $line, of check: $*" check devices.brief --with second.brief --with pch.brief
+    lines second.brief "${@:3}"
+    want 2 "" "refused $1 line $2 of second.brief"
+    run "$1 line $2: ${*:3}" expand devices.brief second.brief pch.brief
+    run "$1 line $2, of check: ${*:3}" check devices.brief --with second.brief --with pch.brief
 }
 
 refused P1 2 "brief 1" "# caf$(printf '\303\251')"
@@ -223,9 +168,7 @@ hint: BRIEF, the brief "missing.brief", cannot be opened:
 hint: No such file or directory (os error 2)'
 run "hints on a missing second file" expand devices.brief missing.brief --hints always
 lines second.brief "brief 1" "message m write eeprm ;"
-"$twire" check devices.brief --with second.brief --hints always >out 2>said
-echo "$?" >status
-cp said err
+call check devices.brief --with second.brief --hints always
 want 2 "" 'refused P8 line 2 of second.brief
 hint: line 2 of the brief "second.brief":
 hint:   message m write eeprm ;
@@ -315,21 +258,13 @@ hint: a time"
 run "starters of one controller that is split" bench whole.brief board.cert bmc/get,bmc_set/set --hints always
 want 0 "safe: 5 pairs" "hint: the 'never' items leave out pairs: 1"
 run "hints on what never leaves out" check devices.brief --with bmc.brief --with pch.brief --hints always
-"$twire" capture devices.brief --with bmc.brief --with pch.brief "$tests/../examples/probe_logic.vcd" --hints always 2>&1 |
-    sed -n 's/^hint:   \(twire capture .*\) \/.*/\1/p' >out
-: >err
-echo 0 >status
-want 0 "twire capture devices.brief --with bmc.brief --with pch.brief" ""
-compare "a command to be given once more"
+same "a command to be given once more" "twire capture devices.brief --with bmc.brief --with pch.brief" \
+    "$("$twire" capture devices.brief --with bmc.brief --with pch.brief "$examples/probe_logic.vcd" --hints always 2>&1 |
+        sed -n 's/^hint:   \(twire capture .*\) \/.*/\1/p')"
 
 # twice ARG..: the command line does not parse.
 twice() {
-    want 2 "" ""
-    "$twire" "$@" </dev/null >out 2>said
-    echo "$?" >status
-    head -n 1 said >err
-    echo "error: standard input can be one of the files, and not two" >want_err
-    compare "standard input twice: $*"
+    refuses "standard input twice: $*" "standard input can be one of the files, and not two" "$@" </dev/null
 }
 
 twice expand - -
@@ -345,31 +280,27 @@ twice page devices.brief --with - --capture -
 for words in "check devices.brief bmc.brief" "print devices.brief bmc.brief" "verify devices.brief board.cert bmc.brief" \
     "bench devices.brief board.cert bmc/get bmc.brief"; do
     # shellcheck disable=SC2086
-    "$twire" $words >out 2>said
-    echo "$?" >status
-    head -n 3 said >err
+    call $words
+    sed -i '4,$d' err
     want 2 "" "error: unexpected argument 'bmc.brief' found
 
   tip: further files of a brief follow by '--with FILE'"
     compare "a file too much: $words"
 done
-"$twire" certify devices.brief bmc.brief >out 2>said
-echo "$?" >status
-head -n 3 said >err
+call certify devices.brief bmc.brief
+sed -i '4,$d' err
 want 2 "" "error: unexpected argument 'bmc.brief' found
 
   tip: further files of a brief follow by '--with FILE'"
 compare "a file too much: certify"
-"$twire" certify devices.brief nosuch.cert >out 2>said
-echo "$?" >status
-head -n 3 said >err
+call certify devices.brief nosuch.cert
+sed -i '4,$d' err
 want 2 "" "error: unexpected argument 'nosuch.cert' found
 
   tip: the certificate is written to a file by '-o FILE'"
 compare "a certificate without its option"
-"$twire" brief board.plan bmc.brief >out 2>said
-echo "$?" >status
-head -n 3 said >err
+call brief board.plan bmc.brief
+sed -i '4,$d' err
 want 2 "" "error: unexpected argument 'bmc.brief' found
 
 Usage: twire brief [OPTIONS] <PLAN>"
@@ -378,11 +309,7 @@ compare "a file too much, for a command without a brief"
 # Commands without a brief take no further one.
 for command in "decode board.vcd" "signals board.vcd" "learn board.vcd" "brief board.plan"; do
     # shellcheck disable=SC2086
-    "$twire" $command --with bmc.brief >out 2>said
-    echo "$?" >status
-    head -n 1 said >err
-    want 2 "" "error: unexpected argument '--with' found"
-    compare "no further file: $command"
+    refuses "no further file: $command" "unexpected argument '--with' found" $command --with bmc.brief
 done
 
 # ---- The items that mend a brief do so, and leave as many pairs unchecked as is said.
@@ -409,13 +336,11 @@ mended() {
             sed -n 's/^\(.*\),\(.*\)$/never \1 \2 ;/p'
     } >mended.brief
     "$asked" check --format json --hints never mended.brief >objects 2>>err
-    echo "$(field unsafe_pairs) unsafe, $((pairs - $(field pairs))) left out" >out
-    echo 0 >status
-    want 0 "${interrupts:-0} unsafe, ${promised:-0} left out" ""
     if cmp -s board.brief mended.brief && ! grep -q '^interrupt' board.brief; then
-        want 0 "$faults unsafe, 0 left out" ""
+        interrupts=$faults promised=0
     fi
-    compare "$name"
+    same "$name" "${interrupts:-0} unsafe, ${promised:-0} left out" \
+        "$(field unsafe_pairs) unsafe, $((pairs - $(field pairs))) left out"
 }
 
 # A board of this number: families and messages of one device, listed by three controllers in whole or in part, some of
@@ -475,10 +400,8 @@ groups_mended() {
         promised=$(sed -n 's/.*"unchecked":\([0-9]*\)}}$/\1/p' <<<"$group")
         printf '%s\n' "$(<board.brief)" "$items" >mended.brief
         "$asked" check --format json --hints never mended.brief >objects 2>>err
-        echo "$((faults - $(field unsafe_pairs) >= count)), $((pairs - $(field pairs))) left out" >out
-        echo 0 >status
-        want 0 "1, $promised left out" ""
-        compare "$name: $items"
+        same "$name: $items" "1, $promised left out" \
+            "$((faults - $(field unsafe_pairs) >= count)), $((pairs - $(field pairs))) left out"
     done <groups
 }
 
@@ -492,7 +415,7 @@ lines two.brief "brief 1" "device eeprom 0x50 ;  device sensor 0x48 ;" "message 
     "message entry write eeprom any read eeprom 1 ;" "message set write sensor 0x01 any ;" \
     "message get write sensor 0x01 read sensor 2 ;" "controller bmc page set ;" "controller host entry get ;"
 "$twire" check --summary two.brief >report 2>err
-echo "$?" >status
+status=$?
 sed -n '/ × /,/ group \|^unsafe/p' report | grep '^    ' | grep -v ' group ' >out
 want 1 "    bmc/page_* × host/entry: 4 pairs, one goes on, one repeats START
     to mend each: a bit in slot 9..16, known in both and different; or the same
@@ -543,9 +466,8 @@ run "addresses of ten bits" check ten.brief --hints always
 # Of many unsafe pairs of two files hints name both.
 lines writes.brief "brief 1" "message page write 0x50 any*1..6 ;" "controller bmc page ;"
 lines "more writes.brief" "brief 1" "controller host page ;"
-"$twire" check writes.brief --with "more writes.brief" --hints always >report 2>err
-echo "$?" >status
-tail -n 1 report >out
+call check writes.brief --with "more writes.brief" --hints always
+sed -i '$!d' out
 want 1 "unsafe: 30 of 36 pairs" 'hint: 30 unsafe pairs in 1 group; try
 hint:   twire check --summary writes.brief --with "more writes.brief"'
 compare "many unsafe pairs of two files"
@@ -620,13 +542,8 @@ run "one brief without items" check empty.brief --hints always
     echo "brief 1"
     for k in {1..12}; do echo "device d$k 0b01000$((k % 2))$((k / 2 % 2)) ;"; done
 } >many.brief
-"$twire" check many.brief --hints always 2>&1 | tail -n 3 >out
-: >err
-echo 0 >status
-want 0 "hint: and 10 more of this kind
+same "ten likely mistakes are told" "hint: and 10 more of this kind
 hint: the plan has no two participants that may start together: no pair was
-hint: looked at" ""
-compare "ten likely mistakes are told"
+hint: looked at" "$("$twire" check many.brief --hints always 2>&1 | tail -n 3)"
 
-echo "$passed passed, $failed failed"
-((failed == 0))
+finish

@@ -1,56 +1,7 @@
 #!/usr/bin/env bash
-# Runs twire with briefs from the command line: what is expanded, what is written of a plan, and what is refused. It
-# compares the exit status and all that is written. The last line is 'N passed, M failed', and the exit status is 1 where a
-# case fails.
-#
-# It runs the launcher at the top of the repository, or the program that TWIRE names.
-set -u
-
-tests=$(dirname -- "$(readlink -f -- "${BASH_SOURCE[0]}")")
-twire=$(readlink -f -- "${TWIRE:-$tests/../twire}")
-work=$(mktemp -d)
-trap 'rm -rf -- "$work"' EXIT
-cd -- "$work" || exit 1
-
-passed=0
-failed=0
-
-# Counts a case by what stands in the files status, out and err and in those that are wanted.
-compare() {
-    local name=$1
-    if cmp -s want_status status && cmp -s want_out out && cmp -s want_err err; then
-        passed=$((passed + 1))
-        return
-    fi
-    failed=$((failed + 1))
-    echo "FAILED: $name"
-    diff -u --label "wanted status" --label status want_status status
-    diff -u --label "wanted output" --label output want_out out | head -n 40
-    diff -u --label "wanted error" --label error want_err err | head -n 40
-}
-
-# want STATUS OUT ERR: what the next case gives, with an LF after each text that is not empty.
-want() {
-    echo "$1" >want_status
-    printf '%s' "${2:+$2$'\n'}" >want_out
-    printf '%s' "${3:+$3$'\n'}" >want_err
-}
-
-# run NAME ARG..: a case, with this script's standard input.
-run() {
-    local name=$1
-    shift
-    "$twire" "$@" >out 2>err
-    echo "$?" >status
-    compare "$name"
-}
-
-lines() {
-    printf '%s\n' "${@:2}" >"$1"
-}
-
-# The first call may build the program, and says so on standard error.
-"$twire" --version >out 2>err
+# Runs twire with briefs from the command line: what is expanded, what is written of a plan, and what is refused. It compares
+# the exit status and all that is written.
+source "$(dirname -- "$(readlink -f -- "${BASH_SOURCE[0]}")")/suite.bash" || exit 1
 
 # ---- A brief and its plan.
 
@@ -103,11 +54,8 @@ run "a brief of a plan from a pipe" brief /dev/stdin < <(cat board.plan)
 
 # Each form of an address and of a data byte.
 want_plan() {
-    local name=$1 text=$2
-    shift 2
-    lines this.brief "brief 1" "$@"
-    want 0 "$text" ""
-    run "$name" expand this.brief
+    lines this.brief "brief 1" "${@:3}"
+    expect "$1" 0 "$2" "" expand this.brief
 }
 
 one() {
@@ -175,11 +123,8 @@ run "white space of each kind" expand this.brief
 # ---- Refusals, with the line of the brief.
 
 refused() {
-    local code=$1 line=$2
-    shift 2
-    lines this.brief "$@"
-    want 2 "" "refused $code line $line"
-    run "$code line $line: $*" expand this.brief
+    lines this.brief "${@:3}"
+    expect "$1 line $2: ${*:3}" 2 "" "refused $1 line $2" expand this.brief
 }
 
 refused P1 2 "brief 1" "# caf$(printf '\303\251')"
@@ -323,24 +268,18 @@ run "a brief from closed standard input" expand - <&-
 run "a brief of a missing plan" brief missing.plan
 run "a brief of a directory" brief directory
 run "a brief of a plan from closed standard input" brief - <&-
-want 2 "" "refused write"
 for command in "expand board.brief" "brief board.plan"; do
     # shellcheck disable=SC2086
-    "$twire" $command >&- 2>err
-    echo "$?" >status
-    : >out
-    compare "closed standard output: $command"
+    unwritten "closed standard output: $command" "refused write" $command >&-
     if [[ -c /dev/full ]]; then
         # shellcheck disable=SC2086
-        "$twire" $command >/dev/full 2>err
-        echo "$?" >status
-        compare "full device: $command"
+        unwritten "full device: $command" "refused write" $command >/dev/full
     fi
 done
 
 # ---- Examples: a brief of a plan, expanded, is the plan in its canonical spelling.
 
-for plan in "$tests"/../examples/*.plan full.plan deep.plan; do
+for plan in "$examples"/*.plan full.plan deep.plan; do
     want 0 "$("$twire" print "$plan")" ""
     "$twire" brief "$plan" >this.brief
     run "a brief of $(basename "$plan"), expanded" expand this.brief
@@ -351,7 +290,7 @@ for plan in "$tests"/../examples/*.plan full.plan deep.plan; do
 done
 
 # An example that stands as a brief beside its plan.
-for brief in "$tests"/../examples/*.brief; do
+for brief in "$examples"/*.brief; do
     [[ -e $brief ]] || continue
     want 0 "$("$twire" print "${brief%.brief}.plan")" ""
     run "example $(basename "$brief")" expand "$brief"
@@ -365,10 +304,7 @@ done
     echo "controller c m0 m255 ;"
 } >large.brief
 "$twire" expand large.brief >large.plan 2>err
-echo "$?" >status
-grep -c '^message m[0-9]* write 1010000 0011000x xxxxxxxx' large.plan >out
-want 0 "256" ""
-compare "a large brief"
+same "a large brief" "0 256" "$?$(<err) $(grep -c '^message m[0-9]* write 1010000 0011000x xxxxxxxx' large.plan)"
 
 # ---- Hints.
 
@@ -432,14 +368,12 @@ run "hints on a missing brief" expand missing.brief --hints always
 
 # as_plan NAME ARG..: the case gives what it gives where the words `ANY` are the plan; here they are the brief.
 as_plan() {
-    local name=$1
-    shift
-    "$twire" "${@/#ANY/any.plan}" >want_out 2>want_err
-    echo "$?" >want_status
-    run "$name" "${@/#ANY/any.brief}"
+    local words=("${@:2}")
+    want_of "${words[@]/#ANY/any.plan}"
+    run "$1" "${words[@]/#ANY/any.brief}"
 }
 
-for brief in "$tests"/../examples/*.brief; do
+for brief in "$examples"/*.brief; do
     name=$(basename -- "$brief" .brief)
     cp -- "$brief" any.brief
     "$twire" expand any.brief >any.plan
@@ -448,7 +382,7 @@ for brief in "$tests"/../examples/*.brief; do
     as_plan "$name: certify" certify ANY
     as_plan "$name: verify" verify ANY any.cert
 done
-cp -- "$tests/../examples/shared_board.brief" any.brief
+cp -- "$examples/shared_board.brief" any.brief
 "$twire" expand any.brief >any.plan
 "$twire" certify any.plan >any.cert
 as_plan "check with explanations" check ANY --explain --hints always
@@ -458,7 +392,7 @@ as_plan "verify with explanations" verify ANY any.cert --explain
 as_plan "order" order ANY
 as_plan "print" print ANY
 as_plan "objects" check ANY --format json
-as_plan "a capture" capture ANY "$tests/../examples/probe_icarus.vcd" --hints always
+as_plan "a capture" capture ANY "$examples/probe_icarus.vcd" --hints always
 as_plan "a bench" bench ANY any.cert "$("$twire" order any.plan | sed -n '1s/^pair 0 \([^ ]*\) .*/\1/p')"
 as_plan "starters that are refused" bench ANY any.cert nobody --hints always
 as_plan "a bench that certifies" bench --certify ANY nobody --hints always
@@ -466,7 +400,7 @@ as_plan "a bench that certifies" bench --certify ANY nobody --hints always
 "$twire" page any.plan | sed 's/any\.plan/any.brief/g' >page
 want 0 "$(cat page)" ""
 "$twire" page any.brief 2>err | sed 's/"place":"any\.brief:[0-9]*",//g' >out
-echo "${PIPESTATUS[0]}" >status
+status=${PIPESTATUS[0]}
 compare "a page"
 
 lines wrong.brief "brief 1" "device eeprom 0x50 ;" "device eeprom 0x51 ;"
@@ -500,14 +434,14 @@ run "brief takes plans alone" brief wrong.brief --hints always
 
 # ---- Help.
 
-want 0 "$(cat "$tests/../docs/help/expand.txt")" ""
+want 0 "$(cat "$top/docs/help/expand.txt")" ""
 run "help on expand" expand --help
 run "help on expand as a subcommand" help expand
-want 0 "$(cat "$tests/../docs/help/brief.txt")" ""
+want 0 "$(cat "$top/docs/help/brief.txt")" ""
 run "help on brief" brief --help
 
 # The brief in the help is one.
-sed -n '/^brief 1$/,/^$/p' "$tests/../docs/help/expand.txt" >help.brief
+sed -n '/^brief 1$/,/^$/p' "$top/docs/help/expand.txt" >help.brief
 want 0 "plan 2
 message page write 1010000 xxxx0000$(printf ' xxxxxxxx%.0s' {1..16}) stop$(printf ' else stop%.0s' {1..18}) ;
 message get write 1010000 xxxxxxxx xxxxxxxx again read 1010000 1..16 stop else stop else stop else stop else stop ;
@@ -526,5 +460,4 @@ Usage: twire expand <BRIEF>...
 For more information, try '--help'."
 run "no brief" expand
 
-echo "$passed passed, $failed failed"
-((failed == 0))
+finish

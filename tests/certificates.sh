@@ -1,39 +1,8 @@
 #!/usr/bin/env bash
-# Generated plans, certified and verified from the command line; and certificates in which one byte was changed. The last
-# line is 'N passed, M failed', and the exit status is 1 where a case fails.
+# Generated plans, certified and verified from the command line; and certificates in which one byte was changed.
 #
 # Every certificate is also given to twire-verify, which has to write the same bytes and end with the same status.
-#
-# It runs the launcher at the top of the repository, or the program that TWIRE names; and tools/twire-verify, or the program
-# that TWIRE_VERIFY names.
-set -u
-
-tests=$(dirname -- "$(readlink -f -- "${BASH_SOURCE[0]}")")
-twire=$(readlink -f -- "${TWIRE:-$tests/../twire}")
-verifier=$(readlink -f -- "${TWIRE_VERIFY:-$tests/../tools/twire-verify}")
-work=$(mktemp -d)
-trap 'rm -rf -- "$work"' EXIT
-cd -- "$work" || exit 1
-
-passed=0
-failed=0
-
-# expect NAME WANTED FOUND
-expect() {
-    if [[ $2 == "$3" ]]; then
-        passed=$((passed + 1))
-    else
-        failed=$((failed + 1))
-        echo "FAILED: $1: wanted '$2', found '$3'"
-    fi
-}
-
-# answer ARG..: what one call writes, and its status.
-answer() {
-    local text
-    text=$("$twire" "$@" 2>&1)
-    echo "$text, status $?"
-}
+source "$(dirname -- "$(readlink -f -- "${BASH_SOURCE[0]}")")/suite.bash" || exit 1
 
 # verify PLAN CERT: what 'twire verify' writes, with its status, where twire-verify does the same, and else both. What they
 # are to read as standard input stands in the file that `input` names.
@@ -60,7 +29,6 @@ verified() {
     echo "$text, status $?"
 }
 
-"$twire" --version >/dev/null 2>&1
 "$verifier" --version >/dev/null 2>&1
 
 # Plans of two controllers with one or two messages each, and an interrupt, from a list of parts. A plan that is safe by
@@ -101,18 +69,18 @@ for n in {1..120}; do
     last=$("$twire" check plan | tail -n 1)
     "$twire" certify plan >cert
     case $last in
-        safe:*) expect "generated plan $n" "accepted safe" "$(verify plan cert)" ;;
-        unsafe:*) expect "generated plan $n" "accepted unsafe" "$(verify plan cert)" ;;
-        *) expect "generated plan $n" "safe: or unsafe:" "$last" ;;
+        safe:*) same "generated plan $n" "accepted safe" "$(verify plan cert)" ;;
+        unsafe:*) same "generated plan $n" "accepted unsafe" "$(verify plan cert)" ;;
+        *) same "generated plan $n" "safe: or unsafe:" "$last" ;;
     esac
 done
 
 # The examples too.
-for plan in "$tests"/../examples/*.plan; do
+for plan in "$examples"/*.plan; do
     "$twire" certify "$plan" >cert
     case $("$twire" check "$plan" | tail -n 1) in
-        safe:*) expect "example $(basename "$plan")" "accepted safe" "$(verify "$plan" cert)" ;;
-        *) expect "example $(basename "$plan")" "accepted unsafe" "$(verify "$plan" cert)" ;;
+        safe:*) same "example $(basename "$plan")" "accepted safe" "$(verify "$plan" cert)" ;;
+        *) same "example $(basename "$plan")" "accepted unsafe" "$(verify "$plan" cert)" ;;
     esac
 done
 
@@ -128,11 +96,11 @@ changed() {
             cmp -s cert other && continue
             text=$(verify plan other)
             if [[ $text == *differs* ]]; then
-                expect "$1 with '$by' at $at" "the same of both" "$text"
+                same "$1 with '$by' at $at" "the same of both" "$text"
             elif [[ $text == accepted* ]]; then
-                expect "$1 with '$by' at $at" "$2" "$text at $(tail -n 1 other)"
+                same "$1 with '$by' at $at" "$2" "$text at $(tail -n 1 other)"
             else
-                expect "$1 with '$by' at $at" "wrong" "${text%% *}"
+                same "$1 with '$by' at $at" "wrong" "${text%% *}"
             fi
         done
     done
@@ -148,7 +116,7 @@ write "write 1001000 stop else stop" "write 1001001 stop else stop"
 changed "a split of two headers" "nothing"
 # the bytes differ in bits 3 and 7
 write "write 1001000 00000000 stop else stop else stop" "write 1001000 00010001 stop else stop else stop"
-expect "the first of two splits" "B P3 ." "$(tail -n 1 cert)"
+same "the first of two splits" "B P3 ." "$(tail -n 1 cert)"
 changed "the first of two splits" "accepted safe at B P7 ."
 # a fault
 write "write 1001000 stop else stop" "write 1001000 0000000x stop else stop else stop"
@@ -156,18 +124,18 @@ changed "a fault" "nothing"
 
 # A plan at every limit. Its last pair is that of the last two interrupts, whose addresses differ in bit 6 alone. The three
 # certificates are verified side by side, since a trial build takes its time for 143,856 proofs.
-"$tests/../tools/fullest_plan" >plan
+"$top/tools/fullest_plan" >plan
 "$twire" certify plan >cert
-expect "certify: the fullest plan" "0, lines 143858, last P6" "$?, lines $(wc -l <cert), last $(tail -n 1 cert)"
+same "certify: the fullest plan" "0, lines 143858, last P6" "$?, lines $(wc -l <cert), last $(tail -n 1 cert)"
 sed '$s/.*/P5/' cert >wrong
 sed '$d' cert >short
 for name in cert wrong short; do
     verified plan "$name" >"$name.answer" &
 done
 wait
-expect "verify: the fullest plan" "accepted safe, status 0" "$(cat cert.answer)"
-expect "verify: another last proof" "wrong C5 pair 143855, status 2" "$(cat wrong.answer)"
-expect "verify: no last proof" "wrong C2, status 2" "$(cat short.answer)"
+same "verify: the fullest plan" "accepted safe, status 0" "$(cat cert.answer)"
+same "verify: another last proof" "wrong C5 pair 143855, status 2" "$(cat wrong.answer)"
+same "verify: no last proof" "wrong C2, status 2" "$(cat short.answer)"
 
 # The longest wire of a fault. Two senders of headers alone go on together for 255 headers, and then one stops and the other
 # has the last header that a message has room for: 255 times nine slots, and the repeated STARTs between them.
@@ -183,22 +151,21 @@ headers() {
 }
 write "$(headers 255)" "$(headers 256)"
 wire="$(times 10010000lr 254)10010000l"
-expect "the longest wire has 2,549 slots" 2549 "${#wire}"
-expect "check: the longest wire" "pair 0 a/m b/n: stop against restart after $wire
+same "the longest wire has 2,549 slots" 2549 "${#wire}"
+same "check: the longest wire" "pair 0 a/m b/n: stop against restart after $wire
 unsafe: 1 of 1 pairs, status 1" "$(answer check plan)"
-expect "certify: the longest wire" "cert 1
+same "certify: the longest wire" "cert 1
 fault 0 $wire stop restart" "$(cat cert)"
-expect "verify: the longest wire" "accepted unsafe, status 1" "$(verified plan cert)"
+same "verify: the longest wire" "accepted unsafe, status 1" "$(verified plan cert)"
 sed "2s/ stop/r10010000l stop/" cert >other
-expect "verify: a wire with one header more" "wrong C5 pair 0, status 2" "$(verified plan other)"
+same "verify: a wire with one header more" "wrong C5 pair 0, status 2" "$(verified plan other)"
 
 # ---- what twire-verify refuses, and its arguments
 
 # small ARG..: what one call of twire-verify writes, and its status.
 small() {
-    local text
-    text=$("$verifier" "$@" 2>&1)
-    echo "$text, status $?"
+    local twire=$verifier
+    answer "$@"
 }
 
 small_full() {
@@ -222,55 +189,54 @@ mkdir folder
 sed 's/$/\r/' cert >crlf
 sed 's/$/\r/' plan >crlf_plan
 printf 'brief 1\ndevice sensor 0x48 ;\nmessage m write sensor ;\ncontroller a m ;\n' >brief
-expect "verify: a safe plan" "accepted safe, status 0" "$(verified plan cert)"
-expect "verify: no such plan" "refused read, status 2" "$(verified missing cert)"
-expect "verify: no such certificate" "refused read, status 2" "$(verified plan missing)"
-expect "verify: a refused plan and no such certificate" "refused read, status 2" "$(verified empty missing)"
-expect "verify: a folder as a plan" "refused read, status 2" "$(verified folder cert)"
-expect "verify: a folder as a certificate" "refused read, status 2" "$(verified plan folder)"
-expect "verify: an empty plan" "refused P2 line 1, status 2" "$(verified empty cert)"
-expect "verify: an empty certificate" "wrong C1 line 1, status 2" "$(verified plan empty)"
-expect "verify: a certificate with other ends of lines" "wrong C1 line 1, status 2" "$(verified plan crlf)"
-expect "verify: the files the wrong way round" "refused P2 line 1, status 2" "$(verified cert plan)"
-expect "twire-verify: a brief" "refused P2 line 1, status 2" "$(small brief cert)"
+same "verify: a safe plan" "accepted safe, status 0" "$(verified plan cert)"
+same "verify: no such plan" "refused read, status 2" "$(verified missing cert)"
+same "verify: no such certificate" "refused read, status 2" "$(verified plan missing)"
+same "verify: a refused plan and no such certificate" "refused read, status 2" "$(verified empty missing)"
+same "verify: a folder as a plan" "refused read, status 2" "$(verified folder cert)"
+same "verify: a folder as a certificate" "refused read, status 2" "$(verified plan folder)"
+same "verify: an empty plan" "refused P2 line 1, status 2" "$(verified empty cert)"
+same "verify: an empty certificate" "wrong C1 line 1, status 2" "$(verified plan empty)"
+same "verify: a certificate with other ends of lines" "wrong C1 line 1, status 2" "$(verified plan crlf)"
+same "verify: the files the wrong way round" "refused P2 line 1, status 2" "$(verified cert plan)"
+same "twire-verify: a brief" "refused P2 line 1, status 2" "$(small brief cert)"
 for name in - /dev/stdin /dev/fd/0 /proc/self/fd/0; do
     input=plan
-    expect "verify: the plan by $name" "accepted safe, status 0" "$(verified "$name" cert)"
+    same "verify: the plan by $name" "accepted safe, status 0" "$(verified "$name" cert)"
     input=cert
-    expect "verify: the certificate by $name" "accepted safe, status 0" "$(verified plan "$name")"
-    expect "twire-verify: standard input twice, as $name" "$usage, status 2" "$(small - "$name" <plan)"
-    expect "twire-verify: the plan by $name, closed" "refused read, status 2" "$(small_closed "$name" cert)"
-    expect "twire-verify: the certificate by $name, closed" "refused read, status 2" "$(small_closed plan "$name")"
+    same "verify: the certificate by $name" "accepted safe, status 0" "$(verified plan "$name")"
+    same "twire-verify: standard input twice, as $name" "$usage, status 2" "$(small - "$name" <plan)"
+    same "twire-verify: the plan by $name, closed" "refused read, status 2" "$(small_closed "$name" cert)"
+    same "twire-verify: the certificate by $name, closed" "refused read, status 2" "$(small_closed plan "$name")"
 done
 input=/dev/null
 for words in "" plan "plan cert cert" "--explain plan cert" "--" -V --hints; do
-    expect "twire-verify: the words '$words'" "$usage, status 2" "$(small $words)"
+    same "twire-verify: the words '$words'" "$usage, status 2" "$(small $words)"
 done
-expect "twire-verify: a word that is not UTF-8" "$usage, status 2" "$(small plan $'\xff')"
+same "twire-verify: a word that is not UTF-8" "$usage, status 2" "$(small plan $'\xff')"
 for word in -h --help; do
-    expect "twire-verify $word" "$usage, status 0" "$(small "$word")"
-    expect "twire-verify $word, on standard error" "" "$("$verifier" "$word" 2>&1 >/dev/null)"
+    same "twire-verify $word" "$usage, status 0" "$(small "$word")"
+    same "twire-verify $word, on standard error" "" "$("$verifier" "$word" 2>&1 >/dev/null)"
 done
 version=$("$twire" --version)
 found=$(small --version)
 # (a program of the gate has no label)
 label='(proved|trial), sources [0-9a-f]{12}|unknown build'
 [[ $found =~ ^"twire-verify ${version:6:5} ("$label"), status 0"$ ]] && found=yes
-expect "twire-verify --version" yes "$found"
-expect "twire-verify --version, on standard error" "" "$("$verifier" --version 2>&1 >/dev/null)"
-expect "twire-verify: usage, on standard output" "" "$("$verifier" plan 2>/dev/null)"
-expect "twire-verify: a full device" "refused write, status 2" "$(small_full)"
+same "twire-verify --version" yes "$found"
+same "twire-verify --version, on standard error" "" "$("$verifier" --version 2>&1 >/dev/null)"
+same "twire-verify: usage, on standard output" "" "$("$verifier" plan 2>/dev/null)"
+same "twire-verify: a full device" "refused write, status 2" "$(small_full)"
 
 # A certificate is judged as it comes: one that is larger than the memory there is. A trial build cannot run below any limit.
 if { (ulimit -v 32768 && exec "$twire" --version); } >/dev/null 2>&1; then
-    "$tests/../tools/widest_plan" 80 >plan
+    "$top/tools/widest_plan" 80 >plan
     "$twire" certify plan >cert
-    expect "a certificate of more than 32 MiB" yes "$( (($(stat -c %s cert) > 33554432)) && echo yes)"
-    expect "verify: that certificate with 32 MiB of memory" "accepted safe, status 0" "$(ulimit -v 32768 && answer verify plan cert)"
-    expect "twire-verify: the same" "accepted safe, status 0" "$(ulimit -v 32768 && small plan cert)"
+    same "a certificate of more than 32 MiB" yes "$( (($(stat -c %s cert) > 33554432)) && echo yes)"
+    same "verify: that certificate with 32 MiB of memory" "accepted safe, status 0" "$(ulimit -v 32768 && answer verify plan cert)"
+    same "twire-verify: the same" "accepted safe, status 0" "$(ulimit -v 32768 && small plan cert)"
 else
     echo "left out: a certificate of more than 32 MiB with 32 MiB of memory (not the proved build)"
 fi
 
-echo "$passed passed, $failed failed"
-((failed == 0))
+finish

@@ -1,55 +1,12 @@
 #!/usr/bin/env bash
-# Runs twire from the command line, and compares the exit status and all that it writes. The last line is
-# 'N passed, M failed', and the exit status is 1 where a case fails.
-#
-# It runs the launcher at the top of the repository, or the program that TWIRE names.
-set -u
-
-tests=$(dirname -- "$(readlink -f -- "${BASH_SOURCE[0]}")")
-twire=$(readlink -f -- "${TWIRE:-$tests/../twire}")
-work=$(mktemp -d)
-trap 'rm -rf -- "$work"' EXIT
-cd -- "$work" || exit 1
-
-passed=0
-failed=0
-
-# Counts a case by what stands in the files status, out and err and in those that are wanted.
-compare() {
-    local name=$1
-    if cmp -s want_status status && cmp -s want_out out && cmp -s want_err err; then
-        passed=$((passed + 1))
-        return
-    fi
-    failed=$((failed + 1))
-    echo "FAILED: $name"
-    diff -u --label "wanted status" --label status want_status status
-    diff -u --label "wanted output" --label output want_out out
-    diff -u --label "wanted error" --label error want_err err
-}
-
-# want STATUS OUT ERR: what the next case gives, with an LF after each text that is not empty.
-want() {
-    echo "$1" >want_status
-    printf '%s' "${2:+$2$'\n'}" >want_out
-    printf '%s' "${3:+$3$'\n'}" >want_err
-}
-
-# run NAME ARG..: a case, with this script's standard input.
-run() {
-    local name=$1
-    shift
-    "$twire" "$@" >out 2>err
-    echo "$?" >status
-    compare "$name"
-}
+# Runs twire from the command line, and compares the exit status and all that it writes.
+source "$(dirname -- "$(readlink -f -- "${BASH_SOURCE[0]}")")/suite.bash" || exit 1
 
 # The first call may build the program, and says so on standard error. What the launcher runs knows which of the two it is, and
 # the first digits of the hash of its sources; what the kit has just made does not.
-"$twire" --version >out 2>err
-echo "$?" >status
+status=$?
 build='(proved|trial), sources [0-9a-f]{12}'
-[[ $twire -ef $tests/../twire ]] || build+='|unknown build'
+[[ $twire -ef $top/twire ]] || build+='|unknown build'
 sed -i -E "s/^(.*) \\(($build)\\)\$/\1/; t; s/\$/ of no build/" out
 want 0 "twire 0.1.0" ""
 : >err
@@ -57,13 +14,9 @@ compare "version"
 
 # Plans.
 
-write_plan() {
-    printf '%s\n' "${@:2}" >"$1"
-}
-
 header="write 1001000 stop else stop"
-write_plan safe.plan "plan 1" "message m write 1010000 xxxxxxxx stop else stop else stop ;" "controller a m ;" "controller b m ;"
-write_plan unsafe.plan "plan 1" "message m $header ;" "message n write 1001000 0000000x stop else stop else stop ;" "controller a m ;" "controller b n ;"
+lines safe.plan "plan 1" "message m write 1010000 xxxxxxxx stop else stop else stop ;" "controller a m ;" "controller b m ;"
+lines unsafe.plan "plan 1" "message m $header ;" "message n write 1001000 0000000x stop else stop else stop ;" "controller a m ;" "controller b n ;"
 unsafe_report="pair 0 a/m b/n: stop against data after 10010000l
 unsafe: 1 of 1 pairs"
 
@@ -87,7 +40,7 @@ run "unsafe plan from a FIFO" check plan.fifo
 
 # Spellings.
 
-write_plan spelled.plan "plan 1 # probe" "interrupt t 0101010;message m" "write 1010000 stop else stop ; controller a m ;"
+lines spelled.plan "plan 1 # probe" "interrupt t 0101010;message m" "write 1010000 stop else stop ; controller a m ;"
 spelling="plan 1
 message m write 1010000 stop else stop ;
 controller a m ;
@@ -97,7 +50,7 @@ run "a plan printed" print spelled.plan
 run "a plan from a pipe printed" print /dev/stdin < <(cat spelled.plan)
 printf '%s\n' "$spelling" >printed.plan
 run "a printed plan printed again" print printed.plan
-write_plan refused.plan "plan 1" "message m write 1010000 stop ;"
+lines refused.plan "plan 1" "message m write 1010000 stop ;"
 want 2 "" "refused P3 line 2"
 run "a refused plan printed" print refused.plan
 want 2 "" "refused read"
@@ -106,11 +59,8 @@ run "no plan to print" print missing.plan
 # Refused plans.
 
 refused() {
-    local code=$1 line=$2
-    shift 2
-    write_plan refused.plan "$@"
-    want 2 "" "refused $code line $line"
-    run "$code line $line: $*" check refused.plan
+    lines refused.plan "${@:3}"
+    expect "$1 line $2: ${*:3}" 2 "" "refused $1 line $2" check refused.plan
 }
 
 refused P1 2 "plan 1" "# caf$(printf '\303\251')"
@@ -153,7 +103,7 @@ run "seven workers, with leading zeros" check safe.plan --workers 007
 run "three workers, with a sign" check safe.plan --workers +3
 
 # Any number of workers writes the same, also of a plan at every limit.
-"$tests/../tools/fullest_plan" >fullest.plan
+"$top/tools/fullest_plan" >fullest.plan
 for workers in 1 2 3 4 5 6 7 8; do
     want 1 "$unsafe_report" ""
     run "unsafe plan by $workers workers" check unsafe.plan --workers "$workers"
@@ -162,10 +112,10 @@ for workers in 1 2 3 4 5 6 7 8; do
 done
 
 # And of a plan with one of something more.
-"$tests/../tools/fullest_plan" 1 >over.plan
+"$top/tools/fullest_plan" 1 >over.plan
 want 2 "" "refused P5 line 2"
 run "one node more" check over.plan
-"$tests/../tools/fullest_plan" 0 1 >over.plan
+"$top/tools/fullest_plan" 0 1 >over.plan
 want 2 "" "refused P5 line 3"
 run "one byte more on a path" check over.plan
 sed '258i message more write 1001000 stop else stop ;' fullest.plan >over.plan
@@ -196,7 +146,7 @@ run "right proofs from standard input" verify safe.plan /dev/stdin <safe.cert
 run "a plan from standard input, and right proofs" verify /dev/stdin safe.cert <safe.plan
 want 1 "accepted unsafe" ""
 run "right fault" verify unsafe.plan unsafe.cert
-write_plan three.plan "plan 2" "message m write 1001000 11110000 stop else stop else stop ;" "message n write 1001000 11001111 stop else stop else stop ;" "message o write 1001000 1100xxxx stop else stop else stop ;" "controller a m ;" "controller b n ;" "controller c o ;" "never a c ;"
+lines three.plan "plan 2" "message m write 1001000 11110000 stop else stop else stop ;" "message n write 1001000 11001111 stop else stop else stop ;" "message o write 1001000 1100xxxx stop else stop else stop ;" "controller a m ;" "controller b n ;" "controller c o ;" "never a c ;"
 want 0 "cert 1
 pairs 2
 B P2 .
@@ -219,20 +169,12 @@ run "plan with a directory" verify safe.plan directory
 
 # Standard output that takes nothing.
 
-want 2 "" "refused write"
 for plan in safe.plan unsafe.plan; do
-    "$twire" check "$plan" >&- 2>err
-    echo "$?" >status
-    : >out
-    compare "closed standard output: $plan"
+    unwritten "closed standard output: $plan" "refused write" check "$plan" >&-
 done
-"$twire" --help >&- 2>err
-echo "$?" >status
-compare "closed standard output: help"
+unwritten "closed standard output: help" "refused write" --help >&-
 if [[ -c /dev/full ]]; then
-    "$twire" check unsafe.plan >/dev/full 2>err
-    echo "$?" >status
-    compare "full device"
+    unwritten "full device" "refused write" check unsafe.plan >/dev/full
 fi
 
 # A pipe that nobody reads any more.
@@ -241,8 +183,9 @@ mkfifo report.fifo
     exec 3<>report.fifo 4>report.fifo 3<&-
     exec "$twire" check unsafe.plan >&4 2>err
 )
-echo "$?" >status
-compare "broken pipe"
+status=$?
+: >out
+judge "broken pipe" 2 "" "refused write"
 
 # Memory that is refused: a limit that leaves room for the program, and not for the text. A trial build cannot run below
 # any limit.
@@ -250,7 +193,7 @@ want 2 "" "refused memory"
 if { (ulimit -v 32768 && exec "$twire" --version); } >/dev/null 2>&1; then
     (cat safe.plan && head -c 67108864 /dev/zero | tr '\0' '#') >long.plan
     (ulimit -v 32768 && exec "$twire" check long.plan) >out 2>err
-    echo "$?" >status
+    status=$?
     compare "a plan of 64 MiB with 32 MiB of memory"
 else
     echo "left out: a plan of 64 MiB with 32 MiB of memory (not the proved build)"
@@ -259,52 +202,49 @@ fi
 # Whoever has read enough of the help closes the pipe: that is no fault.
 : >err
 for k in {1..20}; do
-    { "$twire" help 2>>err; echo "$?" >status; } | head -n 1 >out
-    [[ $(cat status) == 0 ]] || break
+    "$twire" help 2>>err | head -n 1 >out
+    status=${PIPESTATUS[0]}
+    ((status == 0)) || break
 done
-want 0 "$(head -n 1 "$tests/../docs/help/twire.txt")" ""
-compare "the first line of the help alone"
+judge "the first line of the help alone" 0 "$(head -n 1 "$top/docs/help/twire.txt")" ""
 
 # With a closed standard error the status is left.
-want 2 "" ""
 "$twire" check missing.plan >out 2>&-
-echo "$?" >status
-: >err
-compare "closed standard error"
+same "closed standard error" "2 " "$? $(<out)"
 
 # Command lines.
 
-cp "$tests/../docs/help/twire.txt" help.txt
+cp "$top/docs/help/twire.txt" help.txt
 want 0 "$(cat help.txt)" ""
 run "help" --help
 run "short help" -h
 run "help as a subcommand" help
-want 0 "$(cat "$tests/../docs/help/check.txt")" ""
+want 0 "$(cat "$top/docs/help/check.txt")" ""
 run "help on check" check --help
 run "help on check as a subcommand" help check
-want 0 "$(cat "$tests/../docs/help/certify.txt")" ""
+want 0 "$(cat "$top/docs/help/certify.txt")" ""
 run "help on certify" certify --help
-want 0 "$(cat "$tests/../docs/help/verify.txt")" ""
+want 0 "$(cat "$top/docs/help/verify.txt")" ""
 run "help on verify" verify --help
-want 0 "$(cat "$tests/../docs/help/order.txt")" ""
+want 0 "$(cat "$top/docs/help/order.txt")" ""
 run "help on order" order --help
-want 0 "$(cat "$tests/../docs/help/print.txt")" ""
+want 0 "$(cat "$top/docs/help/print.txt")" ""
 run "help on print" print --help
-want 0 "$(cat "$tests/../docs/help/capture.txt")" ""
+want 0 "$(cat "$top/docs/help/capture.txt")" ""
 run "help on capture" capture --help
-want 0 "$(cat "$tests/../docs/help/decode.txt")" ""
+want 0 "$(cat "$top/docs/help/decode.txt")" ""
 run "help on decode" decode --help
-want 0 "$(cat "$tests/../docs/help/signals.txt")" ""
+want 0 "$(cat "$top/docs/help/signals.txt")" ""
 run "help on signals" signals --help
-want 0 "$(cat "$tests/../docs/help/learn.txt")" ""
+want 0 "$(cat "$top/docs/help/learn.txt")" ""
 run "help on learn" learn --help
-want 0 "$(cat "$tests/../docs/help/page.txt")" ""
+want 0 "$(cat "$top/docs/help/page.txt")" ""
 run "help on page" page --help
 want 2 "" "$(cat help.txt)"
 run "no argument"
 
 awk 'length > 80 { print FILENAME ": " $0 }' "$tests"/../docs/help/*.txt >out
-echo 0 >status
+status=0
 : >err
 want 0 "" ""
 compare "help fits 80 columns"
@@ -354,7 +294,7 @@ run "empty number of workers" check safe.plan --workers ""
 
 # Hints are further lines on standard error, after the line of a refusal. The option stands before or after the command.
 
-write_plan again.plan "plan 1" "message m write again stop else stop ;"
+lines again.plan "plan 1" "message m write again stop else stop ;"
 want 2 "" "refused P3 line 2
 hint: line 2 of the plan:
 hint:   message m write again stop else stop ;
@@ -364,7 +304,7 @@ run "hints on a plan" check again.plan --hints always
 run "hints before the command" --hints always check again.plan
 run "hints by certify" certify again.plan --hints=always
 run "hints by verify" verify --hints always again.plan safe.cert
-write_plan eight.plan "plan 1" "message m write 10010000 00000001 stop else stop else stop ;"
+lines eight.plan "plan 1" "message m write 10010000 00000001 stop else stop else stop ;"
 want 2 "" "refused P3 line 2
 hint: line 2 of the plan:
 hint:   message m write 10010000 00000001 stop else stop else stop ;
@@ -434,7 +374,7 @@ want 2 "wrong C1 line 1" "hint: this file is compressed by gzip: unpack it first
 run "hints on a compressed file in the place of a certificate" verify safe.plan safe.plan.gz --hints always
 
 # What was not looked at is told of a safe plan.
-write_plan spare.plan "plan 2" "message m $header ;" "message n $header ;" "controller a m ;" "controller b m ;" "never a b ;"
+lines spare.plan "plan 2" "message m $header ;" "message n $header ;" "controller a m ;" "controller b m ;" "never a b ;"
 left_out="hint: messages that no controller lists, which were not looked at: 1: n
 hint: 'never a b ;' leaves out pairs: 1
 hint: the plan has no two participants that may start together: no pair was
@@ -467,25 +407,22 @@ crowd() {
         messages+=("message w$k write 1001000 0000000x stop else stop else stop ;")
         listed+=" w$k"
     done
-    write_plan "many plans.plan" "plan 1" "message p write 1001000 stop else stop ;" "${messages[@]}" "controller a$listed ;" \
+    lines "many plans.plan" "plan 1" "message p write 1001000 stop else stop ;" "${messages[@]}" "controller a$listed ;" \
         "controller b p ;" "controller c p ;" "controller d p ;"
 }
 crowd 7
-"$twire" check "many plans.plan" --hints always >report 2>err
-echo "$?" >status
-tail -n 1 report >out
+call check "many plans.plan" --hints always
+sed -i '$!d' out
 want 1 "unsafe: 21 of 24 pairs" 'hint: 21 unsafe pairs in 1 group; try
 hint:   twire check --summary "many plans.plan"'
 compare "hints on many unsafe pairs"
-"$twire" check --explain "many plans.plan" --hints always >report 2>err
-echo "$?" >status
+call check --explain "many plans.plan" --hints always
 : >out
 want 1 "" ""
 compare "no hints on groups that are explained"
 sed -i 's/ w7 ;/ ;/; s/^message p .*/& message q read 1001001 1 stop else stop ;/; s/^controller a/& q/' "many plans.plan"
-"$twire" check "many plans.plan" --hints always >report 2>err
-echo "$?" >status
-tail -n 1 report >out
+call check "many plans.plan" --hints always
+sed -i '$!d' out
 want 1 "unsafe: 18 of 24 pairs" ""
 compare "no hints on eighteen unsafe pairs"
 
@@ -495,10 +432,10 @@ run "a safe plan, strictly" check safe.plan --strict
 run "a safe plan by two workers, strictly" check --strict safe.plan --workers 2
 want 1 "$unsafe_report" ""
 run "an unsafe plan, strictly" check --strict unsafe.plan
-write_plan kept.plan "plan 2" "message m $header ;" "controller a m ;" "controller b m ;" "controller c m ;" "never a b ;"
+lines kept.plan "plan 2" "message m $header ;" "controller a m ;" "controller b m ;" "controller c m ;" "never a b ;"
 want 0 "safe: 2 pairs" ""
 run "pairs that never leaves out, strictly" check --strict kept.plan
-write_plan unlisted.plan "plan 1" "message n $header ;" "message m $header ;" "controller a m ;" "controller b m ;"
+lines unlisted.plan "plan 1" "message n $header ;" "message m $header ;" "controller a m ;" "controller b m ;"
 want 0 "safe: 1 pairs" ""
 run "a message in no controller" check unlisted.plan
 want 1 "safe: 1 pairs" ""
@@ -515,11 +452,11 @@ want 1 "$not_checked" ""
 run "no pair, and a message in no controller, strictly and explained" check --strict --summary spare.plan
 want 1 "safe: 0 pairs" ""
 run "no pair, and a message in no controller, strictly" check --strict spare.plan
-write_plan alone.plan "plan 1" "message m $header ;" "controller a m ;"
+lines alone.plan "plan 1" "message m $header ;" "controller a m ;"
 run "one controller, strictly" check --strict alone.plan
-write_plan nothing.plan "plan 1"
+lines nothing.plan "plan 1"
 run "no items, strictly" check --strict nothing.plan
-write_plan asks.plan "plan 1" "message m $header ;" "controller a m ;" "interrupt t 1001001 ;"
+lines asks.plan "plan 1" "message m $header ;" "controller a m ;" "interrupt t 1001001 ;"
 want 0 "safe: 1 pairs" ""
 run "one controller and an interrupt, strictly" check --strict asks.plan
 want 2 "" "refused P2 line 1"
@@ -554,13 +491,9 @@ want 2 "" "refused workers
 hint: '--workers' takes 1 to 8"
 run "hints on a number of workers" check safe.plan --workers 9 --hints always
 if [[ -c /dev/full ]]; then
-    "$twire" check safe.plan --hints always >/dev/full 2>err
-    echo "$?" >status
-    : >out
-    want 2 "" "refused write
+    unwritten "hints on a full device" "refused write
 hint: standard output did not take the whole report:
-hint: No space left on device (os error 28)"
-    compare "hints on a full device"
+hint: No space left on device (os error 28)" check safe.plan --hints always >/dev/full
 fi
 
 want 2 "" "error: invalid value 'x' for '--hints <WHEN>'
@@ -573,18 +506,16 @@ run "a word on hints that is none" check safe.plan --hints x
 for words in "--workers x" "--workers" "--workers=" "--workers -1" "--workers 4294967296" "--workers 1 --workers 1" "--hints" "--hints=" "--hints Always" "--hints auto --hints auto" "other.plan"; do
     want 2 "" ""
     # shellcheck disable=SC2086
-    "$twire" check safe.plan $words >out 2>err
-    echo "$?" >status
+    call check safe.plan $words
     grep -q '^error: ' err && : >err
     compare "command line: check safe.plan $words"
 done
 
 # The plan in the help has the fault that the help on check shows.
 sed -n '/^  plan 1$/,/^$/s/^  //p' help.txt >help.plan
-"$twire" check help.plan >report 2>err
-echo "$?" >status
-head -n 1 report >out
-want 1 "$(sed -n 's/^  \(pair 0 .*\)/\1/p' "$tests/../docs/help/check.txt")" ""
+call check help.plan
+sed -i '2,$d' out
+want 1 "$(sed -n 's/^  \(pair 0 .*\)/\1/p' "$top/docs/help/check.txt")" ""
 compare "the plan in the help"
 
 # Each example says in its head how it is checked: a line '# twire check FILE (exit status N)', and below it the lines
@@ -597,7 +528,7 @@ head_of() {
     fi
 }
 
-for plan in "$tests"/../examples/*.plan; do
+for plan in "$examples"/*.plan; do
     head=$(head_of "$plan")
     status=$(sed -n 's/^# twire check .*(exit status \([0-2]\))$/\1/p' "$head")
     report=$(sed -n '/^# twire check /,/^\(#\)\{0,1\}$/s/^#   //p' "$head")
@@ -609,7 +540,7 @@ for plan in "$tests"/../examples/*.plan; do
 done
 
 # The certificate of an example belongs to the plan of its name.
-for cert in "$tests"/../examples/*.cert; do
+for cert in "$examples"/*.cert; do
     plan=${cert%.cert}.plan
     safe=$(sed -n 's/^# twire check .*(exit status \([0-2]\))$/\1/p' "$(head_of "$plan")")
     want "$safe" "$(cat "$cert")" ""
@@ -618,5 +549,4 @@ for cert in "$tests"/../examples/*.cert; do
     run "example $(basename "$cert")" verify "$plan" "$cert"
 done
 
-echo "$passed passed, $failed failed"
-((failed == 0))
+finish

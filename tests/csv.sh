@@ -1,55 +1,26 @@
 #!/usr/bin/env bash
 # What comes from the bench: tables (CSV) that tools/csv_to_vcd makes dumps of, what hints say of files in other formats, and
-# captures whose samples are too far apart. The last line is 'N passed, M failed', and the exit status is 1 where a case fails.
-#
-# It runs the launcher at the top of the repository, or the program that TWIRE names.
-set -u
+# captures whose samples are too far apart.
+source "$(dirname -- "$(readlink -f -- "${BASH_SOURCE[0]}")")/suite.bash" || exit 1
 
-tests=$(dirname -- "$(readlink -f -- "${BASH_SOURCE[0]}")")
-examples=$tests/../examples
 plan=$examples/stop_meets_data.plan
-convert=$tests/../tools/csv_to_vcd
-twire=$(readlink -f -- "${TWIRE:-$tests/../twire}")
-work=$(mktemp -d)
-trap 'rm -rf -- "$work"' EXIT
-cd -- "$work" || exit 1
-
-passed=0
-failed=0
-
-# want NAME WANTED FOUND
-want() {
-    if [[ $2 == "$3" ]]; then
-        passed=$((passed + 1))
-        return
-    fi
-    failed=$((failed + 1))
-    printf 'FAILED: %s: wanted\n%s\nfound\n%s\n' "$1" "$2" "$3"
-}
-
-# call ARG..: what a call of twire writes, to both streams, and its status.
-call() {
-    "$twire" "$@" 2>&1
-    echo "status $?"
-}
-
-"$twire" --version >/dev/null 2>&1
+convert=$top/tools/csv_to_vcd
 
 # ---- tables
 
 if command -v python3 >/dev/null; then
     # Each example is the transaction of examples/probe_*.vcd: a START at 5 us, a STOP at 160 us.
-    probe=$'5-160 service/probe_10\n1 transactions, 0 unexplained\nstatus 0'
+    probe=$'5-160 service/probe_10\n1 transactions, 0 unexplained, status 0'
     "$convert" "$examples/probe_logic.csv" >logic.vcd
-    want "Logic 2" "$probe" "$(call capture "$plan" logic.vcd --scl "Channel 0" --sda "Channel 1")"
+    same "Logic 2" "$probe" "$(answer capture "$plan" logic.vcd --scl "Channel 0" --sda "Channel 1")"
     "$convert" "$examples/probe_kingst.csv" >kingst.vcd
-    want "Kingst" "$probe" "$(call capture "$plan" kingst.vcd --scl "Channel 0" --sda "Channel 1")"
+    same "Kingst" "$probe" "$(answer capture "$plan" kingst.vcd --scl "Channel 0" --sda "Channel 1")"
     "$convert" "$examples/probe_pulseview.csv" >pulseview.vcd
-    want "PulseView" "$probe" "$(call capture "$plan" pulseview.vcd --scl "I2C SCL" --sda "I2C SDA")"
-    want "in parts of a second" $'5 us-160 us service/probe_10\n1 transactions, 0 unexplained\nstatus 0' \
-        "$(call capture "$plan" logic.vcd --scl "Channel 0" --sda "Channel 1" --times si)"
-    want "a table from a pipe" "$(cat logic.vcd)" "$("$convert" /dev/stdin < <(cat "$examples/probe_logic.csv"))"
-    want "one that stands in a file" "$(cat logic.vcd)" "$("$convert" /dev/stdin <"$examples/probe_logic.csv")"
+    same "PulseView" "$probe" "$(answer capture "$plan" pulseview.vcd --scl "I2C SCL" --sda "I2C SDA")"
+    same "in parts of a second" $'5 us-160 us service/probe_10\n1 transactions, 0 unexplained, status 0' \
+        "$(answer capture "$plan" logic.vcd --scl "Channel 0" --sda "Channel 1" --times si)"
+    same "a table from a pipe" "$(cat logic.vcd)" "$("$convert" /dev/stdin < <(cat "$examples/probe_logic.csv"))"
+    same "one that stands in a file" "$(cat logic.vcd)" "$("$convert" /dev/stdin <"$examples/probe_logic.csv")"
 
     # dump UNIT NAMES CHANGES..: a dump of signals with these names, which commas part.
     dump() {
@@ -67,7 +38,7 @@ if command -v python3 >/dev/null; then
     # table NAME WANTED TEXT ARG..: the dump of a table.
     table() {
         printf '%b' "$3" >table.csv
-        want "$1" "$2" "$("$convert" table.csv "${@:4}" 2>&1)"
+        same "$1" "$2" "$("$convert" table.csv "${@:4}" 2>&1)"
     }
 
     both=$(dump us 'scl,sda' '#0 1! 1"' '#5 0"')
@@ -120,14 +91,14 @@ if command -v python3 >/dev/null; then
 
     # The 95th signal has a code of two characters.
     { printf 'Time [s]'; printf ',c%s' {1..95}; echo; printf 0; printf ',0%.0s' {1..95}; echo; } >table.csv
-    want "95 columns" '$var wire 1 ~ c94 $end
+    same "95 columns" '$var wire 1 ~ c94 $end
 $var wire 1 !! c95 $end' "$("$convert" table.csv | grep 'c9[45] ')"
 
     # no_table NAME WORDS TEXT ARG..: a table that is refused, with nothing on standard output.
     no_table() {
         printf '%b' "$3" >table.csv
         "$convert" table.csv "${@:4}" >out 2>err
-        want "$1" "2 csv_to_vcd: table.csv: $2" "$? $(cat out err)"
+        same "$1" "2 csv_to_vcd: table.csv: $2" "$? $(cat out err)"
     }
     no_table "an empty file" "it has no line with the names of columns" ''
     no_table "no names" "line 1: a row stands where the names of the columns are expected" '0,1,1\n5,1,0\n'
@@ -163,13 +134,13 @@ $var wire 1 !! c95 $end' "$("$convert" table.csv | grep 'c9[45] ')"
     no_table "a short row" "line 3: 2 columns stand where 3 have names" 'Time [s],scl,sda\n0,1,1\n1,1\n'
     no_table "a long row" "line 2: 4 columns stand where 3 have names" 'Time [s],scl,sda\n0,1,1,1\n'
     no_table "an empty line among rows" "line 3: an empty line stands among the rows" 'Time [s],scl\n0,1\n\n1,0\n'
-    want "a file that is not there" "csv_to_vcd: missing.csv: No such file or directory" "$("$convert" missing.csv 2>&1)"
-    want "a rate that is none" "csv_to_vcd: --rate takes a whole number of samples a second, as 1MHz" "$("$convert" a.csv --rate fast 2>&1)"
-    want "its help" "usage: tools/csv_to_vcd FILE [--rate RATE]" "$("$convert" --help | head -n 1)"
-    want "a full disk" "csv_to_vcd: standard output: No space left on device" \
+    same "a file that is not there" "csv_to_vcd: missing.csv: No such file or directory" "$("$convert" missing.csv 2>&1)"
+    same "a rate that is none" "csv_to_vcd: --rate takes a whole number of samples a second, as 1MHz" "$("$convert" a.csv --rate fast 2>&1)"
+    same "its help" "usage: tools/csv_to_vcd FILE [--rate RATE]" "$("$convert" --help | head -n 1)"
+    same "a full disk" "csv_to_vcd: standard output: No space left on device" \
         "$("$convert" "$examples/probe_logic.csv" 2>&1 >/dev/full)"
     "$convert" >out 2>err
-    want "no file" "2  usage: tools/csv_to_vcd FILE [--rate RATE]" "$? $(cat out) $(head -n 1 err)"
+    same "no file" "2  usage: tools/csv_to_vcd FILE [--rate RATE]" "$? $(cat out) $(head -n 1 err)"
 else
     echo "left out: tables (no python3)"
 fi
@@ -188,57 +159,50 @@ hint: written by'
 v2=$'refused V2 line 1\n'
 for command in "capture $plan" decode learn signals "page $plan --capture"; do
     read -ra words <<<"$command"
-    want "FST: ${words[0]}" "$v2$fst
-hint:   fst2vcd bus.fst > bus.vcd
-status 2" "$(call "${words[@]}" bus.fst --hints always)"
-    want "a session: ${words[0]}" "$v2$session
-hint:   sigrok-cli -i bus.sr -O vcd > bus.vcd
-status 2" "$(call "${words[@]}" bus.sr --hints always)"
-    want "a table: ${words[0]}" "$v2$rows
-hint:   tools/csv_to_vcd bus.csv > bus.vcd
-status 2" "$(call "${words[@]}" bus.csv --hints always)"
-    want "no hint: ${words[0]}" "${v2}status 2" "$(call "${words[@]}" bus.csv)"
+    same "FST: ${words[0]}" "$v2$fst
+hint:   fst2vcd bus.fst > bus.vcd, status 2" "$(answer "${words[@]}" bus.fst --hints always)"
+    same "a session: ${words[0]}" "$v2$session
+hint:   sigrok-cli -i bus.sr -O vcd > bus.vcd, status 2" "$(answer "${words[@]}" bus.sr --hints always)"
+    same "a table: ${words[0]}" "$v2$rows
+hint:   tools/csv_to_vcd bus.csv > bus.vcd, status 2" "$(answer "${words[@]}" bus.csv --hints always)"
+    same "no hint: ${words[0]}" "${v2%$'\n'}, status 2" "$(answer "${words[@]}" bus.csv)"
 done
-want "FST in the place of a plan" "refused P3 line 1
+same "FST in the place of a plan" "refused P3 line 1
 hint: this is an FST file, as GTKWave has it: 'fst2vcd FILE' writes the dump
-hint: that it holds
-status 2" "$(call check bus.fst --hints always)"
-want "an FST file as objects" '{"kind":"hint","form":"sentence","text":"this is an FST file, as GTKWave has it; a dump of it is written by"}
+hint: that it holds, status 2" "$(answer check bus.fst --hints always)"
+same "an FST file as objects" '{"kind":"hint","form":"sentence","text":"this is an FST file, as GTKWave has it; a dump of it is written by"}
 {"kind":"hint","form":"line","text":"fst2vcd bus.fst > bus.vcd"}' \
     "$("$twire" decode bus.fst --hints always --format json 2>&1 | tail -n +2)"
-want "a scope" "$fst" "$("$twire" decode bus.fst --scope top --hints always 2>&1 | sed -n 2p)"
+same "a scope" "$fst" "$("$twire" decode bus.fst --scope top --hints always 2>&1 | sed -n 2p)"
 
 # The name of the dump is another one, and a shell takes both.
 command_for() {
     "$twire" decode "$1" --hints always 2>&1 | sed -n 's/^hint:   //p'
 }
 cp bus.fst odd.vcd
-want "FST under another name" "fst2vcd odd.vcd > odd.vcd.vcd" "$(command_for odd.vcd)"
+same "FST under another name" "fst2vcd odd.vcd > odd.vcd.vcd" "$(command_for odd.vcd)"
 cp bus.csv "my bus.csv"
-want "a name with a blank" 'tools/csv_to_vcd "my bus.csv" > "my bus.vcd"' "$(command_for "my bus.csv")"
+same "a name with a blank" 'tools/csv_to_vcd "my bus.csv" > "my bus.vcd"' "$(command_for "my bus.csv")"
 cp bus.csv '$a.csv'
-want "a name with a dollar sign" "tools/csv_to_vcd '\$a.csv' > '\$a.vcd'" "$(command_for '$a.csv')"
+same "a name with a dollar sign" "tools/csv_to_vcd '\$a.csv' > '\$a.vcd'" "$(command_for '$a.csv')"
 cp bus.sr ./-x.sr
-want "a name that looks like an option" "sigrok-cli -i ./-x.sr -O vcd > ./-x.vcd" "$("$twire" decode --hints always -- -x.sr 2>&1 | sed -n 's/^hint:   //p')"
+same "a name that looks like an option" "sigrok-cli -i ./-x.sr -O vcd > ./-x.vcd" "$("$twire" decode --hints always -- -x.sr 2>&1 | sed -n 's/^hint:   //p')"
 
 # A pipe cannot be read once more, but its first line is known where that is refused.
-want "FST from a pipe" "$v2$fst
-hint:   fst2vcd FILE.fst > FILE.vcd
-status 2" "$(call decode - --hints always < <(cat bus.fst))"
-want "a session from a pipe" "$v2$session
-hint:   sigrok-cli -i FILE.sr -O vcd > FILE.vcd
-status 2" "$(call decode /dev/stdin --hints always < <(cat bus.sr))"
+same "FST from a pipe" "$v2$fst
+hint:   fst2vcd FILE.fst > FILE.vcd, status 2" "$(answer decode - --hints always < <(cat bus.fst))"
+same "a session from a pipe" "$v2$session
+hint:   sigrok-cli -i FILE.sr -O vcd > FILE.vcd, status 2" "$(answer decode /dev/stdin --hints always < <(cat bus.sr))"
 mkfifo bus.fifo
 cat bus.csv >bus.fifo &
-want "a table from a FIFO" "$v2$rows
-hint:   tools/csv_to_vcd FILE.csv > FILE.vcd
-status 2" "$(call capture "$plan" bus.fifo --hints always)"
+same "a table from a FIFO" "$v2$rows
+hint:   tools/csv_to_vcd FILE.csv > FILE.vcd, status 2" "$(answer capture "$plan" bus.fifo --hints always)"
 wait
 
 # What a table begins with, and what is none.
 is_table() {
     printf '%b' "$2" >given
-    want "a table: $1" "tools/csv_to_vcd given > given.vcd" "$(command_for given)"
+    same "a table: $1" "tools/csv_to_vcd given > given.vcd" "$(command_for given)"
 }
 is_table "Kingst" 'Time[s], Channel 0, Channel 1\n'
 is_table "sigrok" '; CSV generated by libsigrok 0.5.2\n; Channels (2/2): D0, D1\n'
@@ -249,7 +213,7 @@ is_table "tabs" 'Time\tscl\tsda\n'
 is_table "empty lines above it" '\n\r\n Time,scl\n'
 for text in 'hello world\n' 'a\tb\n' '#1,2\n' '$date, 1\n' 'a,\x01b\n' '{"a": 1}\n' ''; do
     printf '%b' "$text" >given
-    want "no table: $text" "" "$(command_for given | grep csv_to_vcd)"
+    same "no table: $text" "" "$(command_for given | grep csv_to_vcd)"
 done
 
 # ---- samples that are too far apart
@@ -291,28 +255,28 @@ far() {
 }
 # The STOP has a rise of its own: of 7 others 2 have a change of SDA.
 clocked far 0100100 1010100
-want "far apart: 2 of 8" "$(far 8 2)" "$(said decode far | grep -o 'SCL rises.*clock of the bus')"
-want "its lines" 'hint: SCL rises 8 times, and in 2 of these samples SDA changes too: the capture
+same "far apart: 2 of 8" "$(far 8 2)" "$(said decode far | grep -o 'SCL rises.*clock of the bus')"
+same "its lines" 'hint: SCL rises 8 times, and in 2 of these samples SDA changes too: the capture
 hint: is undersampled, and what it shows may be wrong; record with at least 10
 hint: times the clock of the bus' "$("$twire" learn far --hints always 2>&1 >/dev/null | sed -n 1,3p)"
 for command in "capture $plan" "capture $plan --live" "capture $plan --explain" "capture $plan --summary --times si" "decode --live" \
     "decode --summary" learn "page $plan -o page.html --capture"; do
     read -ra words <<<"$command"
-    want "far apart: $command" "$(far 8 2)" "$(said "${words[@]}" far | grep -o 'SCL rises.*clock of the bus')"
+    same "far apart: $command" "$(far 8 2)" "$(said "${words[@]}" far | grep -o 'SCL rises.*clock of the bus')"
 done
-want "far apart, from a pipe" "$(far 8 2)" "$(said capture "$plan" - < <(cat far) | grep -o 'SCL rises.*clock of the bus')"
-want "far apart, as an object" "{\"kind\":\"hint\",\"form\":\"sentence\",\"text\":\"$(far 8 2)\"}" \
+same "far apart, from a pipe" "$(far 8 2)" "$(said capture "$plan" - < <(cat far) | grep -o 'SCL rises.*clock of the bus')"
+same "far apart, as an object" "{\"kind\":\"hint\",\"form\":\"sentence\",\"text\":\"$(far 8 2)\"}" \
     "$("$twire" decode far --hints always --format json 2>&1 >/dev/null | head -n 1)"
-want "far apart, in a report that stays" "$("$twire" decode far 2>&1)" "$("$twire" decode far --hints always 2>/dev/null)"
+same "far apart, in a report that stays" "$("$twire" decode far 2>&1)" "$("$twire" decode far --hints always 2>/dev/null)"
 falls=$(printf '1%.0s' {1..63})
 rises=$(printf '0%.0s' {1..58})
 clocked far "10101$rises" "$falls"
-want "far apart: 3 of 64" "$(far 64 3)" "$(said decode far | grep -o 'SCL rises.*clock of the bus')"
+same "far apart: 3 of 64" "$(far 64 3)" "$(said decode far | grep -o 'SCL rises.*clock of the bus')"
 
 # near NAME RISES FALLS: one of which nothing is said.
 near() {
     clocked near "$2" "$3"
-    want "$1" "" "$(said capture "$plan" near | grep -o 'undersampled')"
+    same "$1" "" "$(said capture "$plan" near | grep -o 'undersampled')"
 }
 near "not far apart: 1 of 8" 0000100 1111111
 near "not far apart: 2 of 64" "10100$rises" "$falls"
@@ -320,10 +284,10 @@ near "7 rises are too few to tell" 111111 000000
 # A simulator without delays changes SDA as SCL falls, each time.
 near "SDA changes where SCL falls" 000000000000000000 111111111111111111
 # One signal for both lines rises with itself.
-want "one signal for both lines" "" "$(said decode far --sda scl | grep -o 'undersampled')"
+same "one signal for both lines" "" "$(said decode far --sda scl | grep -o 'undersampled')"
 # A line that comes to be known does not rise.
 { sed 1q far; for k in {1..40}; do echo "#$k x! x\" #${k}5 1! 1\" #${k}8 1!"; done; } | sed 's/#\([0-9]*\) x/#\10 x/' >known
-want "lines that come to be known" "" "$(said decode known | grep -o 'undersampled')"
+same "lines that come to be known" "" "$(said decode known | grep -o 'undersampled')"
 
 # All examples have enough samples.
 for vcd in "$examples"/*.vcd; do
@@ -333,8 +297,7 @@ for vcd in "$examples"/*.vcd; do
         probe_pulseview.vcd) options=(--scl "I2C SCL" --sda "I2C SDA") ;;
         probe_logic.vcd) options=(--scl "Channel 0" --sda "Channel 1") ;;
     esac
-    want "enough samples: ${vcd##*/}" "0 " "$("$twire" decode "$vcd" "${options[@]}" --hints always >out 2>err; echo "$? $(grep -o undersampled err)")"
+    same "enough samples: ${vcd##*/}" "0 " "$("$twire" decode "$vcd" "${options[@]}" --hints always >out 2>err; echo "$? $(grep -o undersampled err)")"
 done
 
-echo "$passed passed, $failed failed"
-[[ $failed == 0 ]]
+finish

@@ -1,56 +1,7 @@
 #!/usr/bin/env bash
-# Captures in bytes, without a plan, also as waves; captures that are told while they are read (--live); and captures that end at
-# what nobody explains. The last line is 'N passed, M failed', and the exit status is 1 where a case fails.
-#
-# It runs the launcher at the top of the repository, or the program that TWIRE names.
-set -u
-
-tests=$(dirname -- "$(readlink -f -- "${BASH_SOURCE[0]}")")
-examples=$tests/../examples
-twire=$(readlink -f -- "${TWIRE:-$tests/../twire}")
-work=$(mktemp -d)
-trap 'clean_up' EXIT
-cd -- "$work" || exit 1
-
-passed=0
-failed=0
-
-clean_up() {
-    local job
-    for job in $(jobs -p); do
-        kill -KILL "$job" 2>/dev/null
-    done
-    rm -rf -- "$work"
-}
-
-# judge NAME STATUS OUT ERR: compares these with what stands in status and in the files out and err.
-judge() {
-    local name=$1 want=$2 out=$3 err=$4
-    if [[ $status == "$want" && $(cat out) == "$out" && $(cat err) == "$err" ]]; then
-        passed=$((passed + 1))
-        return
-    fi
-    failed=$((failed + 1))
-    printf 'FAILED: %s: wanted status %s\n%s\n%s\nfound status %s\n%s\n%s\n' \
-        "$name" "$want" "$out" "$err" "$status" "$(head -n 40 out)" "$(head -n 40 err)"
-}
-
-# expect NAME STATUS OUT ERR ARG..: one call of twire, with this script's standard input.
-expect() {
-    "$twire" "${@:5}" >out 2>err
-    status=$?
-    judge "$1" "$2" "$3" "$4"
-}
-
-# refuses NAME WORDS ARG..: a command line that does not parse, for this reason.
-refuses() {
-    "$twire" "${@:3}" >out 2>err
-    status=$?
-    sed -i '2,$d' err
-    judge "$1" 2 "" "error: $2"
-}
-
-"$twire" --version >/dev/null 2>&1
+# Captures in bytes, without a plan, also as waves; captures that are told while they are read (--live); and captures that end
+# at what nobody explains.
+source "$(dirname -- "$(readlink -f -- "${BASH_SOURCE[0]}")")/suite.bash" || exit 1
 
 cat >plan <<'PLAN'
 plan 1
@@ -73,7 +24,7 @@ levels() {
     dump "$name" '#0 1! 1"'
     shift
     for text; do
-        "$tests/../tools/dump" "$text" | sed '1,/enddefinitions/d' | awk -v from="$((1000 * k))" '
+        "$top/tools/dump" "$text" | sed '1,/enddefinitions/d' | awk -v from="$((1000 * k))" '
             $1 != "#0" {
                 sub(/^#/, "", $1)
                 line = "#" ($1 + from)
@@ -285,40 +236,35 @@ BEGIN {
     print "6000 transactions" >"long_due"
     print "6000 transactions, 5400 unexplained" >"long_captured"
 }' >>long
-"$twire" decode long >out 2>err
-status=$?
+call decode long
 cmp -s out long_due && echo alike >out
 judge "a long dump" 0 alike ""
 
-# alike NAME ARG..: with --live the run says the same, and has the same status.
-alike() {
-    local name=$1 due due_err due_status
-    shift
-    due=$("$twire" "$@" 2>due_err)
-    due_status=$?
-    expect "live: $name" "$due_status" "$due" "$(cat due_err)" "$@" --live
+# live NAME ARG..: with --live the run says the same, and has the same status.
+live() {
+    want_of "${@:2}"
+    run "live: $1" "${@:2}" --live
 }
 
 for dump in again short torn_again ends unended summed stray nothing; do
-    alike "$dump" decode "$dump"
-    alike "$dump in objects" decode "$dump" --format json
-    alike "who explains $dump" capture plan "$dump"
-    alike "who explains $dump in objects" capture plan "$dump" --format json
+    live "$dump" decode "$dump"
+    live "$dump in objects" decode "$dump" --format json
+    live "who explains $dump" capture plan "$dump"
+    live "who explains $dump in objects" capture plan "$dump" --format json
 done
-alike "a summary" decode summed --summary
-alike "a summary in objects" decode summed --summary --format json
-alike "a long dump" decode long
-alike "a part of a dump" decode long --from 1000 --to 2000 --times si --min-pulse 1
-alike "explained" capture plan summed --explain --times si
-alike "explained, in objects" capture plan summed --explain --format json
-alike "a summary of participants" capture plan summed --summary
-alike "too few" capture plan summed --at-least 100
-alike "colours" capture plan summed --color always
-alike "hints" capture plan empty --hints always
-alike "a plan that is refused" capture stray header
-alike "examples" capture "$examples/stop_meets_data.plan" "$examples/write_ghdl.vcd"
-"$twire" capture plan long --live >out 2>err
-status=$?
+live "a summary" decode summed --summary
+live "a summary in objects" decode summed --summary --format json
+live "a long dump" decode long
+live "a part of a dump" decode long --from 1000 --to 2000 --times si --min-pulse 1
+live "explained" capture plan summed --explain --times si
+live "explained, in objects" capture plan summed --explain --format json
+live "a summary of participants" capture plan summed --summary
+live "too few" capture plan summed --at-least 100
+live "colours" capture plan summed --color always
+live "hints" capture plan empty --hints always
+live "a plan that is refused" capture stray header
+live "examples" capture "$examples/stop_meets_data.plan" "$examples/write_ghdl.vcd"
+call capture plan long --live
 cmp -s out long_captured && echo alike >out
 judge "who explains a long dump, live" 1 alike ""
 
@@ -396,17 +342,14 @@ slow "a time that goes back after what has ended" "$last" "$all" 2 "$all" "refus
 # Of a file as much is read at a time as 64 KiB; of the read that is refused what ended before the refusal is told.
 { cat long; printf '#18446744073709551615 ?\n'; } >long_stray
 line=$(wc -l <long_stray)
-"$twire" decode long_stray --live >out 2>err
-status=$?
+call decode long_stray --live
 sed '$d' long_due | cmp -s - out && echo "all that ended" >out
 judge "a token of no kind after many reads" 2 "all that ended" "refused V2 line $line"
-"$twire" capture plan long_stray --live >out 2>err
-status=$?
+call capture plan long_stray --live
 sed '$d' long_captured | cmp -s - out && echo "all that ended" >out
 judge "the same of who explains them" 2 "all that ended" "refused V2 line $line"
 # Without --live lines are written once there are 64 KiB of them, and the exact report when it is whole.
-"$twire" decode long_stray >out 2>err
-status=$?
+call decode long_stray
 size=$(wc -c <out)
 head -c "$size" long_due | cmp -s - out && ((size >= 65536)) && echo "a block of them" >out
 judge "a token of no kind after many reads, not live" 2 "a block of them" "refused V2 line $line"
@@ -423,10 +366,7 @@ status=$?
 : >out
 judge "a report that nobody reads" 2 "" "refused write"
 if [[ -c /dev/full ]]; then
-    "$twire" decode header --live >/dev/full 2>err
-    status=$?
-    : >out
-    judge "a full device" 2 "" "refused write"
+    unwritten "a full device" "refused write" decode header --live >/dev/full
 fi
 # The producer ends in the midst of a transaction.
 head -n "$((first + 2))" three >source
@@ -649,5 +589,4 @@ levels odd_first 100100010
 expect "a token of no kind that is read no more" 1 $'5-160 unexplained\n1 transactions, 1 unexplained' "" \
     capture plan odd_long --stop-at-unexplained
 
-echo "$passed passed, $failed failed"
-((failed == 0))
+finish

@@ -1,37 +1,13 @@
 #!/usr/bin/env bash
-# The documents: each command that README and GUIDE show prints what stands below it; each plan and brief there is read; the lines
-# of the table of data-sheet transactions mean what the text says; links and anchors lead somewhere; and the rules of the pages
-# (no line of prose above 120 columns, no cell above 120, no paragraph above 600, no heading twice). The last line is 'N passed,
-# M failed', and the exit status is 1 where a case fails.
-#
-# It runs the launcher at the top of the repository, or the program that TWIRE names.
-set -u
+# The documents: each command that README and GUIDE show prints what stands below it; each plan and brief there is read; the
+# lines of the table of data-sheet transactions mean what the text says; links and anchors lead somewhere; and the rules of the
+# pages (no line of prose above 120 columns, no cell above 120, no paragraph above 600, no heading twice).
+source "$(dirname -- "$(readlink -f -- "${BASH_SOURCE[0]}")")/suite.bash" || exit 1
 
-tests=$(dirname -- "$(readlink -f -- "${BASH_SOURCE[0]}")")
-top=$(dirname -- "$tests")
-twire=$(readlink -f -- "${TWIRE:-$top/twire}")
-work=$(mktemp -d)
-trap 'rm -rf -- "$work"' EXIT
-cd -- "$work" || exit 1
 mkdir bin
 ln -s "$top/examples" examples
 ln -s "$twire" bin/twire
 export PATH=$work/bin:$PATH
-# The first call may build the program, and says so.
-twire --version >found 2>&1
-
-passed=0
-failed=0
-
-# want NAME WANTED FOUND
-want() {
-    if [[ $2 == "$3" ]]; then
-        passed=$((passed + 1))
-        return
-    fi
-    failed=$((failed + 1))
-    printf 'FAILED: %s: wanted\n%s\nfound\n%s\n' "$1" "$2" "$3"
-}
 
 # ---- commands, plans and briefs
 
@@ -52,15 +28,15 @@ run_console() {
 
 run_command() {
     [[ -n $2 ]] || return 0
-    want "$1: $2" "${3%$'\n'}" "$(bash -c "$2" 2>&1 </dev/null)"
+    same "$1: $2" "${3%$'\n'}" "$(bash -c "$2" 2>&1 </dev/null)"
 }
 
 # run_block PAGE LANGUAGE NAME: the block is in the file `block`; a brief or a plan with a name is kept under it.
 run_block() {
     case $2 in
         console) run_console "$1" ;;
-        brief) want "$1: a brief that is read: $(sed -n 2p block)" 0 "$(twire expand block >found 2>&1; echo $?)" ;;
-        plan) want "$1: a plan that is read: $(sed -n 2p block)" 0 "$(twire print block >found 2>&1; echo $?)" ;;
+        brief) same "$1: a brief that is read: $(sed -n 2p block)" 0 "$(twire expand block >found 2>&1; echo $?)" ;;
+        plan) same "$1: a plan that is read: $(sed -n 2p block)" 0 "$(twire print block >found 2>&1; echo $?)" ;;
     esac
     [[ -z $3 ]] || cp block "$3"
 }
@@ -95,26 +71,26 @@ sed -n '/^```brief/,/^```/p' "$top/docs/GUIDE.md" | sed -n '/^brief 1/,/^```/p' 
 # (a family is many messages, of several lengths: the text leaves it out)
 grep -o '`message [^`]*;`' "$top/docs/GUIDE.md" | tr -d '`' | grep -v '[*][0-9]*[.][.]' >recipes
 names=$(awk '{ printf " %s", $2 }' recipes)
-want "the table has recipes" yes "$( (($(wc -l <recipes) > 10)) && echo yes)"
+same "the table has recipes" yes "$( (($(wc -l <recipes) > 10)) && echo yes)"
 
 # Two controllers that both may send one of them are safe.
 while IFS= read -r recipe; do
     read -r _ name _ <<<"$recipe"
     { cat devices && printf '%s\n' "$recipe" "controller a $name ;" "controller b $name ;"; } >one.brief
-    want "the line of $name beside itself" "safe: 1 pairs" "$(twire expand one.brief | twire check - 2>&1)"
+    same "the line of $name beside itself" "safe: 1 pairs" "$(twire expand one.brief | twire check - 2>&1)"
 done <recipes
 
 # A family of it is read.
-want "the family in the table" "32" "$({ cat devices && grep -o '`message pages [^`]*;`' "$top/docs/GUIDE.md" | tr -d '`'; } >one.brief
+same "the family in the table" "32" "$({ cat devices && grep -o '`message pages [^`]*;`' "$top/docs/GUIDE.md" | tr -d '`'; } >one.brief
     twire expand one.brief | grep -c '^message pages_')"
 
 # Two that may send all of them have the unsafe pairs that the text names.
 { cat devices recipes && printf '%s\n' "controller a$names ;" "controller b$names ;"; } >all.brief
 twire expand all.brief -o all.plan
-want "all lines of the table together" "$(printf '%s\n' 'a/get10 b/put10:' 'a/page b/random:' 'a/put10 b/get10:' 'a/random b/page:')" \
+same "all lines of the table together" "$(printf '%s\n' 'a/get10 b/put10:' 'a/page b/random:' 'a/put10 b/get10:' 'a/random b/page:')" \
     "$(twire check all.plan | awk '/^pair/ { print $3, $4 }' | sort)"
-want "how many pairs they have" "unsafe: 4 of 289 pairs" "$(twire check all.plan | tail -n 1)"
-want "the text says so" 1 "$(tr '\n' ' ' <"$top/docs/GUIDE.md" | grep -c 'four of 289 pairs are unsafe')"
+same "how many pairs they have" "unsafe: 4 of 289 pairs" "$(twire check all.plan | tail -n 1)"
+same "the text says so" 1 "$(tr '\n' ' ' <"$top/docs/GUIDE.md" | grep -c 'four of 289 pairs are unsafe')"
 
 # ---- links
 
@@ -127,17 +103,17 @@ anchors() {
 cd -- "$top" || exit 1
 pages=(README.md docs/*.md tests/cases/README.md)
 for page in "${pages[@]}"; do
-    want "$page: headings that stand twice" "" "$(anchors "$page" | sort | uniq -d)"
+    same "$page: headings that stand twice" "" "$(anchors "$page" | sort | uniq -d)"
     while IFS= read -r link; do
         file=${link%%#*}
         target=$(dirname -- "$page")/$file
         [[ -n $file ]] || target=$page
         if [[ ! -e $target ]]; then
-            want "$page: a link" "a file" "$link"
+            same "$page: a link" "a file" "$link"
         elif [[ $link == *#* ]]; then
-            want "$page: the link $link" 1 "$(anchors "$target" | grep -cx -- "${link#*#}")"
+            same "$page: the link $link" 1 "$(anchors "$target" | grep -cx -- "${link#*#}")"
         else
-            passed=$((passed + 1))
+            passes
         fi
     done < <(awk '/^```/ { inside = !inside } !inside' "$page" | grep -oE '\]\([^)]*\)' | sed -e 's/^](//' -e 's/)$//' | grep -v '^https\?:')
 done
@@ -146,7 +122,7 @@ done
 
 for page in "${pages[@]}"; do
     [[ $page != docs/ARCHITECTURE.md ]] || continue
-    want "$page: what is too long" "" "$(awk -v page="$page" '
+    same "$page: what is too long" "" "$(awk -v page="$page" '
         function end() { if (length(text) > 600 && !list) print FNR ": a paragraph of " length(text); text = ""; list = 0 }
         /^```/ { inside = !inside; end(); next }
         inside || /^    / && text == "" { next }
@@ -162,5 +138,4 @@ for page in "${pages[@]}"; do
         END { end() }' "$page")"
 done
 
-echo "$passed passed, $failed failed"
-((failed == 0))
+finish

@@ -1,34 +1,9 @@
 #!/usr/bin/env bash
-# Editors: Neovim over `twire lsp`, and what tools/editors has for vim and for TextMate, over the examples.
-# The last line is 'N passed, M failed', and the exit status is 1 where a case fails. What is not installed is passed over.
-#
-# It runs the launcher at the top of the repository, or the program that TWIRE names.
-set -u
+# Editors: Neovim over `twire lsp`, and what tools/editors has for vim and for TextMate, over the examples. What is not
+# installed is passed over.
+source "$(dirname -- "$(readlink -f -- "${BASH_SOURCE[0]}")")/suite.bash" || exit 1
 
-tests=$(dirname -- "$(readlink -f -- "${BASH_SOURCE[0]}")")
-top=${tests%/*}
-twire=$(readlink -f -- "${TWIRE:-$tests/../twire}")
-work=$(mktemp -d)
-trap 'rm -rf -- "$work"' EXIT
-cd -- "$work" || exit 1
 export PYTHONDONTWRITEBYTECODE=1
-
-passed=0
-failed=0
-
-# count FILE: adds what a last line 'N passed, M failed' says, and shows what is before it.
-count() {
-    local last
-    last=$(tail -n 1 "$1")
-    head -n -1 "$1"
-    if [[ $last =~ ^([0-9]+)\ passed,\ ([0-9]+)\ failed$ ]]; then
-        passed=$((passed + BASH_REMATCH[1]))
-        failed=$((failed + BASH_REMATCH[2]))
-    else
-        printf 'FAILED: %s\n' "$last"
-        failed=$((failed + 1))
-    fi
-}
 
 python3 "$tests/editors/grammar.py" "$top" >grammar 2>&1
 count grammar
@@ -65,14 +40,12 @@ END
     printf '%s\n' "brief 1" "message get write eeprom any ;" "controller pch get ;" >pch.brief
     TWIRE=$twire BRIEF=$work/bus.brief BOARD="devices.brief bmc.brief pch.brief" FORMATTED=$work/formatted.brief XDG_STATE_HOME=$work XDG_CACHE_HOME=$work \
         timeout 300 "$program" --headless -u NONE -i NONE -n -c "luafile $tests/editors/neovim.lua" >neovim 2>neovim.err </dev/null
-    grep '^FAILED' neovim
-    passed=$((passed + $(grep -c '^ok ' neovim)))
-    failed=$((failed + $(grep -c '^FAILED' neovim)))
-    if (($(grep -c '^ok \|^FAILED' neovim) != 14)); then
-        failed=$((failed + 1))
-        echo "FAILED: Neovim did not come to the end:"
-        cat neovim.err
-    fi
+    {
+        grep '^FAILED' neovim
+        echo "$(grep -c '^ok ' neovim) passed, $(grep -c '^FAILED' neovim) failed"
+    } >counts
+    count counts
+    (($(grep -c '^ok \|^FAILED' neovim) == 14)) || { fails "Neovim did not come to the end:" && cat neovim.err; }
 
     # By the guide's text there is one server for all buffers, also where one of them is read again.
     sed -n '/^\*\*Neovim\*\*/,/^\*\*Vim\*\*/s/^    //p' "$top/docs/GUIDE.md" | sed "s|/path/to/twire|$top|" >init.lua
@@ -86,15 +59,10 @@ END
         io.stdout:write(#vim.lsp.get_active_clients() .. " servers, " .. here .. " here, K is " .. vim.bo.filetype .. vim.fn.maparg("K", "n"):sub(1, 5))'
     found=$(PATH=$work/bin:$PATH XDG_STATE_HOME=$work XDG_CACHE_HOME=$work timeout 60 "$program" --headless -u init.lua -i NONE -n bus.brief \
         -c edit -c 'edit other.brief' -c edit -c "lua $servers" -c 'qa!' 2>&1 </dev/null)
-    if [[ $found == "1 servers, 1 here, K is twirebrief"* && $found != *twirebrief ]]; then
-        passed=$((passed + 1))
-    else
-        failed=$((failed + 1))
-        echo "FAILED: the guide's text for Neovim: $found"
-    fi
+    [[ $found == "1 servers, 1 here, K is twirebrief"* && $found != *twirebrief ]]
+    held "the guide's text for Neovim: $found"
 else
     echo "there is no nvim: twire lsp is not tried in it"
 fi
 
-printf '%d passed, %d failed\n' "$passed" "$failed"
-((failed == 0))
+finish

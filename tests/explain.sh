@@ -1,77 +1,22 @@
 #!/usr/bin/env bash
-# Runs twire with --explain: the lines for people below those of a report, and that the report without them is the exact one.
-# It compares the exit status and all that is written. The last line is 'N passed, M failed', and the exit status is 1 where
-# a case fails.
-#
-# It runs the launcher at the top of the repository, or the program that TWIRE names.
-set -u
-
-tests=$(dirname -- "$(readlink -f -- "${BASH_SOURCE[0]}")")
-examples=$tests/../examples
-twire=$(readlink -f -- "${TWIRE:-$tests/../twire}")
-work=$(mktemp -d)
-trap 'rm -rf -- "$work"' EXIT
-cd -- "$work" || exit 1
-
-passed=0
-failed=0
-
-# Counts a case by what stands in the files status, out and err and in those that are wanted.
-compare() {
-    local name=$1
-    if cmp -s want_status status && cmp -s want_out out && cmp -s want_err err; then
-        passed=$((passed + 1))
-        return
-    fi
-    failed=$((failed + 1))
-    echo "FAILED: $name"
-    diff -u --label "wanted status" --label status want_status status
-    diff -u --label "wanted output" --label output want_out out | head -n 40
-    diff -u --label "wanted error" --label error want_err err | head -n 40
-}
-
-# want STATUS OUT ERR: what the next case gives, with an LF after each text that is not empty.
-want() {
-    echo "$1" >want_status
-    printf '%s' "${2:+$2$'\n'}" >want_out
-    printf '%s' "${3:+$3$'\n'}" >want_err
-}
-
-# run NAME ARG..: a case, with this script's standard input.
-run() {
-    local name=$1
-    shift
-    "$twire" "$@" >out 2>err
-    echo "$?" >status
-    compare "$name"
-}
+# Runs twire with --explain: the lines for people below those of a report, and that the report without them is the exact one. It
+# compares the exit status and all that is written.
+source "$(dirname -- "$(readlink -f -- "${BASH_SOURCE[0]}")")/suite.bash" || exit 1
 
 # alike NAME ARG..: with --explain the same run has the same status and the same standard error, and without the lines that
 # begin with four spaces the same report. No line has more than 80 columns that the exact report has not.
 alike() {
-    local name=$1
-    shift
-    "$twire" "$@" >want_out 2>want_err
-    echo "$?" >want_status
-    "$twire" "$@" --explain >explained 2>err
-    echo "$?" >status
+    want_of "${@:2}"
+    "$twire" "${@:2}" --explain >explained 2>err
+    status=$?
     grep -v '^    ' explained >out
-    compare "$name: the exact report is left"
-    : >want_out
-    : >want_err
-    echo 0 >want_status
-    grep '^    ' explained | grep '.\{81,\}' >out
-    : >err
-    echo 0 >status
-    compare "$name: 80 columns"
+    compare "$1: the exact report is left"
+    same "$1: 80 columns" "" "$(grep '^    ' explained | grep '.\{81,\}')"
 }
 
 plan() {
     printf '%s\n' "$@" >p.plan
 }
-
-# The first call may build the program, and says so on standard error.
-"$twire" --version >out 2>err
 
 # ---- Unsafe pairs: a kind that meets another.
 
@@ -271,13 +216,9 @@ run "with these items the pair with the interrupt is left" check --explain --mos
 
 # between NAME LINE..: the last line of each group, where a summary of p.plan explains all of them.
 between() {
-    local name=$1
-    shift
-    want 1 "$(printf '    %s\n' "$@")" ""
-    "$twire" check --summary --most 100 p.plan 2>err >explained
-    echo "$?" >status
-    grep ' × ' explained >out
-    compare "$name"
+    call check --summary --most 100 p.plan
+    sed -i '/ × /!d' out
+    judge "$1" 1 "$(printf '    %s\n' "${@:2}")" ""
 }
 
 # A family of writes of one to three bytes and one of four to six; three plain writes, which meet in their second byte or
@@ -352,7 +293,7 @@ plan 'plan 1' 'message w write 1001000 00000001 stop else stop else stop ;' 'mes
 want 1 "    a/w × b/p, a/w × c/p, a/w × d/p, a/w × e/p and 16 more: 20 pairs, lengths
     differ" ""
 "$twire" check --summary p.plan >explained 2>err
-echo "$?" >status
+status=$?
 grep -A 1 ' × ' explained | sed '/^unsafe/d' >out
 compare "two messages of five controllers"
 
@@ -360,13 +301,9 @@ compare "two messages of five controllers"
 
 # mends NAME LINE..: what stands below the lines of each group of p.plan that say between whom it is, and how many pairs it has.
 mends() {
-    local name=$1
-    shift
-    want 1 "$(printf '    %s\n' "$@")" ""
-    "$twire" check --summary --most 100 p.plan 2>err >explained
-    echo "$?" >status
-    sed -n '/^unsafe/q; / × .*differ$/,/ group /p' explained | grep -v ' × \| group ' >out
-    compare "$name"
+    call check --summary --most 100 p.plan
+    sed -i -n '/^unsafe/q; / × .*differ$/,/ group /{/ × \| group /!p}' out
+    judge "$1" 1 "$(printf '    %s\n' "${@:2}")" ""
 }
 
 # Each two of these meet after one byte or two, before which their first byte is open in both.
@@ -393,9 +330,8 @@ mends "another fault after a NACK" "to mend it: a bit in slot 4..6, 9..16, known
 plan 'plan 1' "message m write 1010000 00000001 00000001 stop else stop else again write 1010000 stop else stop else stop ;" \
     "message n write 1010000 00000001 00000001 00000001$(tails 4)" 'controller a m ;' 'controller b n ;'
 want 1 "    nothing was found that mends it and leaves a pair to check" ""
-"$twire" check --summary p.plan 2>err >explained
-echo "$?" >status
-sed '1,/^unsafe/d' explained >out
+call check --summary p.plan
+sed -i '1,/^unsafe/d' out
 compare "nothing mends the only pair"
 # Beside another group that the same shape mends: no way mends each. A 'plan 1' has no 'never'.
 sed -i "2i message put write 1010001$(any 1)$(tails 2)\nmessage probe write 1010001$(tails 1)\nmessage far read 0100000 1 stop else stop ;" p.plan
@@ -404,9 +340,8 @@ echo 'controller c far ;' >>p.plan
 want 1 "    to mend each: this, which leaves 6 of 11 pairs unchecked:
     never a b ;
     (the first line becomes 'plan 2')" ""
-"$twire" check --summary p.plan 2>err >explained
-echo "$?" >status
-sed '1,/^unsafe/d' explained >out
+call check --summary p.plan
+sed -i '1,/^unsafe/d' out
 compare "no bit and no shape mends each pair"
 sed 's/^plan 1/plan 2/' p.plan >q.plan
 echo 'never a b ;' >>q.plan
@@ -415,9 +350,8 @@ run "the item that is named, where the first line became 'plan 2'" check q.plan
 # What mends all pairs does not depend on how many groups are explained.
 want 1 "$("$twire" check --summary --most 100 p.plan | sed '1,/^unsafe/d')" ""
 for most in 0 1; do
-    "$twire" check --summary --most "$most" p.plan 2>err >explained
-    echo "$?" >status
-    sed '1,/^unsafe/d' explained >out
+    call check --summary --most "$most" p.plan
+    sed -i '1,/^unsafe/d' out
     compare "the last lines with --most $most"
 done
 
@@ -590,7 +524,7 @@ want 1 "5-160 unexplained
 1 transactions, 1 unexplained" ""
 run "who goes along furthest with a transaction that nobody explains" capture --explain p.plan \
     "$examples/stop_meets_data.vcd"
-"$tests/../tools/dump" 00100000000 >d.vcd
+"$top/tools/dump" 00100000000 >d.vcd
 want 1 "5-190 unexplained
     bus  S 10 Wr A 0b00(cut) P
     b/n  S 10 Wr A 01        next: a data bit
@@ -602,7 +536,7 @@ want 1 "5-190 unexplained
     slot 7, b/q: it sends 1, the bus has 0
 1 transactions, 1 unexplained" ""
 run "a STOP in the middle of a byte" capture --explain p.plan d.vcd
-"$tests/../tools/dump" 00100000 >d.vcd
+"$top/tools/dump" 00100000 >d.vcd
 want 1 "5-145 unexplained
     bus  S 10 Wr(cut) P
     b/n  S 10 Wr  next: a target's bit
@@ -614,7 +548,7 @@ want 1 "5-145 unexplained
     slot 7, b/q: it sends 1, the bus has 0
 1 transactions, 1 unexplained" ""
 run "a STOP after a whole byte, in the place of its acknowledge" capture --explain p.plan d.vcd
-"$tests/../tools/dump" 00100000010r001000010 >d.vcd
+"$top/tools/dump" 00100000010r001000010 >d.vcd
 want 1 "5-345 unexplained
     bus  S 10 Wr A 0b10(cut) Sr 10 Rd A P
     b/o  S 10 Wr A 1xxxxxxx  next: a data bit
@@ -626,7 +560,7 @@ want 1 "5-345 unexplained
     slot 7, b/q: it sends 1, the bus has 0
 1 transactions, 1 unexplained" ""
 run "a repeated START in the middle of a byte" capture --explain p.plan d.vcd
-"$tests/../tools/dump" 001000000r001000010101010101 >d.vcd
+"$top/tools/dump" 001000000r001000010101010101 >d.vcd
 want 1 "5-450 unexplained
     bus  S 10 Wr A Sr 10 Rd A aa NA P
     b/n  S 10 Wr A 01        next: a data bit
@@ -732,16 +666,14 @@ brief 'brief 1' 'message page write 0x50 any*1..3 ;' 'message page_4 write 0x50 
     'controller bmc page ;' 'controller pch page_4 page_5 ; controller seq page_2 ;'
 want 1 "    bmc/page_* × pch/page_*, pch/page_* × seq/page_2: 8 pairs, lengths differ
     bmc/page_* × seq/page_2: 2 pairs, lengths differ" ""
-"$twire" check --summary --most 100 board.brief >explained 2>err
-echo "$?" >status
-grep ' × ' explained >out
+call check --summary --most 100 board.brief
+sed -i '/ × /!d' out
 compare "a family and messages that are alike"
 
 # Families are named by their labels, and controllers of one message themselves.
 brief 'brief 1' 'message page write 0x50 any*1..3 ;' 'message get write 0x50 any read 0x50 1 ;' \
     'controller bmc page get ;' 'controller pch page ;' 'controller seq get ;' 'never bmc/page_3 pch/page_1 ;'
-"$twire" check --explain --most 0 board.brief >out 2>err
-echo "$?" >status
+call check --explain --most 0 board.brief
 sed -i '/^pair/d; /^    not explained/,/^unsafe/{/^unsafe/!d}' out
 want 1 "unsafe: 14 of 18 pairs
     to mend each: a bit before its slot, known in both and different (in
@@ -756,12 +688,9 @@ compare "many pairs of a brief"
 
 # advice NAME UNSAFE LINE..: what is said below the report on the brief, without its pairs and groups.
 advice() {
-    local name=$1
-    want 1 "unsafe: $2 pairs$(printf '\n    %s' "${@:3}")" ""
-    "$twire" check --explain --most 0 board.brief >out 2>err
-    echo "$?" >status
+    call check --explain --most 0 board.brief
     sed -i '/^pair/d; /^    not explained/,/^unsafe/{/^unsafe/!d}' out
-    compare "$name"
+    judge "$1" 1 "unsafe: $2 pairs$(printf '\n    %s' "${@:3}")" ""
 }
 # What is said where a bit mends each pair, and where the same shape alone does.
 bit="to mend each: a bit before its slot, known in both and different; or the"
@@ -929,19 +858,14 @@ run "messages of two files" check --explain first.brief --with second.brief
 printf '%s\n' 'brief 1' 'interrupt al 0x48 ;' >alert.brief
 printf '%s\n' 'brief 1' 'message get read 0x48 1 ;' 'controller a get ;' >get.brief
 want 1 "    see get.brief:2 and alert.brief:2" ""
-"$twire" check --explain get.brief --with alert.brief >report 2>err
-echo "$?" >status
-grep '^    see' report >out
+call check --explain get.brief --with alert.brief
+sed -i '/^    see/!d' out
 compare "a message and an interrupt of two files"
 
 # The paths of places stay whole. Neither is a line too long, unless a path alone is, nor does 'see' stand alone.
 see() {
-    local name=$1
-    shift
-    want 0 "$(printf '    %s\n' "$@")" ""
-    "$twire" check --explain "$first" --with "$second" 2>err | sed -n '/^    see/,/ × /p' | sed '$d' >out
-    echo 0 >status
-    compare "$name"
+    same "$1" "$(printf '    %s\n' "${@:2}")" \
+        "$("$twire" check --explain "$first" --with "$second" 2>&1 | sed -n '/^    see/,/ × /p' | sed '$d')"
 }
 d=$(printf 'd%.0s' {1..60})
 first=$d.brief second=e$d.brief
@@ -1010,7 +934,7 @@ want 1 "5-160 unexplained
 1 transactions, 1 unexplained" ""
 run "a capture by a brief" capture --explain board.brief "$examples/stop_meets_data.vcd"
 run "a live capture by a brief" capture --explain --live board.brief "$examples/stop_meets_data.vcd"
-"$tests/../tools/dump" 100100000 >d.vcd
+"$top/tools/dump" 100100000 >d.vcd
 want 1 "5-160 unexplained
     bus         S 48 Wr A P
     bmc/set     S 48 Wr A 01  next: a data bit
@@ -1075,12 +999,9 @@ run "nobody could win" order --explain p.plan
 
 # summed NAME STATUS LINE..: the lines for people of who wins by board.brief.
 summed() {
-    local name=$1
-    want "$2" "$(printf '    %s\n' "${@:3}")"$'\n'"$frequency" ""
-    "$twire" order --explain board.brief >explained 2>err
-    echo "$?" >status
-    grep '^    ' explained >out
-    compare "$name"
+    call order --explain board.brief
+    sed -i '/^    /!d' out
+    judge "$1" "$2" "$(printf '    %s\n' "${@:3}")"$'\n'"$frequency" ""
 }
 # A controller that is split is one. Nobody wins unsafe pairs.
 brief 'brief 1' 'device sensor 0x48 ;' 'message set write sensor 0x01 any ;' \
@@ -1111,14 +1032,12 @@ plan 'plan 1' "message $long write 1001000$bytes stop$stops ;" "message other wr
     "controller $long $long ;" 'controller b other ;' 'interrupt '"$long"' 1001001 ;'
 alike "names of 32 characters, and a clash after 250 bytes" check p.plan
 alike "who wins among names of 32 characters" order p.plan
-want 0 "    bus  S 48 Wr A .. 249 bytes alike .. 03 A
+same "bytes in the middle of a long row are counted" "    bus  S 48 Wr A .. 249 bytes alike .. 03 A
     $long/$long
          S 48 Wr A .. 249 bytes alike .. xx00xx11 A P   next: a STOP
     b/other
-         S 48 Wr A .. 249 bytes alike .. xx00xx11 A 00  next: a data bit" ""
-"$twire" check --explain p.plan 2>err | sed -n '3,7p' >out
-echo 0 >status
-compare "bytes in the middle of a long row are counted"
+         S 48 Wr A .. 249 bytes alike .. xx00xx11 A 00  next: a data bit" \
+    "$("$twire" check --explain p.plan 2>&1 | sed -n '3,7p')"
 sed -i '/interrupt/d; s/^plan 1/plan 2/' p.plan
 echo "never $long b ;" >>p.plan
 "$twire" certify p.plan >c.cert
@@ -1132,14 +1051,8 @@ longest() {
 }
 # told NAME TEXT ARG..: with --explain these lines for people stand below the report.
 told() {
-    local name=$1 text=$2
-    shift 2
-    alike "$name" "$@"
-    want 0 "$text" ""
-    grep '^    ' explained >out
-    : >err
-    echo 0 >status
-    compare "$name"
+    alike "$1" "${@:3}"
+    same "$1" "$2" "$(grep '^    ' explained)"
 }
 longest 'write 0x48 any*255' 'write 0x48 any*254'
 meets="    bus  S 48 Wr A .. 253 bytes alike .. 00 A
@@ -1208,10 +1121,10 @@ told "a rehearsal of the longest" "    slot  0          9          18         27
 bytes() {
     printf '000000010%.0s' $(seq "$1")
 }
-"$tests/../tools/dump" "100100000$(bytes 255)" >d.vcd
+"$top/tools/dump" "100100000$(bytes 255)" >d.vcd
 told "the longest that somebody explains" "    bus  S 48 Wr A .. 248 bytes .. 01 A 01 A 01 A 01 A 01 A 01 A 01 A P" capture board.brief d.vcd
 # Both leave in the byte 05, after which 200 more come.
-"$tests/../tools/dump" "100100000$(bytes 20)000001010$(bytes 200)" >d.vcd
+"$top/tools/dump" "100100000$(bytes 20)000001010$(bytes 200)" >d.vcd
 told "the longest that nobody explains" "    bus  S 48 Wr A .. 17 bytes alike .. 01 A 01 A 01 A 05 A .. 200 bytes more
     $left/$one
          S 48 Wr A .. 17 bytes alike .. 01 A 01 A 01 A 01  next: a data bit
@@ -1245,12 +1158,10 @@ run "a row that is too long" check --explain board.brief
 # Bytes that are known in one of them: the same ones are left out of it, though it would have room for more.
 brief 'brief 1' 'message short write 0x50 0x01*6 read 0x50 1 ;' 'message long write 0x50 any*9 ;' 'controller bmc short ;' \
     'controller host long ;'
-want 0 "    bus        S 50 Wr A .. 6 bytes alike ..
+same "known bytes in a row that is too long" "    bus        S 50 Wr A .. 6 bytes alike ..
     bmc/short  S 50 Wr A .. 6 bytes alike .. Sr        next: a repeated START
-    host/long  S 50 Wr A .. 6 bytes alike .. xxxxxxxx  next: a data bit" ""
-"$twire" check --explain board.brief 2>err | sed -n '3,5p' >out
-echo 0 >status
-compare "known bytes in a row that is too long"
+    host/long  S 50 Wr A .. 6 bytes alike .. xxxxxxxx  next: a data bit" \
+    "$("$twire" check --explain board.brief 2>&1 | sed -n '3,5p')"
 
 # ---- Many pairs.
 
@@ -1272,18 +1183,11 @@ names() {
     done
 } >p.plan
 alike "720 unsafe pairs, all groups explained" check p.plan --most 1000000
-want 0 120 ""
-grep -c '^    slot [0-9]*, UM10204 3\.1\.8: a' explained >out
-: >err
-echo 0 >status
-compare "each of 120 groups has its reason"
-want 2 "" "refused write"
-"$twire" check p.plan --explain --most 1000000 >/dev/full 2>err
-echo "$?" >status
-: >out
-compare "an explained report that a full device takes no part of"
+same "each of 120 groups has its reason" 120 "$(grep -c '^    slot [0-9]*, UM10204 3\.1\.8: a' explained)"
+unwritten "an explained report that a full device takes no part of" "refused write" \
+    check p.plan --explain --most 1000000 >/dev/full
 "$twire" check p.plan --explain --most 1000000 2>err | head -c 70000 >out
-echo "${PIPESTATUS[0]}" >status
+status=${PIPESTATUS[0]}
 head -c 70000 explained >want_out
 compare "an explained report of which the first part is taken"
 
@@ -1296,7 +1200,7 @@ bits() {
     done
     echo "$text"
 }
-"$tests/../tools/fullest_plan" | grep '^message m0 ' >largest
+"$top/tools/fullest_plan" | grep '^message m0 ' >largest
 {
     echo 'plan 1'
     cat largest
@@ -1320,7 +1224,7 @@ want 0 "63
     grep -c '^    !t[0-9]* *11  lost in slot 1$' explained
 } >out
 : >err
-echo 0 >status
+status=0
 compare "each of 64 starters but one loses, the interrupts in slot 1"
 
 # Two messages of 4,096 nodes and one less, which part where the shorter ends its second frame: after 18 bytes, a repeated
@@ -1332,12 +1236,8 @@ compare "each of 64 starters but one loses, the interrupts in slot 1"
     printf 'controller a m0 ;\ncontroller b shorter ;\n'
 } >p.plan
 alike "a clash after 2,125 slots" check p.plan
-want 0 "    slot 2125, UM10204 3.1.8: a data bit meets a STOP. Both send alike until
-    here." ""
-grep -A 1 '^    slot ' explained >out
-: >err
-echo 0 >status
-compare "the slot of that clash"
+same "the slot of that clash" "    slot 2125, UM10204 3.1.8: a data bit meets a STOP. Both send alike until
+    here." "$(grep -A 1 '^    slot ' explained)"
 
 # ---- Refusals are the same.
 
@@ -1356,6 +1256,4 @@ alike "an empty dump" capture "$examples/two_writers.plan" empty
 alike "an empty certificate" verify "$examples/two_writers.plan" empty
 alike "an unknown starter" bench "$examples/two_writers.plan" two.cert nobody/nothing
 
-echo
-echo "$passed passed, $failed failed"
-((failed == 0))
+finish

@@ -1,33 +1,13 @@
 #!/usr/bin/env bash
 # Files and streams of every kind in the place of a plan, a certificate, a capture and a report: each run ends by itself, with
-# the line and the status that are named for it. The last line is 'N passed, M failed', and the exit status is 1 where a
-# case fails.
-#
-# It runs the launcher at the top of the repository, or the program that TWIRE names.
-set -u
-
-tests=$(dirname -- "$(readlink -f -- "${BASH_SOURCE[0]}")")
-twire=$(readlink -f -- "${TWIRE:-$tests/../twire}")
-work=$(mktemp -d)
-trap 'clean_up' EXIT
-cd -- "$work" || exit 1
-
-passed=0
-failed=0
-
-clean_up() {
-    local job
-    for job in $(jobs -p); do
-        kill -KILL "$job" 2>/dev/null
-    done
-    rm -rf -- "$work"
-}
+# the line and the status that are named for it.
+source "$(dirname -- "$(readlink -f -- "${BASH_SOURCE[0]}")")/suite.bash" || exit 1
 
 # No run may take longer, in seconds.
 limit=60
 
-# bounded ARG..: a run, with the standard input and output of this call.
-bounded() {
+# called ARG..: a run, with the standard input and output of this call.
+called() {
     timeout --signal=KILL "$limit" "$twire" "$@"
 }
 
@@ -42,27 +22,6 @@ await() {
     status=$?
 }
 
-# judge NAME STATUS OUT ERR: compares these with what stands in status and in the files out and err.
-judge() {
-    local name=$1 want=$2 out=$3 err=$4
-    if [[ $status == "$want" && $(cat out) == "$out" && $(cat err) == "$err" ]]; then
-        passed=$((passed + 1))
-        return
-    fi
-    failed=$((failed + 1))
-    printf 'FAILED: %s: wanted status %s\n%s\n%s\nfound status %s\n%s\n%s\n' \
-        "$name" "$want" "$out" "$err" "$status" "$(cat out)" "$(cat err)"
-}
-
-# expect NAME STATUS OUT ERR ARG..: one call, with this script's standard input.
-expect() {
-    bounded "${@:5}" >out 2>err
-    status=$?
-    judge "$1" "$2" "$3" "$4"
-}
-
-"$twire" --version >/dev/null 2>&1
-
 cat >plan <<'PLAN'
 plan 1
 message m write 1001000 stop else stop ;
@@ -71,7 +30,7 @@ controller a m ;
 controller b n ;
 PLAN
 printf 'cert 1\npairs 1\nP6\n' >cert
-"$tests/../tools/dump" 100100000 >vcd
+"$top/tools/dump" 100100000 >vcd
 safe="safe: 1 pairs"
 proofs=$(cat cert)
 accepted="accepted safe"
@@ -182,8 +141,8 @@ expect "bench with a certificate of zeros" 2 "wrong C1 line 1" "" bench plan zer
 
 # ---- a file that changes once it has been opened, and before it is read: the plan's FIFO holds the run
 
-# held CHANGE..: runs `capture` on a dump that is changed so while the run waits for its plan.
-held() {
+# paused CHANGE..: runs `capture` on a dump that is changed so while the run waits for its plan.
+paused() {
     "$twire" capture fifo changing >out 2>err &
     pid=$!
     exec 3>fifo
@@ -195,17 +154,17 @@ held() {
 }
 
 cut_dump() { truncate -s 0 changing; }
-grow_dump() { "$tests/../tools/dump" 100100010 | sed -n '/^#5 /,$s/^#/#1000/p' >>changing; }
+grow_dump() { "$top/tools/dump" 100100010 | sed -n '/^#5 /,$s/^#/#1000/p' >>changing; }
 remove_dump() { rm changing; }
 
 cp vcd changing
-held cut_dump
+paused cut_dump
 judge "a dump that is emptied before it is read" 2 "" "refused V1 scl"
 cp vcd changing
-held grow_dump
+paused grow_dump
 judge "a dump that grows before it is read" 1 $'5-160 a/m\n10005-1000160 unexplained\n2 transactions, 1 unexplained' ""
 cp vcd changing
-held remove_dump
+paused remove_dump
 judge "a dump that is removed before it is read" 0 "$explained" ""
 
 # ---- a file that changes before its refusal is told, and its hints with it
@@ -404,14 +363,6 @@ expect "bench of files, with closed standard input" 0 "$played" "" bench plan ce
 
 # ---- standard output that takes nothing, or little at once
 
-# unwritten NAME ERR ARG..: a run that is refused and gives no report, whose standard output is that of the call.
-unwritten() {
-    bounded "${@:3}" 2>err
-    status=$?
-    : >out
-    judge "$1" 2 "" "$2"
-}
-
 mkfifo unread
 for words in "check plan" "certify plan" "verify plan cert" "verify plan empty" "capture plan vcd" \
     "bench plan cert a/m,b/n" "bench plan empty a/m"; do
@@ -438,8 +389,7 @@ owned() {
     local found
     found=$(stat -c '%u:%g %a' "$2")
     [[ $found == "$1" ]] && return
-    failed=$((failed + 1))
-    echo "FAILED: $name: wanted $1, found $found"
+    fails "$name: wanted $1, found $found"
 }
 
 # Who may give files away gives the new file to whom the old one was of; else it runs as nobody else. A shared file, in a folder
@@ -474,8 +424,8 @@ if ((EUID == 0)); then
 fi
 
 # A report longer than a pipe holds, which is read late, while the run is stopped and goes on.
-"$tests/../tools/dump" 100100000 4000 >long
-bounded capture plan long >report
+"$top/tools/dump" 100100000 4000 >long
+called capture plan long >report
 mkfifo pipe
 "$twire" capture plan long >pipe 2>err &
 pid=$!
@@ -489,7 +439,6 @@ exec 3<&-
 await
 judge "a long report through a pipe, with signals" 0 "$(cat report)" ""
 expect "a long report is longer than a pipe" 0 "$(cat report)" "" capture plan long
-(($(stat -c %s report) > 65536)) || { failed=$((failed + 1)) && echo "FAILED: the long report is short"; }
+(($(stat -c %s report) > 65536)) || fails "the long report is short"
 
-echo "$passed passed, $failed failed"
-((failed == 0))
+finish

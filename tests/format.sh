@@ -1,41 +1,6 @@
 #!/usr/bin/env bash
 # Plans and briefs that are laid out: by the rules of docs/PLANS.md, that they mean the same, and the files that are written.
-# The last line is 'N passed, M failed', and the exit status is 1 where a case fails.
-#
-# It runs the launcher at the top of the repository, or the program that TWIRE names.
-set -u
-
-tests=$(dirname -- "$(readlink -f -- "${BASH_SOURCE[0]}")")
-twire=$(readlink -f -- "${TWIRE:-$tests/../twire}")
-work=$(mktemp -d)
-trap 'chmod -R u+w -- "$work"; rm -rf -- "$work"' EXIT
-cd -- "$work" || exit 1
-
-passed=0
-failed=0
-
-# want NAME WANTED FOUND
-want() {
-    if [[ $2 == "$3" ]]; then
-        passed=$((passed + 1))
-        return
-    fi
-    failed=$((failed + 1))
-    printf 'FAILED: %s: wanted\n%s\nfound\n%s\n' "$1" "$2" "$3"
-}
-
-# same NAME FILE FILE: the two have the same bytes.
-same() {
-    want "$1" "$(od -c "$2")" "$(od -c "$3")"
-}
-
-# said ARG..: what a call says on both streams, and its status.
-said() {
-    local text status
-    text=$("$twire" "$@" 2>&1 </dev/null)
-    status=$?
-    printf '%s' "$text${text:+ }$status"
-}
+source "$(dirname -- "$(readlink -f -- "${BASH_SOURCE[0]}")")/suite.bash" || exit 1
 
 # changes: what --check says of the file `text`, where `wanted` is what it is laid out as: by the first line at which the two differ.
 changes() {
@@ -44,7 +9,7 @@ changes() {
     line=${differ##* }
     # (where one of them ends after a whole line, they differ on the next one)
     [[ $differ != *"EOF on"* || $differ == *"in line"* ]] || line=$((line + 1))
-    echo "text:$line: 'twire format --in-place' would change it from here on 1"
+    echo "text:$line: 'twire format --in-place' would change it from here on"
 }
 
 # laid NAME TEXT WANTED: the text is laid out so, as printf reads the two, and what is laid out stays. So it is as standard
@@ -53,25 +18,23 @@ laid() {
     printf '%b' "$2" >text
     printf '%b' "$3" >wanted
     "$twire" format text >found 2>err
-    want "$1: the status" "0" "$?$(cat err)"
-    same "$1" wanted found
+    same "$1: the status" "0" "$?$(cat err)"
+    same_file "$1" wanted found
     "$twire" format - <found >again
-    same "$1: again" wanted again
-    want "$1: what is laid out is not changed" 0 "$(said format --check wanted)"
-    cmp -s text wanted || want "$1: --check" "$(changes)" "$(said format --check text)"
+    same_file "$1: again" wanted again
+    same "$1: what is laid out is not changed" "status 0" "$(answer format --check wanted)"
+    cmp -s text wanted || same "$1: --check" "$(changes), status 1" "$(answer format --check text)"
 }
 
-# refuses NAME TEXT ERR
-refuses() {
+# refused NAME TEXT ERR
+refused() {
     printf '%b' "$2" >text
     cp text before
-    want "$1" "$3 2" "$(said format text)"
-    want "$1: --check" "$3 2" "$(said format --check text)"
-    want "$1: --in-place" "$3 2" "$(said format --in-place text)"
-    same "$1: the file" before text
+    expect "$1" 2 "" "$3" format text
+    expect "$1: --check" 2 "" "$3" format --check text
+    expect "$1: --in-place" 2 "" "$3" format --in-place text
+    same_file "$1: the file" before text
 }
-
-"$twire" --version >/dev/null 2>&1
 
 # ---- lines
 
@@ -153,46 +116,47 @@ laid "columns in a plan" 'plan 1\nmessage a  write 1001000 stop else stop ;\nmes
 
 # ---- refusals
 
-refuses "nothing" '' 'refused P2 line 1'
-refuses "comments alone" '# a\n# b\n' 'refused P2 line 3'
-refuses "another version" '\nplan 3' 'refused P2 line 2'
-refuses "another version of briefs" '\nbrief 2' 'refused P2 line 2'
-refuses "no version" 'brief' 'refused P2 line 1'
-refuses "neither" 'device a 0x48 ;' 'refused P2 line 1'
-refuses "a character" 'brief 1\ndevice a 0x48 ;\n@' 'refused P3 line 3'
-refuses "a character in the place of the version" 'brief\n@' 'refused P3 line 2'
-refuses "a dot in a plan 1" 'plan 1\nmessage m read 1001000 1..2 stop' 'refused P3 line 2'
-refuses "a star in a plan" 'plan 2\n*' 'refused P3 line 2'
-refuses "a byte" 'brief 1\n\0303\0251' 'refused P1 line 2'
-refuses "a byte in a comment" 'brief 1\n\n# \0303\0251\n@' 'refused P1 line 3'
-refuses "a byte in a comment before the head" '# \0303\0251\nplan 1' 'refused P1 line 1'
-refuses "the first of both" 'brief 1\n@ \0303\0251' 'refused P3 line 2'
+refused "nothing" '' 'refused P2 line 1'
+refused "comments alone" '# a\n# b\n' 'refused P2 line 3'
+refused "another version" '\nplan 3' 'refused P2 line 2'
+refused "another version of briefs" '\nbrief 2' 'refused P2 line 2'
+refused "no version" 'brief' 'refused P2 line 1'
+refused "neither" 'device a 0x48 ;' 'refused P2 line 1'
+refused "a character" 'brief 1\ndevice a 0x48 ;\n@' 'refused P3 line 3'
+refused "a character in the place of the version" 'brief\n@' 'refused P3 line 2'
+refused "a dot in a plan 1" 'plan 1\nmessage m read 1001000 1..2 stop' 'refused P3 line 2'
+refused "a star in a plan" 'plan 2\n*' 'refused P3 line 2'
+refused "a byte" 'brief 1\n\0303\0251' 'refused P1 line 2'
+refused "a byte in a comment" 'brief 1\n\n# \0303\0251\n@' 'refused P1 line 3'
+refused "a byte in a comment before the head" '# \0303\0251\nplan 1' 'refused P1 line 1'
+refused "the first of both" 'brief 1\n@ \0303\0251' 'refused P3 line 2'
 
 # As the readers refuse these, with the same hints.
 hinted() {
     printf '%b' "$2" >text
     "$twire" check --hints always text 2>wanted
     "$twire" format --hints always text 2>found
-    same "$1: hints" wanted found
+    same_file "$1: hints" wanted found
     "$twire" check --format json text 2>wanted
     "$twire" format --format json text 2>found
-    same "$1: JSON" wanted found
+    same_file "$1: JSON" wanted found
 }
 
 hinted "a byte" 'brief 1\ndevice a 0x48 ; # \0303\0251\n'
 hinted "neither" '\n  device a 0x48 ;\n'
 hinted "another version" 'plan 3'
 
-want "no file" "refused read 2" "$(said format none)"
+expect "no file" 2 "" "refused read" format none
 printf 'brief 1\n\n\n' >text
-want "what --check says" "text:2: 'twire format --in-place' would change it from here on 1" "$(said format --check --hints always text)"
-want "what it says of standard input" "<stdin>:2: 'twire format --in-place' would change it from here on" "$("$twire" format --check - <text)"
+same "what --check says" "text:2: 'twire format --in-place' would change it from here on, status 1" \
+    "$(answer format --check --hints always text)"
+same "what it says of standard input" "<stdin>:2: 'twire format --in-place' would change it from here on" "$("$twire" format --check - <text)"
 
 # ---- command lines
 
 unparsed() {
-    want "$1" "error: $2" "$(said format "${@:3}" | head -n 1)"
-    want "$1: the status" 2 "$(said format "${@:3}" | sed -n '$s/.* //p')"
+    refuses "$1" "$2" format "${@:3}"
+    same "$1: the status" 2 "$status"
 }
 
 unparsed "in place and --check" "the argument '--in-place' cannot be used with '--check'" --in-place --check text
@@ -200,15 +164,15 @@ unparsed "standard input in place" "'--in-place' wants a file, and standard inpu
 unparsed "standard input in place by its path" "'--in-place' wants a file, and standard input is none" /dev/stdin --in-place
 unparsed "two files" "unexpected argument 'text' found" text text
 unparsed "no file" "the following required arguments were not provided:"
-want "the help" 0 "$("$twire" format --help >found; echo $?)"
-same "the help" "$tests/../docs/help/format.txt" found
+same "the help" 0 "$("$twire" format --help >found; echo $?)"
+same_file "the help" "$top/docs/help/format.txt" found
 
 # ---- files
 
 # in_place NAME STATUS ERR FILE: nothing is on standard output, and nothing is left beside the file.
 in_place() {
-    want "$1" "$3${3:+ }$2" "$(said format --in-place "$4")"
-    want "$1: nothing is left" "" "$(find . -name '*.part')"
+    expect "$1" "$2" "" "$3" format --in-place "$4"
+    same "$1: nothing is left" "" "$(find . -name '*.part')"
 }
 
 printf 'brief 1\n\n\ndevice  a 0x48;' >text
@@ -218,26 +182,26 @@ ln -s text link
 mkdir folder
 ln -s ../link folder/far
 in_place "in place" 0 "" text
-same "in place: the file" wanted text
-want "in place: the mode" 640 "$(stat -c %a text)"
+same_file "in place: the file" wanted text
+same "in place: the mode" 640 "$(stat -c %a text)"
 touch -d '2001-02-03 04:05:06' text
 number=$(stat -c '%i %Y' text)
 in_place "nothing to change" 0 "" text
-want "nothing to change: the file" "$number" "$(stat -c '%i %Y' text)"
+same "nothing to change: the file" "$number" "$(stat -c '%i %Y' text)"
 printf 'brief 1\n\n\ndevice  a 0x48;' >text
 in_place "through links" 0 "" folder/far
-same "through links: the file" wanted text
-want "through links: the links" "text ../link" "$(readlink link folder/far | xargs)"
+same_file "through links: the file" wanted text
+same "through links: the links" "text ../link" "$(readlink link folder/far | xargs)"
 printf 'brief 1\n\n\ndevice  a 0x48;' >text
 ln text second
 in_place "a file of two names" 0 "" text
-same "a file of two names: this one" wanted text
-want "a file of two names: the other one" "device  a 0x48;" "$(sed -n 4p second)"
+same_file "a file of two names: this one" wanted text
+same "a file of two names: the other one" "device  a 0x48;" "$(sed -n 4p second)"
 mkfifo fifo
 timeout 10 cat second >fifo &
 in_place "a pipe" 2 "refused write" fifo
 wait $!
-want "a pipe stays" fifo "$(find . -type p -printf '%f')"
+same "a pipe stays" fifo "$(find . -type p -printf '%f')"
 
 # A run as root writes everywhere.
 if ((EUID != 0)); then
@@ -248,15 +212,15 @@ if ((EUID != 0)); then
     chmod 555 folder
     in_place "a folder that cannot be written" 2 "refused write" folder/text
     chmod 755 folder
-    same "a folder that cannot be written: the file" second folder/text
+    same_file "a folder that cannot be written: the file" second folder/text
 fi
 
 # A full disk, as far as a shell can have one: files of at most 1 KiB.
 { printf 'brief 1\n\n\n'; for ((k = 0; k < 300; k++)); do printf 'device  a%s 0x48;\n' "$k"; done; } >large
 cp large large_before
-want "no room" "refused write 2" "$(ulimit -f 1 && trap '' XFSZ && said format --in-place large)"
-same "no room: the file" large_before large
-want "no room: nothing is left" "" "$(find . -name '*.part')"
+same "no room" "refused write, status 2" "$(ulimit -f 1 && trap '' XFSZ && answer format --in-place large)"
+same_file "no room: the file" large_before large
+same "no room: nothing is left" "" "$(find . -name '*.part')"
 
 # ---- the examples
 
@@ -265,39 +229,38 @@ kept() {
     local name=${1##*/} command=expand
     [[ $name == *.plan ]] && command=print
     "$twire" format "$1" >found
-    want "$name: the status" 0 $?
+    same "$name: the status" 0 $?
     "$twire" format found >again
-    same "$name: twice is once" found again
-    same "$name: as it stands" "$1" found
-    want "$name: its comments" "$(grep -o '#.*' "$1" | sed 's/[[:blank:]]*$//')" "$(grep -o '#.*' found)"
+    same_file "$name: twice is once" found again
+    same_file "$name: as it stands" "$1" found
+    same "$name: its comments" "$(grep -o '#.*' "$1" | sed 's/[[:blank:]]*$//')" "$(grep -o '#.*' found)"
     # every line ends in CR LF and begins with a tab, and the blanks are two
     sed 's/  */  /g; s/^/\t/; s/$/ \r/' "$1" >loose
     "$twire" $command loose >wanted
     "$twire" format loose >found
     "$twire" $command found >again
-    same "$name: it means the same" wanted again
+    same_file "$name: it means the same" wanted again
     "$twire" $command "$1" >again
-    same "$name: as before" wanted again
+    same_file "$name: as before" wanted again
 }
 
-for file in "$tests"/../examples/*.brief "$tests"/../examples/*.plan; do
+for file in "$examples"/*.brief "$examples"/*.plan; do
     kept "$file"
 done
 
 # What twire writes is laid out.
-for file in "$tests"/../examples/*.brief; do
+for file in "$examples"/*.brief; do
     name=${file##*/}
     "$twire" expand "$file" >written.plan
     "$twire" format --check written.plan
-    want "the plan of $name" 0 $?
+    same "the plan of $name" 0 $?
     # (`twire brief` writes blanks inside of parentheses)
     "$twire" brief written.plan | sed 's/( /(/g; s/ )/)/g' >written.brief
     "$twire" format --check written.brief
-    want "the brief of $name" 0 $?
+    same "the brief of $name" 0 $?
 done
-"$twire" learn "$tests/../examples/arbitration.vcd" --scl scl --sda sda >learned 2>/dev/null
+"$twire" learn "$examples/arbitration.vcd" --scl scl --sda sda >learned 2>/dev/null
 "$twire" format --check learned
-want "what is learned" 0 $?
+same "what is learned" 0 $?
 
-echo "$passed passed, $failed failed"
-((failed == 0))
+finish

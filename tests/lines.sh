@@ -1,62 +1,7 @@
 #!/usr/bin/env bash
-# Which lines of a dump: names, paths and bits of vectors, and the lines by which controllers pull SDA. The last line is
-# 'N passed, M failed', and the exit status is 1 where a case fails.
-#
-# It runs the launcher at the top of the repository, or the program that TWIRE names.
-set -u
+# Which lines of a dump: names, paths and bits of vectors, and the lines by which controllers pull SDA.
+source "$(dirname -- "$(readlink -f -- "${BASH_SOURCE[0]}")")/suite.bash" || exit 1
 
-tests=$(dirname -- "$(readlink -f -- "${BASH_SOURCE[0]}")")
-twire=$(readlink -f -- "${TWIRE:-$tests/../twire}")
-work=$(mktemp -d)
-trap 'rm -rf -- "$work"' EXIT
-cd -- "$work" || exit 1
-
-passed=0
-failed=0
-
-# expect NAME STATUS OUT ERR COMMAND ARG..: one call of twire, with hints only where the arguments say so.
-expect() {
-    local name=$1 status=$2 out=$3 err=$4
-    shift 4
-    local found_out found_err found_status
-    found_out=$("$twire" "$@" 2>err)
-    found_status=$?
-    found_err=$(cat err)
-    if [[ $found_status == "$status" && $found_out == "$out" && $found_err == "$err" ]]; then
-        passed=$((passed + 1))
-    else
-        failed=$((failed + 1))
-        printf 'FAILED: %s: wanted %s, found %s\n%s\n%s\n' "$name" "$status $out $err" "$found_status" "$found_out" "$found_err"
-    fi
-}
-
-# same NAME WANTED FOUND: what was found by other means.
-same() {
-    if [[ $2 == "$3" ]]; then
-        passed=$((passed + 1))
-    else
-        failed=$((failed + 1))
-        printf 'FAILED: %s: wanted %s, found %s\n' "$1" "$2" "$3"
-    fi
-}
-
-# refuses NAME WORDS COMMAND ARG..: a command line that does not parse, for this reason.
-refuses() {
-    local name=$1 words=$2
-    shift 2
-    local found_out found_status
-    found_out=$("$twire" "$@" 2>err)
-    found_status=$?
-    if [[ $found_status == 2 && -z $found_out && $(head -n 1 err) == "error: $words" ]]; then
-        passed=$((passed + 1))
-    else
-        failed=$((failed + 1))
-        printf 'FAILED: %s: wanted %s, found %s\n' "$name" "$words" "$found_status"
-        cat err
-    fi
-}
-
-"$twire" --version >/dev/null 2>&1
 
 cat >plan <<'PLAN'
 plan 1
@@ -470,5 +415,4 @@ refuses "short pulses" "'--min-pulse' leaves out levels, and '--drives' looks at
     capture plan arbitrated --drives a=oa --min-pulse 5
 refuses "counts alone" "'--summary' leaves no transactions for '--drives'" capture plan arbitrated --drives a=oa --summary
 
-echo "$passed passed, $failed failed"
-[[ $failed == 0 ]]
+finish

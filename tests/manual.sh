@@ -1,33 +1,11 @@
 #!/usr/bin/env bash
 # The manual page and the completions that tools/manual writes from the program's help: that they say all that the help says.
-# The last line is 'N passed, M failed', and the exit status is 1 where a case fails.
-#
-# It runs the launcher at the top of the repository, or the program that TWIRE names.
-set -u
+source "$(dirname -- "$(readlink -f -- "${BASH_SOURCE[0]}")")/suite.bash" || exit 1
 
-tests=$(dirname -- "$(readlink -f -- "${BASH_SOURCE[0]}")")
-twire=$(readlink -f -- "${TWIRE:-$tests/../twire}")
-work=$(mktemp -d)
-trap 'rm -rf -- "$work"' EXIT
-cd -- "$work" || exit 1
-
-passed=0
-failed=0
-
-# want NAME WANTED FOUND
-want() {
-    if [[ $2 == "$3" ]]; then
-        passed=$((passed + 1))
-        return
-    fi
-    failed=$((failed + 1))
-    printf 'FAILED: %s: wanted\n%s\nfound\n%s\n' "$1" "$2" "$3"
-}
-
-"$tests/../tools/manual" "$twire" "$work"
-want "the status of tools/manual" 0 $?
+"$top/tools/manual" "$twire" "$work"
+same "the status of tools/manual" 0 $?
 mapfile -t commands < <("$twire" help | sed -n '/^Commands:/,/^$/s/^  \([a-z]*\) .*/\1/p' | grep -v '^help$')
-want "that there are commands" "check certify verify" "${commands[*]:0:3}"
+same "that there are commands" "check certify verify" "${commands[*]:0:3}"
 
 # ---- the page
 
@@ -45,18 +23,18 @@ page() {
 page | words >of_page
 for command in "" "${commands[@]}"; do
     "$twire" help $command | if [[ -z $command ]]; then sed '/^Commands:/,/^$/d'; else cat; fi | words >of_help
-    want "words of 'help $command' that the page lacks" "" "$(LC_ALL=C comm -23 of_help of_page)"
+    same "words of 'help $command' that the page lacks" "" "$(LC_ALL=C comm -23 of_help of_page)"
 done
-want "a section for each command" "${commands[*]^^}" "$(sed -n 's/^\.SH TWIRE //p' twire.1 | paste -sd ' ')"
+same "a section for each command" "${commands[*]^^}" "$(sed -n 's/^\.SH TWIRE //p' twire.1 | paste -sd ' ')"
 if type -P groff >/dev/null; then
-    want "what groff warns of" "" "$(groff -man -Tutf8 -ww -z twire.1 2>&1)"
-    want "lines of the page that are wider than 80 columns" "" \
+    same "what groff warns of" "" "$(groff -man -Tutf8 -ww -z twire.1 2>&1)"
+    same "lines of the page that are wider than 80 columns" "" \
         "$(groff -man -Tascii -rLL=80n -P-cbou twire.1 2>/dev/null | grep -E '^.{81}')"
 fi
 
 # ---- the completions of bash
 
-want "what bash finds wrong" "" "$(bash -n twire 2>&1)"
+same "what bash finds wrong" "" "$(bash -n twire 2>&1)"
 source ./twire
 
 # complete_after WORD..: what bash offers for the last word.
@@ -69,22 +47,22 @@ complete_after() {
 }
 
 mkdir folder && touch folder/a.plan
-want "bash: a command that begins so" "certify" "$(complete_after ce)"
-want "bash: all commands" "$(printf '%s\n' "${commands[@]}" help | LC_ALL=C sort | paste -sd ' ')" "$(complete_after "")"
-want "bash: a command after help" "verify" "$(complete_after help ver)"
-want "bash: an option" "--workers" "$(complete_after check --wo)"
-want "bash: words for --hints" "always auto never" "$(complete_after check --hints "")"
-want "bash: words for --color that begin so" "always auto" "$(complete_after --color a)"
-want "bash: words for --format" "gcc json text" "$(complete_after signals --format "")"
-want "bash: bits for --rest" "0 1" "$(complete_after bench --rest "")"
-want "bash: nothing for a number" "" "$(complete_after check --workers "")"
-want "bash: a file for a plan" "folder/a.plan" "$(complete_after check folder/a)"
-want "bash: a file for -o" "folder/a.plan" "$(complete_after certify -o folder/a)"
-want "bash: an option after a file" "--explain" "$(complete_after check folder/a.plan --e)"
+same "bash: a command that begins so" "certify" "$(complete_after ce)"
+same "bash: all commands" "$(printf '%s\n' "${commands[@]}" help | LC_ALL=C sort | paste -sd ' ')" "$(complete_after "")"
+same "bash: a command after help" "verify" "$(complete_after help ver)"
+same "bash: an option" "--workers" "$(complete_after check --wo)"
+same "bash: words for --hints" "always auto never" "$(complete_after check --hints "")"
+same "bash: words for --color that begin so" "always auto" "$(complete_after --color a)"
+same "bash: words for --format" "gcc json text" "$(complete_after signals --format "")"
+same "bash: bits for --rest" "0 1" "$(complete_after bench --rest "")"
+same "bash: nothing for a number" "" "$(complete_after check --workers "")"
+same "bash: a file for a plan" "folder/a.plan" "$(complete_after check folder/a)"
+same "bash: a file for -o" "folder/a.plan" "$(complete_after certify -o folder/a)"
+same "bash: an option after a file" "--explain" "$(complete_after check folder/a.plan --e)"
 for command in "${commands[@]}"; do
     of_help=$("$twire" help "$command" | sed -n '/^Options:/,/^$/s/^ *\(-[-a-zA-Z, ]*\).*/\1/p' | tr -s ', ' '\n' | sed -n '/^-/p' |
         LC_ALL=C sort | paste -sd ' ')
-    want "bash: the options of $command" "$of_help" "$(complete_after "$command" -)"
+    same "bash: the options of $command" "$of_help" "$(complete_after "$command" -)"
 done
 
 # verify_after WORD..: what bash offers for the last word of a call of twire-verify.
@@ -96,31 +74,31 @@ verify_after() {
     _twire_verify
     printf '%s\n' "${COMPREPLY[@]}" | LC_ALL=C sort | paste -sd ' '
 }
-want "what bash finds wrong with twire-verify" "" "$(bash -n twire-verify 2>&1)"
-want "bash: the levels of --pulls" "0 1" "$(complete_after capture --pulls "")"
-want "bash: the options of twire-verify" "--help --version -h" "$(verify_after -)"
-want "bash: a plan for twire-verify" "folder/a.plan" "$(verify_after folder/a)"
-want "bash: a certificate for twire-verify" "folder/a.plan" "$(verify_after folder/a.plan folder/a)"
-want "bash: no third file for twire-verify" "" "$(verify_after folder/a.plan folder/a.plan folder/a)"
-want "bash: no option after a file for twire-verify" "" "$(verify_after folder/a.plan --h)"
+same "what bash finds wrong with twire-verify" "" "$(bash -n twire-verify 2>&1)"
+same "bash: the levels of --pulls" "0 1" "$(complete_after capture --pulls "")"
+same "bash: the options of twire-verify" "--help --version -h" "$(verify_after -)"
+same "bash: a plan for twire-verify" "folder/a.plan" "$(verify_after folder/a)"
+same "bash: a certificate for twire-verify" "folder/a.plan" "$(verify_after folder/a.plan folder/a)"
+same "bash: no third file for twire-verify" "" "$(verify_after folder/a.plan folder/a.plan folder/a)"
+same "bash: no option after a file for twire-verify" "" "$(verify_after folder/a.plan --h)"
 
 # ---- the completions of zsh
 
-want "zsh: the first line" "#compdef twire" "$(head -n 1 _twire)"
+same "zsh: the first line" "#compdef twire" "$(head -n 1 _twire)"
 for command in "${commands[@]}"; do
     of_help=$("$twire" help "$command" | sed -n '/^Options:/,/^$/s/^ *\(-[-a-zA-Z, ]*\).*/\1/p' | tr -s ', ' '\n' | sed -n '/^-/p' |
         LC_ALL=C sort | paste -sd ' ')
-    want "zsh: the options of $command" "$of_help" \
+    same "zsh: the options of $command" "$of_help" \
         "$(sed -n "/^                $command)/,/;;/s/^ *'\*\{0,1\}\(-[^[]*\)\[.*/\1/p" _twire | LC_ALL=C sort | paste -sd ' ')"
 done
 # (by what docs/COMMAND_LINE.md says of them, and each takes what it did)
-want "zsh: options that may be given again" "--drives --with" \
+same "zsh: options that may be given again" "--drives --with" \
     "$(sed -n "s/^ *'\*\(--[^[]*\)\[.*/\1/p" _twire | LC_ALL=C sort -u | paste -sd ' ')"
-want "zsh: files of --with" "$(grep -c "'--with\|'\*--with" _twire)" "$(grep -c "'\*--with\[.*:FILE:_files'" _twire)"
-want "zsh: the levels of --pulls" 2 "$(grep -c "'--pulls\[.*:LEVEL:(0 1)'" _twire)"
-want "zsh: the first line for twire-verify" "#compdef twire-verify" "$(head -n 1 _twire-verify)"
+same "zsh: files of --with" "$(grep -c "'--with\|'\*--with" _twire)" "$(grep -c "'\*--with\[.*:FILE:_files'" _twire)"
+same "zsh: the levels of --pulls" 2 "$(grep -c "'--pulls\[.*:LEVEL:(0 1)'" _twire)"
+same "zsh: the first line for twire-verify" "#compdef twire-verify" "$(head -n 1 _twire-verify)"
 if type -P zsh >/dev/null; then
-    want "what zsh finds wrong" "" "$(zsh -n _twire 2>&1)$(zsh -n _twire-verify 2>&1)"
+    same "what zsh finds wrong" "" "$(zsh -n _twire 2>&1)$(zsh -n _twire-verify 2>&1)"
     # What zsh makes of a line where somebody presses the tabulator at its end, in a terminal of its own.
     cat >ask.zsh <<'ZSH'
 zmodload zsh/zpty
@@ -140,14 +118,13 @@ ZSH
     completed() {
         zsh -f ask.zsh "$work" "$1" | tr -d '\r' | sed 's/ *$//'
     }
-    want "zsh: --with once more" "check --with a --with" "$(completed "twire check --with a --wit")"
-    want "zsh: --drives once more" "capture --drives a=b --drives" "$(completed "twire capture --drives a=b --driv")"
-    want "zsh: --hints only once" "check --hints auto --hin" "$(completed "twire check --hints auto --hin")"
-    want "zsh: a file for a second --with" "check --with a --with folder/a.plan" "$(completed "twire check --with a --with folder/a")"
-    want "zsh: an option of twire-verify" "--version" "$(completed "twire-verify --ver")"
-    want "zsh: a certificate for twire-verify" "b folder/a.plan" "$(completed "twire-verify b folder/a")"
-    want "zsh: no third file for twire-verify" "b c folder/a" "$(completed "twire-verify b c folder/a")"
+    same "zsh: --with once more" "check --with a --with" "$(completed "twire check --with a --wit")"
+    same "zsh: --drives once more" "capture --drives a=b --drives" "$(completed "twire capture --drives a=b --driv")"
+    same "zsh: --hints only once" "check --hints auto --hin" "$(completed "twire check --hints auto --hin")"
+    same "zsh: a file for a second --with" "check --with a --with folder/a.plan" "$(completed "twire check --with a --with folder/a")"
+    same "zsh: an option of twire-verify" "--version" "$(completed "twire-verify --ver")"
+    same "zsh: a certificate for twire-verify" "b folder/a.plan" "$(completed "twire-verify b folder/a")"
+    same "zsh: no third file for twire-verify" "b c folder/a" "$(completed "twire-verify b c folder/a")"
 fi
 
-echo "$passed passed, $failed failed"
-((failed == 0))
+finish

@@ -1,50 +1,18 @@
 #!/usr/bin/env bash
-# Messages of `--format gcc`: their places, words and statuses. The last line is 'N passed, M failed', and the exit status is 1
-# where a case fails.
-#
-# It runs the launcher at the top of the repository, or the program that TWIRE names.
-set -u
+# Messages of `--format gcc`: their places, words and statuses.
+source "$(dirname -- "$(readlink -f -- "${BASH_SOURCE[0]}")")/suite.bash" || exit 1
 
-tests=$(dirname -- "$(readlink -f -- "${BASH_SOURCE[0]}")")
-twire=$(readlink -f -- "${TWIRE:-$tests/../twire}")
-work=$(mktemp -d)
-trap 'rm -rf -- "$work"' EXIT
-cd -- "$work" || exit 1
-
-passed=0
-failed=0
-
-# expect NAME STATUS OUT ERR COMMAND ARG..: one call of twire with messages.
-expect() {
-    local name=$1 status=$2 out=$3 err=$4
-    shift 4
-    local found_out found_err found_status
-    found_out=$("$twire" "$@" --format gcc 2>err)
-    found_status=$?
-    found_err=$(cat err)
-    if [[ $found_status == "$status" && $found_out == "$out" && $found_err == "$err" ]]; then
-        passed=$((passed + 1))
-    else
-        failed=$((failed + 1))
-        printf 'FAILED: %s: wanted %s, found %s\n%s\n%s\n' "$name" "$status $out $err" "$found_status" "$found_out" "$found_err"
-    fi
+# told NAME STATUS OUT ERR ARG..: one call with messages.
+told() {
+    expect "$@" --format gcc
 }
 
 # at NAME PLACE CODE: the file `text` is refused there, with this code, and the first line of the messages has both.
 at() {
-    local name=$1 place=$2 code=$3 line
-    "$twire" check text --format gcc >out 2>err
-    local status=$?
-    line=$(head -n 1 err)
-    if [[ $status == 2 && ! -s out && $line == "text:$place: error: "*" [$code]" ]]; then
-        passed=$((passed + 1))
-    else
-        failed=$((failed + 1))
-        printf 'FAILED: %s: wanted text:%s [%s], found %s, %s\n' "$name" "$place" "$code" "$status" "$line"
-    fi
+    call check text --format gcc
+    [[ $status == 2 && ! -s out && $(head -n 1 err) == "text:$2: error: "*" [$3]" ]]
+    held "$1: text:$2 [$3], status $status" out err
 }
-
-"$twire" --version >/dev/null 2>&1
 
 # ---- refusals of texts: lines and columns in bytes, from 1
 
@@ -70,46 +38,39 @@ at "P8 at the name" 2:14 P8
 # ---- their words
 
 printf 'brief 1\nmessage m read 0x48 2\ncontroller c m ;\n' >text
-expect "a missing semicolon stands after the token before it" 2 "" "text:2:22: error: ';' is missing here, after '2': the next item begins on line 3 [P3]" check text
-expect "the same of standard input" 2 "" "<stdin>:2:22: error: ';' is missing here, after '2': the next item begins on line 3 [P3]" check - <text
-expect "the same of standard input by its name" 2 "" "<stdin>:2:22: error: ';' is missing here, after '2': the next item begins on line 3 [P3]" check /dev/stdin <text
+told "a missing semicolon stands after the token before it" 2 "" "text:2:22: error: ';' is missing here, after '2': the next item begins on line 3 [P3]" check text
+told "the same of standard input" 2 "" "<stdin>:2:22: error: ';' is missing here, after '2': the next item begins on line 3 [P3]" check - <text
+told "the same of standard input by its name" 2 "" "<stdin>:2:22: error: ';' is missing here, after '2': the next item begins on line 3 [P3]" check /dev/stdin <text
 printf 'brief 1\ndevice temp 0x48 ;\n' >first
 printf 'brief 1\nbyte R 0x01 ; device temp 0x49 ;\n' >second
-expect "where it stands already, in another file" 2 "" "second:2:22: error: 'temp': an earlier device has this name, on line 2 of \"first\" [P7]
+told "where it stands already, in another file" 2 "" "second:2:22: error: 'temp': an earlier device has this name, on line 2 of \"first\" [P7]
 first:2:8: note: it stands here already" check first --with second
 printf 'brief 1\nmessage get read 0x48 1 ;\nmessage set write 0x48 any ;\ncontroller c gets ;\n' >text
-expect "the nearest names on one line" 2 "" \
+told "the nearest names on one line" 2 "" \
     "text:4:14: error: 'gets': no message before this place has this name; the nearest names of messages: get, set [P8]" check text
 
 # ---- refusals without a place in such a text
 
-expect "a file that is missing" 2 "" "twire: error: none: no such file" check none
-expect "a file that is a folder" 2 "" "twire: error: .: Is a directory (os error 21)" check .
-expect "a certificate that is missing" 2 "" "twire: error: none: no such file" verify first none
+told "a file that is missing" 2 "" "twire: error: none: no such file" check none
+told "a file that is a folder" 2 "" "twire: error: .: Is a directory (os error 21)" check .
+told "a certificate that is missing" 2 "" "twire: error: none: no such file" verify first none
 # (a substitution would open it anew)
-"$twire" check - --format gcc <&- >out 2>err
-echo "$?" >>out
-if [[ $(cat out err) == $'2\ntwire: error: <stdin>: it is closed' ]]; then
-    passed=$((passed + 1))
-else
-    failed=$((failed + 1))
-    echo "FAILED: standard input that is closed: found $(cat out err)"
-fi
-expect "a number of workers" 2 "" "twire: error: '--workers' takes 1 to 8" check first --workers 9
+told "standard input that is closed" 2 "" "twire: error: <stdin>: it is closed" check - <&-
+told "a number of workers" 2 "" "twire: error: '--workers' takes 1 to 8" check first --workers 9
 printf 'brief 1\nmessage get read 0x48 1 ;\ncontroller c get ;\ncontroller d get ;\n' >two
 commands="before '\$enddefinitions \$end' only commands can stand, as '\$var wire 1 ! scl \$end'"
-expect "a token of a dump" 2 "" "text:1:1: error: $commands [V2]" capture two text
-expect "the same without a plan" 2 "" "text:1:1: error: $commands [V2]" decode text
-expect "the same of standard input" 2 "" "<stdin>:1:1: error: $commands [V2]" decode - <text
+told "a token of a dump" 2 "" "text:1:1: error: $commands [V2]" capture two text
+told "the same without a plan" 2 "" "text:1:1: error: $commands [V2]" decode text
+told "the same of standard input" 2 "" "<stdin>:1:1: error: $commands [V2]" decode - <text
 printf '$enddefinitions $end\n' >dump
-expect "a line that a dump does not have" 2 "" "dump: error: no signal of one bit has the name 'scl', and none has the name 'sda' [V1]" capture two dump
+told "a line that a dump does not have" 2 "" "dump: error: no signal of one bit has the name 'scl', and none has the name 'sda' [V1]" capture two dump
 printf '$var wire 1 ! scl $end $var wire 1 " sda $end $enddefinitions $end\n#0 1! 1"\n#5\n#3\n' >dump
-expect "a time that goes back" 2 "" "dump:4:1: error: the last time was 5, and times never go back [V3]" capture two dump
-expect "a file that is not written" 2 "" "twire: error: the output \"none/file\" was not written: No such file or directory (os error 2)" expand two -o none/file
-expect "starters" 2 "" "twire: error: no participant of the plan has the label 'nobody' [B2]" bench two nobody --certify
-expect "a name that no brief can have" 2 "" "twire: error: the plan has the name 'byte', which is a word of briefs" brief - <<<'plan 1 controller byte ;'
-expect "a time with a unit" 2 "" "twire: error: the capture does not say what its times count: it has no \$timescale" decode dump --from 1us
-expect "what hints say has its own lines" 2 "" "twire: error: none: no such file
+told "a time that goes back" 2 "" "dump:4:1: error: the last time was 5, and times never go back [V3]" capture two dump
+told "a file that is not written" 2 "" "twire: error: the output \"none/file\" was not written: No such file or directory (os error 2)" expand two -o none/file
+told "starters" 2 "" "twire: error: no participant of the plan has the label 'nobody' [B2]" bench two nobody --certify
+told "a name that no brief can have" 2 "" "twire: error: the plan has the name 'byte', which is a word of briefs" brief - <<<'plan 1 controller byte ;'
+told "a time with a unit" 2 "" "twire: error: the capture does not say what its times count: it has no \$timescale" decode dump --from 1us
+told "what hints say has its own lines" 2 "" "twire: error: none: no such file
 hint: PLAN, the plan \"none\", cannot be opened:
 hint: No such file or directory (os error 2)" check none --hints always
 
@@ -117,10 +78,10 @@ hint: No such file or directory (os error 2)" check none --hints always
 
 hidden=$'o\u202eb\e[31m\nc' shown='o\xe2\x80\xaeb\x1b[31m\nc'
 printf 'brief 1\ncontroller c mm ;\n' >"$hidden"
-expect "a mark of direction at a place" 2 "" "$shown:2:14: error: 'mm': no message stands before this place [P8]" check "$hidden"
-expect "a mark of direction in a file that is missing" 2 "" "twire: error: not-$shown: no such file" check "not-$hidden"
+told "a mark of direction at a place" 2 "" "$shown:2:14: error: 'mm': no message stands before this place [P8]" check "$hidden"
+told "a mark of direction in a file that is missing" 2 "" "twire: error: not-$shown: no such file" check "not-$hidden"
 printf 'brief 1\nmessage get read 0x48 1 ;\nmessage set write 0x48 ;\ncontroller c get ;\ncontroller d set ;\nbyte CONF 0x02 ;\n' >"$hidden"
-expect "a mark of direction in a warning" 0 "$shown:6:6: warning: no message names byte 'CONF' [unused byte]" "" check "$hidden"
+told "a mark of direction in a warning" 0 "$shown:6:6: warning: no message names byte 'CONF' [unused byte]" "" check "$hidden"
 
 # ---- unsafe pairs
 
@@ -133,14 +94,14 @@ message set write temp CONF ;
 controller main get ;
 controller guard set ;
 BRIEF
-expect "both senders" 1 \
+told "both senders" 1 \
     "unsafe:4:11: error: main/get repeats START where guard/set sends STOP, after S 48 Wr A 02 A: one ends, one repeats START [unsafe]
 unsafe:5:9: note: guard/set sends STOP there" "" check unsafe
-expect "the same with groups, and without a report" 1 \
+told "the same with groups, and without a report" 1 \
     "unsafe:4:11: error: main/get repeats START where guard/set sends STOP, after S 48 Wr A 02 A: one ends, one repeats START [unsafe]
 unsafe:5:9: note: guard/set sends STOP there" "" check unsafe --explain --workers 2
 "$twire" expand unsafe >unsafe.plan
-expect "both in a plan" 1 \
+told "both in a plan" 1 \
     "unsafe.plan:2:9: error: main/get repeats START where guard/set sends STOP, after S 48 Wr A 02 A: one ends, one repeats START [unsafe]
 unsafe.plan:3:9: note: guard/set sends STOP there" "" check unsafe.plan
 cat >lengths <<'BRIEF'
@@ -151,7 +112,7 @@ controller a page ;
 controller b other ;
 BRIEF
 # (of the bytes that are open the first wire has 0 in each bit)
-expect "a family is one, both ways" 1 \
+told "a family is one, both ways" 1 \
     "lengths:2:9: error: a/page_* sends a data bit where b/other_* sends STOP, after S 50 Wr A 00 A: lengths differ (3 pairs) [unsafe]
 lengths:3:9: note: b/other_* sends STOP there
 lengths:2:9: error: a/page_1 sends STOP where b/other_2 sends a data bit, after S 50 Wr A 00 A: lengths differ [unsafe]
@@ -162,20 +123,20 @@ message ask read 0x48 1 ;
 controller main ask ;
 interrupt pin 0x48 ;
 BRIEF
-expect "an interrupt" 1 \
+told "an interrupt" 1 \
     "alert:2:9: error: main/ask hears a target's bit where !pin waits for the answer, after S 48 Rd: an interrupt has the same header [unsafe]
 alert:4:11: note: !pin waits for the answer there" "" check alert
 
 # ---- what is likely a mistake, and nothing
 
 printf 'brief 1\ndevice temp 0x48 ;\ndevice also 0x48 ;\nbyte R 0x01 ;\nmessage m read temp 1 ;\ncontroller c ;\n' >odd
-expect "warnings" 0 "odd:3:8: warning: device 'also' has the address of 'temp', which stands at odd:2 [same address]
+told "warnings" 0 "odd:3:8: warning: device 'also' has the address of 'temp', which stands at odd:2 [same address]
 odd:2:8: note: the device with the same address
 odd:3:8: warning: no message and no interrupt names device 'also' [unused device]
 odd:4:6: warning: no message names byte 'R' [unused byte]
 odd:5:9: warning: no controller lists message 'm', which was not looked at [unsent message]
 odd:6:12: warning: controller 'c' lists no message [idle controller]" "" check odd
-expect "what a strict check fails for is an error" 1 "odd:3:8: warning: device 'also' has the address of 'temp', which stands at odd:2 [same address]
+told "what a strict check fails for is an error" 1 "odd:3:8: warning: device 'also' has the address of 'temp', which stands at odd:2 [same address]
 odd:2:8: note: the device with the same address
 odd:3:8: warning: no message and no interrupt names device 'also' [unused device]
 odd:4:6: warning: no message names byte 'R' [unused byte]
@@ -183,21 +144,21 @@ odd:5:9: error: no controller lists message 'm', which was not looked at [unsent
 odd:6:12: warning: controller 'c' lists no message [idle controller]
 odd:1:1: error: no two participants may start together, so nothing was checked [no pair]" "" check odd --strict
 printf 'plan 1\nmessage n read 1001000 1 stop else stop ;\nmessage m read 1001000 1 stop else stop ;\ncontroller a m ;\ncontroller b m ;\n' >unlisted
-expect "a plan of which not all is looked at" 0 "" "" check unlisted
-expect "the same strictly" 1 "unlisted:2:9: error: no controller lists message 'n', which was not looked at [unsent message]" "" check unlisted --strict
+told "a plan of which not all is looked at" 0 "" "" check unlisted
+told "the same strictly" 1 "unlisted:2:9: error: no controller lists message 'n', which was not looked at [unsent message]" "" check unlisted --strict
 sed -i '/controller b/d' unlisted
-expect "a plan without pairs, strictly" 1 "unlisted:1:1: error: no two participants may start together, so nothing was checked [no pair]
+told "a plan without pairs, strictly" 1 "unlisted:1:1: error: no two participants may start together, so nothing was checked [no pair]
 unlisted:2:9: error: no controller lists message 'n', which was not looked at [unsent message]" "" check unlisted --strict
 printf 'brief 1\n# one\r two\n' >odd
-expect "a carriage return stands on its line" 0 "odd:1:1: warning: this brief has no items [empty brief]
+told "a carriage return stands on its line" 0 "odd:1:1: warning: this brief has no items [empty brief]
 odd:2:1: warning: a carriage return (CR) does not end a comment: what follows it in the comment is not read, up to a line feed [carriage return]" "" check odd
-expect "a safe plan has none" 0 "" "" check two
-expect "a safe plan has none, strictly" 0 "" "" check two --strict
-expect "other reports are as ever" 0 "accepted safe" "" verify two <("$twire" certify two)
+told "a safe plan has none" 0 "" "" check two
+told "a safe plan has none, strictly" 0 "" "" check two --strict
+told "other reports are as ever" 0 "accepted safe" "" verify two <("$twire" certify two)
 
 # ---- the forms that tools take: each line is a message or a note with a place
 
-for example in "$tests"/../examples/*.brief "$tests"/../examples/*.plan; do
+for example in "$examples"/*.brief "$examples"/*.plan; do
     "$twire" check "$example" >report 2>&1
     status=$?
     "$twire" check "$example" --format gcc >out 2>&1
@@ -205,12 +166,8 @@ for example in "$tests"/../examples/*.brief "$tests"/../examples/*.plan; do
     errors=$(grep -cE '^[^:]+:[0-9]+:[0-9]+: error: .+$' out)
     others=$(grep -cvE '^[^:]+:[0-9]+:[0-9]+: (error|warning|note): .+$' out)
     # (the messages have an error where the report says that the plan is unsafe, and nowhere else)
-    if ((found != status || found > 1 || others != 0 || (errors != 0) != (status == 1))); then
-        failed=$((failed + 1))
-        echo "FAILED: the messages of $example: status $found, $errors errors, $others other lines"
-    else
-        passed=$((passed + 1))
-    fi
+    ((found == status && found <= 1 && others == 0 && (errors != 0) == (status == 1)))
+    held "the messages of $example: status $found, $errors errors, $others other lines" out
 done
 
 # quickfix NAME COMMAND ARG..: vim's list after `:make`, as GUIDE has it, in one that is called so.
@@ -222,13 +179,7 @@ quickfix() {
         -c 'set makeprg=twire\ check\ --format\ gcc\ %:S' -c 'silent make' \
         -c 'call writefile(map(getqflist(), {_, e -> join([bufname(e.bufnr), e.lnum, e.col, e.type])}), "list")' \
         -c 'qa!' >/dev/null 2>&1 </dev/null
-    if [[ $(cat list 2>/dev/null) == $'unsafe 4 11 e\nunsafe 5 9 ' ]]; then
-        passed=$((passed + 1))
-    else
-        failed=$((failed + 1))
-        echo "FAILED: the list of $name"
-        cat list
-    fi
+    same "the list of $name" $'unsafe 4 11 e\nunsafe 5 9 ' "$(cat list)"
 }
 
 mkdir bin && ln -s "$twire" bin/twire
@@ -243,5 +194,4 @@ else
     echo "left out: the list of vim, which is not installed"
 fi
 
-echo "$passed passed, $failed failed"
-((failed == 0))
+finish

@@ -1,41 +1,22 @@
 #!/usr/bin/env bash
 # Files that twire writes: each is there whole or not at all, and a run that ends without its report leaves what was there.
-# The last line is 'N passed, M failed', and the exit status is 1 where a case fails.
-#
-# It runs the launcher at the top of the repository, or the program that TWIRE names.
-set -u
+source "$(dirname -- "$(readlink -f -- "${BASH_SOURCE[0]}")")/suite.bash" || exit 1
 
-tests=$(dirname -- "$(readlink -f -- "${BASH_SOURCE[0]}")")
-twire=$(readlink -f -- "${TWIRE:-$tests/../twire}")
-work=$(mktemp -d)
-trap 'rm -rf -- "$work"' EXIT
-cd -- "$work" || exit 1
 
-passed=0
-failed=0
-
-# judge NAME: a case, which passes where nothing stands in the file wrong and in the folder nothing that was not there.
-judge() {
+# right NAME: a case, which passes where nothing stands in the file wrong and in the folder nothing that was not there.
+right() {
     ls -A | grep -E '\.part$' >>wrong
-    if [[ -s wrong ]]; then
-        failed=$((failed + 1))
-        echo "FAILED: $1"
-        cat wrong
-    else
-        passed=$((passed + 1))
-    fi
+    [[ ! -s wrong ]]
+    held "$1" wrong
     : >wrong
 }
 
 # ran STATUS ERR ARG..: a run with this status and this on standard error, which writes no report on standard output.
 ran() {
-    local status=$1 err=$2
-    shift 2
-    "$twire" "$@" >out 2>err
-    local found=$?
-    [[ $found == "$status" ]] || echo "$*: status $found" >>wrong
-    [[ $(cat err) == "$err" ]] || { echo "$*: on standard error" && cat err; } >>wrong
-    [[ ! -s out ]] || { echo "$*: on standard output" && cat out; } >>wrong
+    call "${@:3}"
+    [[ $status == "$1" ]] || echo "${*:3}: status $status" >>wrong
+    [[ $(cat err) == "$2" ]] || { echo "${*:3}: on standard error" && cat err; } >>wrong
+    [[ ! -s out ]] || { echo "${*:3}: on standard output" && cat out; } >>wrong
 }
 
 # has FILE TEXT: the file has this text and no more.
@@ -43,7 +24,6 @@ has() {
     [[ -f $1 && $(cat "$1") == "$2" ]] || echo "$1: $(cat "$1" 2>&1)" >>wrong
 }
 
-"$twire" --version >/dev/null 2>&1
 : >wrong
 
 plan="plan 1
@@ -68,43 +48,43 @@ sed 's/write 1001001/write 1001000 00000000 stop else/' plan >unsafe
 
 ran 0 "" certify plan -o new.cert
 has new.cert "$cert"
-judge "a certificate in a new file"
+right "a certificate in a new file"
 ran 0 "" certify plan --output=long.cert
 has long.cert "$cert"
-judge "a certificate by the long option"
+right "a certificate by the long option"
 ran 1 "" certify unsafe -o new.cert
 has new.cert "$unsafe_cert"
-judge "the certificate of an unsafe plan in the place of an old one"
+right "the certificate of an unsafe plan in the place of an old one"
 ran 0 "" expand brief -o new.plan
 has new.plan "$plan"
-judge "a plan of a brief"
+right "a plan of a brief"
 ran 0 "" print plan -o printed
 has printed "$plan"
-judge "a canonical spelling"
+right "a canonical spelling"
 ran 0 "" brief plan -o new.brief
 has new.brief "$brief"
-judge "a brief of a plan"
+right "a brief of a plan"
 ran 0 "" certify - -o input.cert <plan
 has input.cert "$cert"
-judge "a certificate of a plan from standard input"
+right "a certificate of a plan from standard input"
 
 # What is refused leaves the old file.
 echo "kept" >kept
 ran 2 "refused P3 line 1" certify refused -o kept
 has kept "kept"
-judge "certify of a refused plan"
+right "certify of a refused plan"
 ran 2 "refused P2 line 1" expand refused -o kept
 has kept "kept"
-judge "expand of a refused brief"
+right "expand of a refused brief"
 ran 2 "refused P3 line 1" print refused -o kept
 has kept "kept"
-judge "print of a refused plan"
+right "print of a refused plan"
 ran 2 "refused read" certify missing -o kept
 has kept "kept"
-judge "certify of a missing plan"
+right "certify of a missing plan"
 ran 2 "refused P3 line 1" certify refused -o never_written
 [[ ! -e never_written ]] || echo "the file is there" >>wrong
-judge "no file of a refused plan"
+right "no file of a refused plan"
 
 # The file that was read is not written over, by whatever name.
 ln -s plan link
@@ -114,17 +94,17 @@ for name in plan ./plan link other_name "$work/plan"; do
 hint: the output \"$name\" was not written:
 hint: it is a file that was read" certify plan -o "$name" --hints always
     has plan "$plan"
-    judge "the plan itself as the certificate, by the name ${name##*/}"
+    right "the plan itself as the certificate, by the name ${name##*/}"
 done
 ran 2 "refused write" certify - -o plan <plan
 has plan "$plan"
-judge "the plan from standard input as the certificate"
+right "the plan from standard input as the certificate"
 "$twire" certify plan -o /dev/fd/1 >&- 2>err
 [[ $? == 2 ]] || echo "another status" >>wrong
 has plan "$plan"
-judge "a closed descriptor that the plan comes to have"
+right "a closed descriptor that the plan comes to have"
 ran 2 "refused write" certify plan -o /dev/fd/9 9>&-
-judge "a closed descriptor"
+right "a closed descriptor"
 rm link other_name
 
 # A file that is read as standard input is not written over either, by whatever name of the two.
@@ -138,24 +118,24 @@ hint: the output \"$name\" was not written:
 hint: it is a file that was read"
         has unsafe "$(cat unsafe_kept)"
         has hard_link "$(cat unsafe_kept)"
-        judge "waves over the plan, $name, that is read as $input"
+        right "waves over the plan, $name, that is read as $input"
     done
 done
 "$twire" certify plan -o plan.cert
 "$twire" bench plan - a/m,b/n --wave plan.cert <plan.cert >out 2>err
 [[ $? == 2 && $(cat err) == "refused write" ]] || cat err >>wrong
 has plan.cert "$cert"
-judge "waves over the certificate from standard input"
+right "waves over the certificate from standard input"
 "$twire" bench - plan.cert a/m,b/n --wave plan <plan >out 2>err
 [[ $? == 2 && $(cat err) == "refused write" ]] || cat err >>wrong
 has plan "$plan"
-judge "waves of a bench over the plan from standard input"
-"$tests/../tools/dump" 100100000 >read.vcd
+right "waves of a bench over the plan from standard input"
+"$top/tools/dump" 100100000 >read.vcd
 cp read.vcd dump_kept
 for command in "page plan --capture - -o read.vcd" "learn - -o read.vcd" "page plan --capture read.vcd -o read.vcd"; do
     ran 2 "refused write" $command <read.vcd
     has read.vcd "$(cat dump_kept)"
-    judge "$command, over the capture"
+    right "$command, over the capture"
 done
 cp plan appended
 "$twire" check appended >>appended 2>err
@@ -164,27 +144,24 @@ has appended "$plan"
 "$twire" check appended --format json 1<>appended 2>err
 [[ $? == 2 ]] || echo "another status" >>wrong
 has appended "$plan"
-judge "standard output that is the plan"
+right "standard output that is the plan"
 rm unsafe_kept cert_kept hard_link read.vcd dump_kept appended plan.cert
 
 # Where the file cannot be written.
 mkdir folder
 for name in folder folder/ missing/new.cert plan/new.cert "" /; do
     ran 2 "refused write" certify plan -o "$name"
-    judge "a certificate in the place of '$name'"
+    right "a certificate in the place of '$name'"
 done
 [[ -z $(ls -A folder) ]] || echo "something is left in the folder" >>wrong
-judge "nothing is left in the folder"
+right "nothing is left in the folder"
 # The waves of a check and of a rehearsal: a file that cannot be written is named, and no file that was read is written over.
 # drew STATUS HINT ARG..: a run with this status, of whose hints these are the first two lines after that of a refusal.
 drew() {
-    local status=$1 hint=$2
-    shift 2
-    "$twire" "$@" --hints always >out 2>err
-    local found=$?
-    [[ $found == "$status" ]] || echo "$*: status $found" >>wrong
+    call "${@:3}" --hints always
+    [[ $status == "$1" ]] || echo "${*:3}: status $status" >>wrong
     [[ $(head -n 3 err) == "refused write
-$hint" ]] || { echo "$*: on standard error" && cat err; } >>wrong
+$2" ]] || { echo "${*:3}: on standard error" && cat err; } >>wrong
 }
 
 "$twire" certify plan -o plan.cert
@@ -194,27 +171,27 @@ for name in folder missing/w.vcd; do
     [[ $? == 2 ]] || echo "another status" >>wrong
     [[ $(head -n 2 err) == "refused write
 hint: the output \"$name\" was not written:" ]] || cat err >>wrong
-    judge "waves in the place of '$name'"
+    right "waves in the place of '$name'"
 done
 drew 2 'hint: the output "unsafe" was not written:
 hint: it is a file that was read' check unsafe --wave unsafe
 has unsafe "$(cat unsafe_kept)"
-judge "waves over the plan"
+right "waves over the plan"
 drew 2 'hint: the output "plan.cert" was not written:
 hint: it is a file that was read' bench plan plan.cert a/m,b/n --wave plan.cert
 has plan.cert "$(cat cert_kept)"
-judge "waves over the certificate"
+right "waves over the certificate"
 "$twire" check unsafe --wave - >out 2>err
 [[ $? == 2 && ! -e ./- ]] || echo "another status, or a file -" >>wrong
 grep -q "'--wave' wants a file" err || cat err >>wrong
-judge "waves on standard output"
+right "waves on standard output"
 rm -f plan.cert cert_kept unsafe_kept
 
 if [[ -c /dev/full ]]; then
     ran 2 "refused write
 hint: the output \"/dev/full\" was not written:
 hint: No space left on device (os error 28)" certify plan -o /dev/full --hints always
-    judge "a full device"
+    right "a full device"
 fi
 (
     ulimit -f 0
@@ -223,41 +200,41 @@ fi
     echo "$?" >&3
 ) 3>&1 >/dev/null 2>&1 | grep -qx 2 || echo "another status" >>wrong
 has kept "kept"
-judge "a file that may not have a byte"
+right "a file that may not have a byte"
 
 # What stands there already.
 ran 0 "" certify plan -o /dev/null
 [[ -c /dev/null ]] || echo "it is no device any more" >>wrong
-judge "the null device stays one"
+right "the null device stays one"
 mkfifo fifo
 cat fifo >through &
 ran 0 "" certify plan -o fifo
 wait
 has through "$cert"
 [[ -p fifo ]] || echo "it is no FIFO any more" >>wrong
-judge "a FIFO takes the certificate and stays one"
+right "a FIFO takes the certificate and stays one"
 echo "old" >folder/old.cert
 ln -s folder/old.cert link.cert
 ran 0 "" certify plan -o link.cert
 has folder/old.cert "$cert"
 [[ -L link.cert ]] || echo "it is no link any more" >>wrong
-judge "a link stays one, and its file is replaced"
+right "a link stays one, and its file is replaced"
 ln -s folder/made.cert dangling.cert
 ran 0 "" certify plan -o dangling.cert
 has folder/made.cert "$cert"
 [[ $(readlink dangling.cert) == folder/made.cert ]] || echo "it is no link any more" >>wrong
-judge "a link to nothing stays one, and its file is made"
+right "a link to nothing stays one, and its file is made"
 ln -s ../chained.cert folder/second.link && ln -s folder/second.link first.link
 ran 0 "" certify plan -o first.link
 has chained.cert "$cert"
 [[ -L first.link && -L folder/second.link ]] || echo "they are no links any more" >>wrong
-judge "links to a link to nothing stay ones"
+right "links to a link to nothing stay ones"
 for target in missing/new.cert $'not\xfftext'; do
     ln -s "$target" broken.cert
     ran 2 "refused write" certify plan -o broken.cert
     [[ -L broken.cert && ! -e broken.cert ]] || echo "it is no link any more" >>wrong
     rm broken.cert
-    judge "a link to what cannot be written"
+    right "a link to what cannot be written"
 done
 mkdir $'folder\xff'
 for name in old.cert link.cert new.cert; do
@@ -269,49 +246,49 @@ for name in old.cert link.cert new.cert; do
         [[ -L link.cert ]] || echo "it is no link any more" >>wrong
         cat wrong >>../wrong 2>/dev/null
     )
-    judge "$name in a folder whose name is no text"
+    right "$name in a folder whose name is no text"
 done
 echo "old" >mode.cert
 chmod 640 mode.cert
 ran 0 "" certify plan -o mode.cert
 [[ $(stat -c %a mode.cert) == 640 ]] || echo "its mode is $(stat -c %a mode.cert)" >>wrong
-judge "a replaced file keeps its mode"
+right "a replaced file keeps its mode"
 echo "old" >two.cert
 ln two.cert second.cert
 ran 0 "" certify plan -o two.cert
 has two.cert "$cert"
 has second.cert "old"
-judge "another name of the replaced file keeps the old text"
+right "another name of the replaced file keeps the old text"
 echo "somebody's" >.twire-0.part
 ran 0 "" certify plan -o beside.cert
 has beside.cert "$cert"
 has .twire-0.part "somebody's"
 rm .twire-0.part
-judge "a file of the name that is taken first is left"
+right "a file of the name that is taken first is left"
 
 # Standard output by another name.
 "$twire" certify plan -o - >out 2>err || echo "another status" >>wrong
 has out "$cert"
-judge "- is standard output"
+right "- is standard output"
 "$twire" certify plan -o /dev/stdout >out 2>err || echo "another status" >>wrong
 has out "$cert"
-judge "the path of standard output"
+right "the path of standard output"
 "$twire" certify plan -o /dev/stdout 2>err | cat >out
 has out "$cert"
-judge "the path of standard output, which is a pipe"
+right "the path of standard output, which is a pipe"
 for name in /dev/stdout /dev/fd/1 /proc/self/fd/1; do
     (echo "before" && "$twire" certify plan -o "$name" && echo "after") >out 2>err
     has out "before
 $cert
 after"
-    judge "standard output by the name $name is written from where it is"
+    right "standard output by the name $name is written from where it is"
 done
 (echo "before" && "$twire" check unsafe --wave /dev/stdout) >out 2>err
 [[ $(head -n 4 out) == "before
 pair 0 a/m b/n: stop against data after 10010000l
 unsafe: 1 of 1 pairs
 \$version twire \$end" ]] || cat out >>wrong
-judge "waves into standard output come after the report"
+right "waves into standard output come after the report"
 
 # The certificate of an unsafe plan is a fault, which hints say, since nothing else does.
 ran 1 "hint: the plan is not safe: what was written, \"new.cert\", is a fault, and no
@@ -321,9 +298,9 @@ has new.cert "$unsafe_cert"
 "$twire" certify unsafe --hints always >out 2>err
 has err "hint: the plan is not safe: what was written is a fault, and no proof
 hint: 'twire check PLAN --explain' shows the unsafe pairs"
-judge "what is said of the certificate of an unsafe plan"
+right "what is said of the certificate of an unsafe plan"
 ran 0 "" certify plan -o new.cert --hints always
-judge "nothing is said of that of a safe one"
+right "nothing is said of that of a safe one"
 
 # Files in hints can be pasted into a shell: there each word of these is the name that was given.
 # pasted WORD NAME: what bash makes of this word.
@@ -338,54 +315,54 @@ for name in missing "my plan; \$(touch made)" "it's" 'a"b`c`' $'it\'s \\ $HOME!'
     word=$(sed -n 's/^hint: PLAN, the plan \(.*\), cannot be opened:$/\1/p' err)
     pasted "$word" "$name"
     [[ ! -e made ]] || echo "a command in it was run" >>wrong
-    judge "the name $word in a hint"
+    right "the name $word in a hint"
 done
 ran 2 "refused read
 hint: PLAN, the plan \"./-x\", cannot be opened:
 hint: No such file or directory (os error 2)" check --hints always -- -x
-judge "a name that would be an option"
+right "a name that would be an option"
 ran 2 '{"kind":"refusal","code":"read","file":"'$'a\u202eb''","reason":"no such file"}
 {"kind":"hint","form":"sentence","text":"PLAN, the plan $'"'a\\\\xe2\\\\x80\\\\xaeb'"', cannot be opened:"}
 {"kind":"hint","form":"sentence","text":"No such file or directory (os error 2)"}' check $'a\u202eb' --hints always --format json
-judge "a mark of direction in an object"
+right "a mark of direction in an object"
 hidden=$'a\u202eb'
 printf '%s\n' "brief 1" "message m write 0x48 any ;" "message n write 0x48 ;" "controller a m ;" "controller b n ;" >"$hidden"
 "$twire" check "$hidden" --explain >out 2>err
 grep '^    see ' out >first
 has first '    see a\xe2\x80\xaeb:2 and a\xe2\x80\xaeb:3'
-judge "a mark of direction in a line for people"
+right "a mark of direction in a line for people"
 "$twire" page "$hidden" 2>err | grep -o '<\(title\|h1\)>[^<]*' >out
 has out '<title>twire: a\xe2\x80\xaeb
 <h1>a\xe2\x80\xaeb'
-judge "a mark of direction in the title of a page"
+right "a mark of direction in the title of a page"
 sed 's/any/any ; byte c 0x01/' "$hidden" >odd
 mv odd "$hidden"
 "$twire" check "$hidden" --hints always >out 2>err
 grep 'no message names' err >first
 has first 'hint: a\xe2\x80\xaeb:2: no message names byte '"'c'"
-judge "a mark of direction in a hint with a line"
+right "a mark of direction in a hint with a line"
 rm "$hidden"
 long="a name with many words that is broken nowhere, as it could not be pasted then"
 "$twire" check plan --wave "$long" --hints always >out 2>err
 has err "hint: the plan is safe: there is nothing to draw, so
 hint: \"$long\"
 hint: was not written"
-judge "a name with blanks is broken nowhere"
+right "a name with blanks is broken nowhere"
 # Why there is nothing to draw: a pair that is safe, none of this number, a plan that is not accepted. (pairs 0 and 1, of which
 # the first is unsafe)
-stop=$tests/../examples/stop_meets_data.plan
+stop=$examples/stop_meets_data.plan
 for it in "1:pair 1 is safe" "2:the plan has no pair 2"; do
     "$twire" check "$stop" --wave w.vcd --pair "${it%%:*}" --hints always >out 2>err
     tr '\n' ' ' <err | sed 's/ hint: / /g; s/ $//' >words
     has words "hint: ${it#*:}: there is nothing to draw, so \"w.vcd\" was not written"
     [[ ! -e w.vcd ]] || echo "there is a file" >>wrong
-    judge "nothing to draw: ${it#*:}"
+    right "nothing to draw: ${it#*:}"
 done
 "$twire" check plan $'\e[31m\u202e' >out 2>err
 head -n 1 err >first
 has first "error: unexpected argument '\x1b[31m\xe2\x80\xae' found"
-judge "a word that is refused is escaped"
-"$tests/../tools/dump" 100100000 >"my dump.vcd"
+right "a word that is refused is escaped"
+"$top/tools/dump" 100100000 >"my dump.vcd"
 cp plan 'my plan; $(touch made)'
 "$twire" capture 'my plan; $(touch made)' "my dump.vcd" --scl clock --hints always >out 2>err
 command=$(sed -n 's/^hint:   twire \(capture .*\)/\1/p' err)
@@ -394,7 +371,7 @@ eval "\"\$twire\" $command" >out 2>err
 has out "5-160 a/m
 1 transactions, 0 unexplained"
 [[ ! -e made ]] || echo "a command in a name was run" >>wrong
-judge "a command to try works"
+right "a command to try works"
 rm "my dump.vcd" 'my plan; $(touch made)' first
 
 # A mark after the end of a text whose last line is cut: no line has more than 80 columns.
@@ -405,7 +382,7 @@ hint:   ..m write 1001000 00000000 00000001 00000010 00000011 00000100 00000101
 hint:                                                                          ^
 hint: the text ends here
 hint: expected here: 'stop', 'again' or a data byte (eight of '0', '1' and 'x')" check short --hints always
-judge "a mark after a long last line"
+right "a mark after a long last line"
 
 # Colours are in no file, and nowhere where nobody sees a terminal. Where they are asked for, the words alone have them.
 red=$'\e[31m'
@@ -415,7 +392,7 @@ plain=$'\e[0m'
 shown() {
     "$twire" "${@:3}" >out 2>&1
     has out "$2"
-    judge "$1"
+    right "$1"
 }
 shown "a safe plan in colours" "${green}safe${plain}: 1 pairs" check plan --color always
 shown "an unsafe plan in colours" "pair 0 a/m b/n: stop against data after 10010000l
@@ -424,7 +401,7 @@ echo "$cert" >right.cert
 shown "a right certificate in colours" "accepted ${green}safe${plain}" verify plan right.cert --color always
 echo "$unsafe_cert" >fault.cert
 shown "a right fault in colours" "accepted ${red}unsafe${plain}" verify unsafe fault.cert --color always
-"$tests/../tools/dump" 100101000 >other.vcd
+"$top/tools/dump" 100101000 >other.vcd
 shown "a transaction that nobody explains in colours" "5-160 ${red}unexplained${plain}
 1 transactions, 1 unexplained" capture plan other.vcd --color always
 shown "marks in a colour" "refused P3 line 1
@@ -433,7 +410,7 @@ hint:   plan 1 ;
 hint:          ${red}^${plain}
 hint: expected here: 'message', 'controller' or 'interrupt'" check refused --color always --hints always
 shown "no colours in a certificate" "$cert" certify plan --color always
-"$tests/../tools/dump" 100101000 >timed.vcd
+"$top/tools/dump" 100101000 >timed.vcd
 shown "the same, with times in parts of a second" "5 us-160 us ${red}unexplained${plain}
 1 transactions, 1 unexplained" capture plan timed.vcd --color always --times si
 NO_COLOR=1 shown "colours that are asked for, where the environment has none" "${green}safe${plain}: 1 pairs" check plan --color always
@@ -442,19 +419,19 @@ shown "colours where somebody sees a terminal" "safe: 1 pairs" check plan --colo
 shown "no colours" "safe: 1 pairs" check plan --color never
 ran 0 "" certify plan -o colored.cert --color always
 has colored.cert "$cert"
-judge "no colours in a file"
+right "no colours in a file"
 
 # On a terminal, whose lines end in CR LF.
 if type -P script >/dev/null; then
     script -qec "'$twire' check plan" /dev/null </dev/null | tr -d '\r' >out
     has out "${green}safe${plain}: 1 pairs"
-    judge "colours on a terminal"
+    right "colours on a terminal"
     NO_COLOR=1 script -qec "'$twire' check plan" /dev/null </dev/null | tr -d '\r' >out
     has out "safe: 1 pairs"
-    judge "no colours on a terminal, where the environment has none"
+    right "no colours on a terminal, where the environment has none"
     NO_COLOR=$'\xff' script -qec "'$twire' check plan" /dev/null </dev/null | tr -d '\r' >out
     has out "safe: 1 pairs"
-    judge "no colours on a terminal, where the environment says so by what is no text"
+    right "no colours on a terminal, where the environment says so by what is no text"
 else
     echo "left out: colours on a terminal (no command 'script')"
 fi
@@ -485,68 +462,66 @@ if type -P script >/dev/null; then
     told "plan: $bytes bytes"
     told "messages compared with messages: 0"
     has seen "${green}safe${plain}: 1 pairs"
-    judge "how far a check is"
+    right "how far a check is"
     slowly plan "'$twire' check slow --explain"
     told "plan: $bytes bytes"
     has seen "${green}safe${plain}: 1 pairs
     where targets acknowledge, decided in the header: 1, later: 0,
     at a read's end: 0; may end together: 0"
-    judge "how far an explained check is"
+    right "how far an explained check is"
     slowly plan "'$twire' certify slow -o slow.cert"
     told "certificate written: $(wc -c <right.cert) bytes"
     has seen ""
     has slow.cert "$cert"
-    judge "how far a certificate is"
+    right "how far a certificate is"
     slowly plan "'$twire' certify slow | cat >piped"
     told "certificate written: $(wc -c <right.cert) bytes"
     has seen ""
     has piped "$cert"
-    judge "how far a certificate is that goes into a pipe"
+    right "how far a certificate is that goes into a pipe"
     slowly plan "'$twire' certify slow"
     has seen "$cert"
     ! grep -qF "certificate written" terminal || cat -v terminal >>wrong
-    judge "a certificate on the terminal is not told of"
+    right "a certificate on the terminal is not told of"
     slowly plan "'$twire' verify slow right.cert"
     told "certificate: $(wc -c <right.cert) of $(wc -c <right.cert) bytes"
     has seen "accepted ${green}safe${plain}"
-    judge "how far a certificate is read"
+    right "how far a certificate is read"
     slowly plan "'$twire' capture slow other.vcd"
     told "capture: $(wc -c <other.vcd) of $(wc -c <other.vcd) bytes"
     has seen "5-160 ${red}unexplained${plain}
 1 transactions, 1 unexplained"
-    judge "how far a capture is read"
+    right "how far a capture is read"
     slowly plan "'$twire' check slow 2>err"
     quiet terminal
     has err ""
-    judge "standard error is no terminal"
+    right "standard error is no terminal"
     slowly plan "'$twire' print slow"
     quiet terminal
     has seen "$plan"
-    judge "a command that is never long"
+    right "a command that is never long"
     { sleep 5 && printf '%s\n\004' "$plan"; } | script -qec "'$twire' check -" /dev/null >terminal
     quiet terminal
     grep -q "safe.*: 1 pairs" terminal || cat -v terminal >>wrong
-    judge "no line beside a plan that is typed"
+    right "no line beside a plan that is typed"
     script -qec "'$twire' certify plan -o fast.cert" /dev/null </dev/null >terminal
     has terminal ""
-    judge "nothing is told of a run below a second"
+    right "nothing is told of a run below a second"
     sed 's/stop ;/stops ;/' plan >plan.wrong
     slowly plan.wrong "'$twire' check slow --hints never"
     told "plan: $(wc -c <plan.wrong) bytes"
     has seen "refused P3 line 2"
-    judge "the line of a refusal stands alone"
+    right "the line of a refusal stands alone"
 else
     echo "left out: how far a long run is (no command 'script')"
 fi
 
 # fault NAME ARG..: a command line that is refused, with a message that is not compared.
 fault() {
-    local name=$1
-    shift
-    "$twire" "$@" >out 2>err
-    [[ $? == 2 && ! -s out ]] && grep -q '^error: ' err || { cat out err; } >>wrong
+    call "${@:2}"
+    [[ $status == 2 && ! -s out ]] && grep -q '^error: ' err || cat out err >>wrong
     has kept "kept"
-    judge "$name"
+    right "$1"
 }
 fault "no name of a file" certify plan -o
 fault "two files" certify plan -o kept -o other
@@ -556,5 +531,4 @@ fault "standard input as both files" verify - -
 fault "standard input as both files, by two names" verify /dev/stdin /dev/fd/0
 fault "standard input as the plan and the capture" capture - /dev/stdin
 
-echo "$passed passed, $failed failed"
-((failed == 0))
+finish

@@ -3,32 +3,9 @@
 # machine has a browser (chromium), that it opens there without an error, that its data says what its texts say, that a cell of
 # the matrix leads to its drawing, and that its groups are those of check. With python3 too: what a screen reader is told of it,
 # what keys do, and that print cuts nothing off.
-# The last line is 'N passed, M failed', and the exit status is 1 where a case fails.
-#
-# It runs the launcher at the top of the repository, or the program that TWIRE names.
-set -u
+source "$(dirname -- "$(readlink -f -- "${BASH_SOURCE[0]}")")/suite.bash" || exit 1
 
-tests=$(dirname -- "$(readlink -f -- "${BASH_SOURCE[0]}")")
-twire=$(readlink -f -- "${TWIRE:-$tests/../twire}")
-work=$(mktemp -d)
-trap 'rm -rf -- "$work"' EXIT
-cd -- "$work" || exit 1
-ln -s "$tests/../examples" examples
-# The first call may build the program, and says so.
-"$twire" --version >version 2>&1
-
-passed=0
-failed=0
-
-# want NAME WANTED FOUND
-want() {
-    if [[ $2 == "$3" ]]; then
-        passed=$((passed + 1))
-        return
-    fi
-    failed=$((failed + 1))
-    printf 'FAILED: %s: wanted\n%s\nfound\n%s\n' "$1" "$2" "$3"
-}
+ln -s "$examples" examples
 
 # text ID FILE: the text of that name in a page.
 text() {
@@ -43,53 +20,53 @@ for plan in examples/*.plan; do
     "$twire" page "$plan" -o page.html
     status=$?
     "$twire" check "$plan" >check.txt
-    want "$name: the status is that of check" $? $status
-    want "$name: the plan" "$("$twire" print "$plan")" "$(text plan page.html)"
-    want "$name: the report of check" "$(<check.txt)" "$(text check page.html)"
-    want "$name: the report of order" "$("$twire" order "$plan")" "$(text order page.html)"
-    want "$name: its data, in which no markup can begin" 1 \
+    same "$name: the status is that of check" $? $status
+    same "$name: the plan" "$("$twire" print "$plan")" "$(text plan page.html)"
+    same "$name: the report of check" "$(<check.txt)" "$(text check page.html)"
+    same "$name: the report of order" "$("$twire" order "$plan")" "$(text order page.html)"
+    same "$name: its data, in which no markup can begin" 1 \
         "$(grep -cE '^<script type="application/json" id="data">\{[^<]*\}</script>$' page.html)"
-    want "$name: what it loads" "" "$(grep -oiE '(src|href) *= *.?(https?:|//|file:)|@import|url\(|fetch\(|XMLHttp' page.html)"
+    same "$name: what it loads" "" "$(grep -oiE '(src|href) *= *.?(https?:|//|file:)|@import|url\(|fetch\(|XMLHttp' page.html)"
 done
 "$twire" page examples/stop_meets_data.plan >out.html
-want "standard output" "$("$twire" page examples/stop_meets_data.plan -o page.html; cat page.html)" "$(<out.html)"
+same "standard output" "$("$twire" page examples/stop_meets_data.plan -o page.html; cat page.html)" "$(<out.html)"
 
 probe=(examples/stop_meets_data.plan --capture examples/probe_sigrok.vcd)
 "$twire" page "${probe[@]}" --scl D0 --sda D1 -o page.html
-want "a capture: the status of the unsafe plan" 1 $?
-want "a capture: its explained report" \
+same "a capture: the status of the unsafe plan" 1 $?
+same "a capture: its explained report" \
     "$("$twire" capture examples/stop_meets_data.plan examples/probe_sigrok.vcd --scl D0 --sda D1 --explain)" "$(text capture page.html)"
 "$twire" page examples/two_writers.plan --capture examples/two_buses.vcd --scope board.i2c1 -o page.html
-want "a capture that the plan does not explain" 1 $?
+same "a capture that the plan does not explain" 1 $?
 
 # Where participants stand in briefs: messages and interrupts.
 printf '%s\n' 'brief 1' 'message get read 0x48 1 ;' 'controller a get ;' >get.brief
 printf '%s\n' 'brief 1' '' 'interrupt al 0x48 ;' >alert.brief
 "$twire" page get.brief --with alert.brief -o page.html
-want "the places of a message and of an interrupt" '"label":"a/get","place":"get.brief:2"
+same "the places of a message and of an interrupt" '"label":"a/get","place":"get.brief:2"
 "label":"!al","place":"alert.brief:3"' "$(grep -o '"label":"[^"]*","place":"[^"]*"' page.html)"
 
 # A part of it, of which the data has the times as they are and as they are told.
-"$tests/../tools/dump" 100100000 2 | sed 's/^#20 .*/&\n#21 0"\n#22 1"/' >part.vcd
+"$top/tools/dump" 100100000 2 | sed 's/^#20 .*/&\n#21 0"\n#22 1"/' >part.vcd
 printf '%s\n' 'plan 1' 'message m write 1001000 stop else stop ;' 'controller a m ;' >part.plan
 part=(part.vcd --min-pulse 2us --from 6us --to 165 --times si)
 "$twire" page part.plan --capture "${part[@]}" -o page.html
-want "a part of a capture: its explained report" "$("$twire" capture part.plan "${part[@]}" --explain)" "$(text capture page.html)"
+same "a part of a capture: its explained report" "$("$twire" capture part.plan "${part[@]}" --explain)" "$(text capture page.html)"
 # Its wire is that from tools/dump: after START SCL falls, and each bit has a sample where SDA changes, where SCL rises and where it
 # falls, five steps apart; where SDA stays as it is, SCL rises ten steps after it fell.
 bits=DA5BEBADADaA5BEBADADaA5DaA5DaA5DaA5DaE5
-want "a part of a capture: its data" \
+same "a part of a capture: its data" \
     '"capture":{"stopped":1,"unexplained":0,"step":[1,"us"],"transactions":[{"from":"165","to":"320","times":["165 us","320 us"],"end":"stop","by":[0],"bytes":"S 48 Wr A P","wire":"'$bits'"}]}}' \
     "$(grep -o '"capture":{.*}' page.html | sed 's/<.*//')"
 "$twire" page part.plan --capture part.vcd --min-pulse 2us --to 100 -o page.html
-want "a level that is too short: the wire as it was recorded, and as it lasts" \
+same "a level that is too short: the wire as it was recorded, and as it lasts" \
     '"wire":"DA5BED1EB3A5DADaA5BEBADADaA5DaA5DaA5DaA5DaE5","lasting":"'$bits'"' \
     "$(grep -o '"wire":"[^"]*","lasting":"[^"]*"' page.html)"
 "$twire" page examples/two_writers.plan -o page.html
-want "no capture: no data of one" "" "$(grep -o '"capture":.*' page.html)"
+same "no capture: no data of one" "" "$(grep -o '"capture":.*' page.html)"
 for vcd in examples/{write_ghdl,probe_icarus,two_buses}.vcd; do
     "$twire" page examples/stop_meets_data.plan --capture "$vcd" -o page.html
-    want "${vcd##*/}: its explained report" "$("$twire" capture examples/stop_meets_data.plan "$vcd" --explain)" "$(text capture page.html)"
+    same "${vcd##*/}: its explained report" "$("$twire" capture examples/stop_meets_data.plan "$vcd" --explain)" "$(text capture page.html)"
 done
 
 # The groups are those of check: how many pairs each has, its example, and between whom it is; and the group of each unsafe pair.
@@ -119,11 +96,11 @@ for plan in examples/{restart_meets_data,stop_meets_data}.plan {lock,groups}.bri
     "$twire" page "$plan" -o page.html
     "$twire" check "$plan" --explain --most 1000 --format json >check.json
     name=${plan##*/}
-    want "$name: its groups" \
+    same "$name: its groups" \
         "$(sed -nE 's/^\{"kind":"group","group":[0-9]+,"pairs":([0-9]+),"between":(\[.*\]),"frame".*"example":\{"pair":([0-9]+),.*/\1 \3 \2/p' check.json)" \
         "$(grep -oE '\{"pairs":[0-9]+,"example":[0-9]+,"meets":\[[^]]*\],"why":"[^"]*","between":\[(\[[^]]*\],?)*\]' page.html |
             sed -E 's/.*"pairs":([0-9]+),"example":([0-9]+),.*"between":(.*)/\1 \2 \3/')"
-    want "$name: the group of each unsafe pair" \
+    same "$name: the group of each unsafe pair" \
         "$(sed -nE 's/^\{"kind":"pair","pair":([0-9]+),.*,"group":([0-9]+)\}$/\1 \2/p' check.json)" \
         "$(grep -oE '\{"pair":[0-9]+,"kinds":[^}]*"group":[0-9]+\}' page.html | sed -E 's/.*"pair":([0-9]+),.*"group":([0-9]+)\}/\1 \2/')"
 done
@@ -139,10 +116,10 @@ for plan in examples/{restart_meets_data,stop_meets_data,restart_meets_stop,neve
     "$twire" page "$plan" -o page.html
     "$twire" check --summary --most 1000 "$plan" >report
     name=${plan##*/}
-    want "$name: what is offered for all" \
+    same "$name: what is offered for all" \
         "$(sed '1,/^unsafe/d; /^safe/d; /^    where targets/,$d; /^    not checked/,$d' report | tr -s ' \n' ' ' | sed 's/^ //; s/ $//')" \
         "$(grep -oE "\"offers\":\[($offer,?)*\]" page.html | plainly)"
-    want "$name: what is offered for each group" \
+    same "$name: what is offered for each group" \
         "$(sed '/^unsafe/,$d; /^safe/,$d' report | awk '/^    group /{on = 0} /^    to mend/{on = 1} on' | tr -s ' \n' ' ' | sed 's/^ //; s/ $//')" \
         "$(grep -oE "\"offer\":$offer" page.html | plainly)"
 done
@@ -151,32 +128,32 @@ done
 
 echo old >old.html
 refusal=$("$twire" page "${probe[@]}" -o old.html --hints never 2>&1)
-want "no such signal" "2 refused V1 scl old" "$? $refusal $(<old.html)"
+same "no such signal" "2 refused V1 scl old" "$? $refusal $(<old.html)"
 refusal=$("$twire" page "${probe[@]}" --scl D0 --sda D1 --from 1.5.5us -o old.html 2>&1 | head -n 1)
-want "a time that is none" "error: the value for '--from <TIME>' is no time as 15 or 1.5us old" "$refusal $(<old.html)"
+same "a time that is none" "error: the value for '--from <TIME>' is no time as 15 or 1.5us old" "$refusal $(<old.html)"
 sed '/timescale/,/\$end/d' part.vcd >no_scale.vcd
 refusal=$("$twire" page part.plan --capture no_scale.vcd --to 5us -o old.html --hints never 2>&1)
-want "a unit without a scale" "2 refused timescale old" "$? $refusal $(<old.html)"
+same "a unit without a scale" "2 refused timescale old" "$? $refusal $(<old.html)"
 echo "plan 3" >no.plan
 refusal=$("$twire" page no.plan --capture nothing -o old.html --hints never 2>&1)
-want "a capture that is not there" "2 refused read old" "$? $refusal $(<old.html)"
+same "a capture that is not there" "2 refused read old" "$? $refusal $(<old.html)"
 refusal=$("$twire" page no.plan -o old.html --hints never 2>&1)
-want "no plan" "2 refused P2 line 1 old" "$? $refusal $(<old.html)"
+same "no plan" "2 refused P2 line 1 old" "$? $refusal $(<old.html)"
 cp examples/stop_meets_data.plan own.plan && cp examples/stop_meets_data.vcd own.vcd
 for own in own.plan own.vcd; do
     refusal=$("$twire" page own.plan --capture own.vcd -o "$own" --hints never 2>&1)
-    want "over $own, which was read" "2 refused write" "$? $refusal"
+    same "over $own, which was read" "2 refused write" "$? $refusal"
 done
-want "both files are as they were" "" "$(cmp own.plan examples/stop_meets_data.plan; cmp own.vcd examples/stop_meets_data.vcd)"
+same "both files are as they were" "" "$(cmp own.plan examples/stop_meets_data.plan; cmp own.vcd examples/stop_meets_data.vcd)"
 "$twire" page - --capture - </dev/null >/dev/null 2>&1
-want "standard input twice" 2 $?
+same "standard input twice" 2 $?
 
 # ---- markup
 
 odd='a<b>&"c".plan'
 cp examples/two_writers.plan "$odd"
 "$twire" page "$odd" -o page.html
-want "a name of markup is a text" '<header><h1>a&lt;b&gt;&amp;&quot;c&quot;.plan</h1>' "$(grep -o '<header><h1>.*</h1>' page.html)"
+same "a name of markup is a text" '<header><h1>a&lt;b&gt;&amp;&quot;c&quot;.plan</h1>' "$(grep -o '<header><h1>.*</h1>' page.html)"
 
 # ---- a browser
 
@@ -253,14 +230,14 @@ for plan in examples/*.plan; do
     ((pairs <= 2000)) || continue
     "$twire" page "$plan" -o page.html
     followed
-    want "$name in a browser: errors" "" "$(<errors)"
-    want "$name in a browser: the data says what the plan, the check and the order say" 1 \
+    same "$name in a browser: errors" "" "$(<errors)"
+    same "$name in a browser: the data says what the plan, the check and the order say" 1 \
         "$(grep -c '<body data-agrees="true,true,true">' dom)"
     cells=$(grep -o 'data-pair="[0-9]*"' page.html dom | sort -u | wc -l)
-    want "$name in a browser: a cell for each pair" "$pairs" "$cells"
-    want "$name in a browser: the drawing of the cell that was clicked" 1 "$(grep -c '<div class="drawing" id="pair-0">' dom)"
-    want "$name in a browser: the cell is marked" 1 "$(grep -q 'data-pair="0" aria-current="true"' dom && echo 1)"
-    want "$name in a browser: the verdict" "$("$twire" check "$plan" | tail -n 1)" \
+    same "$name in a browser: a cell for each pair" "$pairs" "$cells"
+    same "$name in a browser: the drawing of the cell that was clicked" 1 "$(grep -c '<div class="drawing" id="pair-0">' dom)"
+    same "$name in a browser: the cell is marked" 1 "$(grep -q 'data-pair="0" aria-current="true"' dom && echo 1)"
+    same "$name in a browser: the verdict" "$("$twire" check "$plan" | tail -n 1)" \
         "$(sed -n 's/.*<p id="verdict" class="[a-z -]*">\([^<]*\)<.*/\1/p' dom)"
 done
 
@@ -292,8 +269,8 @@ for plan in examples/{restart_meets_data,restart_meets_stop,stop_meets_data}.pla
     { echo '<script type="application/json" id="wanted">'; "$twire" check "$plan" --explain --most 1000 --format json; echo '</script>'; cat explains.js; } >added
     sed '/^<\/body>/e cat added' page.html >followed.html
     opened followed.html
-    want "${plan##*/} explained in a browser: errors" "" "$(<errors)"
-    want "${plan##*/}: bytes and open bits of the examples" 1 "$(grep -c '<body data-explains="true"' dom)"
+    same "${plan##*/} explained in a browser: errors" "" "$(<errors)"
+    same "${plan##*/}: bytes and open bits of the examples" 1 "$(grep -c '<body data-explains="true"' dom)"
 done
 
 # headings LEVEL: those of the page in the file dom.
@@ -302,23 +279,23 @@ headings() {
 }
 "$twire" page lock.brief -o page.html
 opened page.html
-want "a group in a browser" "Group 0, 32 pairs: bmc/page_* × host/entry, one goes on, one repeats START, a data bit meets a repeated START in slot 18" \
+same "a group in a browser" "Group 0, 32 pairs: bmc/page_* × host/entry, one goes on, one repeats START, a data bit meets a repeated START in slot 18" \
     "$(headings 3)"
-want "the bytes of its example" "bus         S 50 Wr A 00 A
+same "the bytes of its example" "bus         S 50 Wr A 00 A
 bmc/page_1  S 50 Wr A xxxxxxxx A xxxxxxxx  next: a data bit
 host/entry  S 50 Wr A xxxxxxxx A Sr        next: a repeated START" "$(sed -n '/<pre class="rows">/,/<\/pre>/p' dom | sed -e 's/.*<pre class="rows">//' -e 's/<\/pre>.*//')"
-want "what is offered in a browser" "to mend each: a bit before its slot, known in both and different; or the same shape from there on; or:
+same "what is offered in a browser" "to mend each: a bit before its slot, known in both and different; or the same shape from there on; or:
 never bmc/page host/entry ;
 (leaves 32 of 66 pairs unchecked)
 to mend each: a bit in slot 9..16, known in both and different" \
     "$(grep -oE '<div class="offer">.*</div>' dom | grep -oE '<(p|pre)>[^<]*' | sed 's/<[^>]*>//' | head -n 4)"
-want "its open bits: eight of each, and one that meets the repeated START" 17 "$(grep -o 'class="open">x<' dom | wc -l)"
-want "the rows and columns of a family stand in a band" "colspan=\"32\"
+same "its open bits: eight of each, and one that meets the repeated START" 17 "$(grep -o 'class="open">x<' dom | wc -l)"
+same "the rows and columns of a family stand in a band" "colspan=\"32\"
 rowspan=\"32\"" "$(grep -oE '(colspan|rowspan)="32"' dom | sort -u)"
 "$twire" page examples/shared_board.plan -o page.html
 opened page.html
-want "no group in a browser" 1 "$(grep -c 'No pair of 59 is unsafe, so there are no groups of unsafe pairs.' dom)"
-want "no band in a browser" "" "$(grep -oE '(colspan|rowspan)="' dom)"
+same "no group in a browser" 1 "$(grep -c 'No pair of 59 is unsafe, so there are no groups of unsafe pairs.' dom)"
+same "no band in a browser" "" "$(grep -oE '(colspan|rowspan)="' dom)"
 
 # Above 2,000 pairs rows are families: of 53 messages here, which two controllers send, they are three.
 {
@@ -327,18 +304,18 @@ want "no band in a browser" "" "$(grep -oE '(colspan|rowspan)="' dom)"
 } >many.brief
 "$twire" page many.brief -o page.html
 opened page.html
-want "many pairs in a browser: errors" "" "$(<errors)"
-want "many pairs in a browser: the rows" "page_* (26)
+same "many pairs in a browser: errors" "" "$(<errors)"
+same "many pairs in a browser: the rows" "page_* (26)
 data_* (26)
 get" "$(grep -oE '<th role="rowheader"[^>]*>[^<]*' dom | sed 's/.*>//')"
-want "many pairs in a browser: the two families" "page_* and page_*: 650 of 676 pairs unsafe
+same "many pairs in a browser: the two families" "page_* and page_*: 650 of 676 pairs unsafe
 data_* and data_*: 650 of 676 pairs unsafe" "$(grep -o 'aria-label="[^"]* unsafe, such as' dom | sed -e 's/aria-label="//' -e 's/, such as//')"
 
 # Of a long run the bytes between the header and the last two are folded: 31 bytes, each with its acknowledge, lie between slots
 # 9 and 288, where page_30 ends and page_31 goes on.
 "$twire" page groups.brief -o page.html
 opened page.html
-want "a long run in a browser" ".. 29 bytes alike .." "$(grep -o '\.\. [0-9]* bytes\? alike \.\.' dom | sort -u)"
+same "a long run in a browser" ".. 29 bytes alike .." "$(grep -o '\.\. [0-9]* bytes\? alike \.\.' dom | sort -u)"
 
 # Without its texts the page is drawn alike.
 drawn() {
@@ -347,12 +324,12 @@ drawn() {
 for plan in examples/{stop_meets_data,interrupts,never_repairs}.plan; do
     "$twire" page "$plan" -o page.html
     opened page.html
-    want "${plan##*/} in a browser: something is drawn" 1 "$(drawn | grep -c '<h2>The pairs</h2>')"
+    same "${plan##*/} in a browser: something is drawn" 1 "$(drawn | grep -c '<h2>The pairs</h2>')"
     drawn >drawn.html
     sed -i '/^<details>/,/<\/details>$/d' page.html
     opened page.html
-    want "${plan##*/} without its texts: errors" "" "$(<errors)"
-    want "${plan##*/} without its texts" "$(<drawn.html)" "$(drawn)"
+    same "${plan##*/} without its texts: errors" "" "$(<errors)"
+    same "${plan##*/} without its texts" "$(<drawn.html)" "$(drawn)"
 done
 
 # A narrow window: the slot of the fault, after 45 others, is seen beside the names, and open bits and bytes stand there. So are
@@ -387,11 +364,11 @@ for plan in groups.brief names.plan long.plan; do
     "$twire" page "$plan" -o page.html
     sed '/^<\/body>/e cat seen.js' page.html >followed.html
     opened followed.html --window-size=500,900
-    want "$plan in a narrow window: errors" "" "$(<errors)"
-    want "$plan in a narrow window: the slots of its faults are seen" 1 "$(grep -c '<body data-seen="true">' dom)"
+    same "$plan in a narrow window: errors" "" "$(<errors)"
+    same "$plan in a narrow window: the slots of its faults are seen" 1 "$(grep -c '<body data-seen="true">' dom)"
 done
-want "its open bits, sixteen of each and one that meets the STOP" 33 "$(grep -o 'class="open">x<' dom | wc -l)"
-want "its bytes and acknowledges" 5 "$(grep -oE 'class="faint">(00|A)<' dom | wc -l)"
+same "its open bits, sixteen of each and one that meets the STOP" 33 "$(grep -o 'class="open">x<' dom | wc -l)"
+same "its bytes and acknowledges" 5 "$(grep -oE 'class="faint">(00|A)<' dom | wc -l)"
 
 # ---- what a screen reader is told, keys, and print
 
@@ -402,7 +379,7 @@ if type -P python3 >python; then
     # A probe of service meets the data of main; they never part. The other probe has another address.
     "$twire" page examples/stop_meets_data.plan -o page.html
     told page.html
-    want "what is told of the matrix" 'grid "The pairs"
+    same "what is told of the matrix" 'grid "The pairs"
 columnheader "main/write_output"
 columnheader "service/probe_*"
 columnheader "service/probe_10"
@@ -420,17 +397,17 @@ rowheader "service/probe_11"
 gridcell "main/write_output and service/probe_11: main/write_output wins in slot 6"
 gridcell "service/probe_11 and service/probe_10: never together: one controller, or kept apart by never"
 gridcell "service/probe_11 itself"' "$(sed -n '/grid "/,/paragraph/p' tree | grep -oE '(grid|columnheader|rowheader|gridcell) ".+"')"
-    want "what is told of the groups" 'heading "Why it is unsafe" level=2
+    same "what is told of the groups" 'heading "Why it is unsafe" level=2
 list "Groups of unsafe pairs"
 heading "Group 0, 1 pair: main/write_output × service/probe_10, lengths differ, a data bit meets a STOP in slot 9" level=3
 DisclosureTriangle "As pair 0" expanded=True
 heading "pair 0: main/write_output and service/probe_10 " level=4
 image "main/write_output and service/probe_10: unsafe, a data bit meets a STOP in slot 9"' \
         "$(sed -n '/heading "Why/,/heading "The pairs"/p' tree | grep -oE '(heading|list|DisclosureTriangle|image) ".+"( .*)?' | grep -v '"The pairs"')"
-    want "no sign of a drawing is told by itself" "" "$(sed -n '/image "/,/list ""/p' tree | grep StaticText)"
+    same "no sign of a drawing is told by itself" "" "$(sed -n '/image "/,/list ""/p' tree | grep StaticText)"
 
     told page.html Tab Tab Enter
-    want "the cells of a group are marked, and the first of them has the focus" \
+    same "the cells of a group are marked, and the first of them has the focus" \
         'link "main/write_output and service/probe_10: unsafe, a data bit meets a STOP in slot 9" focused=True
 status "" live=polite
 StaticText "Marked: group 0, 1 pair in 2 cells of the matrix."' "$(grep -E '(link|cell) .*focused=True|status|Marked' tree | sed 's/^ *//')"
@@ -439,7 +416,7 @@ StaticText "Marked: group 0, 1 pair in 2 cells of the matrix."' "$(grep -E '(lin
     "$twire" page examples/two_writers.plan -o page.html
     at() {
         told page.html "${@:3}"
-        want "keys: $1" "$2" "$(grep 'focused=True' tree | grep -oE '(link|gridcell|combobox) ".*"')"
+        same "keys: $1" "$2" "$(grep 'focused=True' tree | grep -oE '(link|gridcell|combobox) ".*"')"
     }
     # Both stop after a byte that is not acknowledged: in slot 9, and while they send the same in 18, and at the end in 27. Their
     # last bytes are 0110xxxx and 0x1xxxxx, from slot 18 on. What write_limit sends from slot 9 on is 03, and not 01.
@@ -455,7 +432,7 @@ StaticText "Marked: group 0, 1 pair in 2 cells of the matrix."' "$(grep -E '(lin
     at "the next stop" 'combobox "one participant"' Tab Tab
     at "back to where it was" "link \"$alarm\"" Tab ArrowDown Tab Shift+Tab
     at "Enter" "link \"$alarm\"" Tab ArrowDown Enter
-    want "keys: what is told of the drawing" "status \"\" live=polite
+    same "keys: what is told of the drawing" "status \"\" live=polite
 StaticText \"Drawn below: pair 1, $alarm.\"
 region \"The drawing of a pair\"
 heading \"pair 1: main/write_limit and guard/write_alarm \" level=3" "$(sed -n '/status "/,/heading "pair/p' tree | sed 's/^ *//' | grep -vE '^(paragraph|generic) ""')"
@@ -464,7 +441,7 @@ heading \"pair 1: main/write_limit and guard/write_alarm \" level=3" "$(sed -n '
     for plan in {lock,groups,many}.brief examples/{stop_meets_data,shared_board,server_board}.plan; do
         "$twire" page "$plan" -o page.html
         groups=$("$twire" check "$plan" --summary --format json | grep -c '^{"kind":"group"')
-        want "${plan##*/} in print" "$(for ((g = 0; g < groups; g++)); do echo "drawing example-$g"; done)" \
+        same "${plan##*/} in print" "$(for ((g = 0; g < groups; g++)); do echo "drawing example-$g"; done)" \
             "$("$tests/browser" print "$browser" page.html 2>&1)"
     done
 else
@@ -473,13 +450,13 @@ fi
 
 "$twire" page "$odd" -o page.html
 opened page.html
-want "a name of markup in a browser" "" "$(<errors)"
-want "its title" 'twire: a&lt;b&gt;&amp;"c".plan' "$(sed -n 's/.*<title>\(.*\)<\/title>.*/\1/p' dom)"
+same "a name of markup in a browser" "" "$(<errors)"
+same "its title" 'twire: a&lt;b&gt;&amp;"c".plan' "$(sed -n 's/.*<title>\(.*\)<\/title>.*/\1/p' dom)"
 
 "$twire" page examples/two_writers.plan --capture examples/two_buses.vcd --scope board.i2c1 -o page.html
 opened page.html
-want "a capture in a browser: errors" "" "$(<errors)"
-want "a capture in a browser: the block of what nobody explains" 1 "$(grep -o '<rect [^>]*class="odd"' dom | wc -l)"
+same "a capture in a browser: errors" "" "$(<errors)"
+same "a capture in a browser: the block of what nobody explains" 1 "$(grep -o '<rect [^>]*class="odd"' dom | wc -l)"
 
 # What is drawn of each wire are its bytes; also of one with a level that is too short.
 cat >wires.js <<'SCRIPT'
@@ -492,8 +469,8 @@ wires() {
     "$twire" page "$@" -o page.html
     sed '/^<\/body>/e cat wires.js' page.html >followed.html
     opened followed.html
-    want "the wires of $3: errors" "" "$(<errors)"
-    want "the wires of $3 are their bytes" 1 "$(grep -c '<body data-wires="true"' dom)"
+    same "the wires of $3: errors" "" "$(<errors)"
+    same "the wires of $3 are their bytes" 1 "$(grep -c '<body data-wires="true"' dom)"
 }
 
 # A board on which five transactions are seen: two readings, which two controllers may send; 250 ms later a write that one sends,
@@ -546,42 +523,42 @@ said() {
 if type -P python3 >python; then
     "$twire" page board.brief --capture board.vcd -o page.html
     lanes='say:[...document.querySelectorAll(".times svg > g text title")].map(one => one.textContent).join(" ")'
-    want "the lanes" "main/get guard/get guard/put unexplained cut/unfinished" "$(said "$lanes")"
+    same "the lanes" "main/get guard/get guard/put unexplained cut/unfinished" "$(said "$lanes")"
     # Two readings are blocks in two lanes; the other three have one block each.
     blocks='say:["seen", "odd", "cut"].map(one => document.querySelectorAll(".times ." + one).length).join(" ")'
-    want "the blocks" "5 1 1" "$(said "$blocks")"
+    same "the blocks" "5 1 1" "$(said "$blocks")"
     # The second STOP comes with the last put before time += 30: from its time to the next START 5 + 30 + 250000 + 5 us pass.
     idle='say:[...document.querySelectorAll(".times .folded")].map(one => one.dataset.idle).join(" ")'
-    want "the idle stretch is folded" "250.04 ms" "$(said "$idle")"
-    want "it is not, in true time" "" "$(said 'click:.bar input' "$idle")"
+    same "the idle stretch is folded" "250.04 ms" "$(said "$idle")"
+    same "it is not, in true time" "" "$(said 'click:.bar input' "$idle")"
     title='say:document.querySelector("#wire h3").textContent'
     at='say:document.querySelector(".times").getAttribute("aria-activedescendant")'
-    want "a key goes to the next transaction" "option-1" "$(said 'say:document.querySelector(".times").focus()' ArrowRight "$at" | tail -n 1)"
-    want "the last one, and no further" "option-4" "$(said 'say:document.querySelector(".times").focus()' End ArrowRight "$at" | tail -n 1)"
+    same "a key goes to the next transaction" "option-1" "$(said 'say:document.querySelector(".times").focus()' ArrowRight "$at" | tail -n 1)"
+    same "the last one, and no further" "option-4" "$(said 'say:document.querySelector(".times").focus()' End ArrowRight "$at" | tail -n 1)"
     span='say:Math.round(100 * [...document.querySelectorAll(".times .seen")].reduce((most, one) => Math.max(most, one.getAttribute("width")), 0))'
     sizes=($(said 'say:document.querySelector(".times").focus()' "$span" + "$span" - "$span" | grep -E '^[0-9]+$'))
-    want "keys zoom: twice as wide, and back again" "yes" \
+    same "keys zoom: twice as wide, and back again" "yes" \
         "$( ((sizes[0] > 100 && sizes[1] >= 2 * sizes[0] - 2 && sizes[1] <= 2 * sizes[0] + 2 && sizes[2] == sizes[0])) && echo yes || echo "${sizes[*]}")"
     # It has the byte 00000111 from slot 9 on, where the readings have 00000001: they differ in slot 14. The other header is
     # 1010000, which differs from 1001000 in slot 2.
-    want "a click shows a wire, and where the nearest leave it" "250
+    same "a click shows a wire, and where the nearest leave it" "250
 slot 14, main/get: it sends 0, the bus has 1
 slot 14, guard/get: it sends 0, the bus has 1
 slot 2, guard/put: it sends 1, the bus has 0" "$(said 'click:.times .odd' 'say:document.querySelectorAll("#wire path.level").length === 2 ? 250 : "no lines"' \
         'say:[...document.querySelectorAll("#wire .leaves li")].map(one => one.textContent).join("\n")')"
-    want "what is told of a wire" 'status "" live=polite
+    same "what is told of a wire" 'status "" live=polite
 region "The wire of a transaction"
 image "SCL and SDA as recorded: S 48 Wr A 01 A Sr 48 Rd A 12 NA P"' \
         "$(said 'say:document.querySelector(".times").focus()' Enter >/dev/null; sed -n '/status "" live/,$p' tree | grep -oE '(status|region|image) .*' | tail -n 3)"
     # (START falls 5 us after 40; a bit takes 10 us, and START, a repeated START and STOP take 7, 15 and 8 until the bus moves on)
-    want "what is told of the lanes" 'listbox "Transactions of the capture" focused=True
+    same "what is told of the lanes" 'listbox "Transactions of the capture" focused=True
 option "45-435 main/get guard/get: S 48 Wr A 01 A Sr 48 Rd A 12 NA P"' \
         "$(sed -n '/listbox "T/,$p' tree | grep -oE '(listbox|option) .*' | head -n 2)"
-    want "the capture in print" "" "$("$tests/browser" print "$browser" page.html 2>&1 | grep 'cut off')"
+    same "the capture in print" "" "$("$tests/browser" print "$browser" page.html 2>&1 | grep 'cut off')"
 fi
 
 # Of 20,000 transactions what is in view is drawn, and no more.
-"$tests/../tools/dump" 100100000000000010,101000000,100100000 20000 alone >many.vcd
+"$top/tools/dump" 100100000000000010,101000000,100100000 20000 alone >many.vcd
 cat >many.brief <<'BRIEF'
 brief 1
 message one write 0x48 0x01 ;
@@ -591,26 +568,25 @@ controller a one two ;
 controller b three ;
 BRIEF
 "$twire" page many.brief --capture many.vcd -o page.html
-want "20,000 transactions: the status" 0 $?
+same "20,000 transactions: the status" 0 $?
 sed 's|^</body>|<script>document.body.dataset.shapes = document.querySelectorAll(".times rect").length < 4000;</script>\n</body>|' page.html >followed.html
 opened followed.html
-want "20,000 transactions in a browser: errors" "" "$(<errors)"
-want "20,000 transactions in a browser: few shapes" 1 "$(grep -c '<body data-shapes="true"' dom)"
-want "20,000 transactions in a browser: drawn within ten seconds" yes \
+same "20,000 transactions in a browser: errors" "" "$(<errors)"
+same "20,000 transactions in a browser: few shapes" 1 "$(grep -c '<body data-shapes="true"' dom)"
+same "20,000 transactions in a browser: drawn within ten seconds" yes \
     "$( (($(sed -n 's/.*<html [^>]*data-drawn="\([0-9]*\)".*/\1/p' dom) < 10000)) && echo yes)"
 
 # The largest plan: as many pairs as there may be, shown by what is sent. A trial build takes many times as long.
 if [[ $(<version) != *"trial"* ]]; then
-    "$tests/../tools/fullest_plan" >fullest.plan
+    "$top/tools/fullest_plan" >fullest.plan
     "$twire" page fullest.plan -o page.html
-    want "the largest plan: the status" 0 $?
+    same "the largest plan: the status" 0 $?
     followed
-    want "the largest plan in a browser: errors" "" "$(<errors)"
-    want "the largest plan in a browser: the data says what the plan, the check and the order say" 1 \
+    same "the largest plan in a browser: errors" "" "$(<errors)"
+    same "the largest plan in a browser: the data says what the plan, the check and the order say" 1 \
         "$(grep -c '<body data-agrees="true,true,true">' dom)"
-    want "the largest plan in a browser: it is shown by what is sent" 1 "$(grep -c '143856 pairs, shown by what is sent' dom)"
-    want "the largest plan in a browser: a drawing" 1 "$(grep -o '<div class="drawing"' dom | wc -l)"
+    same "the largest plan in a browser: it is shown by what is sent" 1 "$(grep -c '143856 pairs, shown by what is sent' dom)"
+    same "the largest plan in a browser: a drawing" 1 "$(grep -o '<div class="drawing"' dom | wc -l)"
 fi
 
-echo "$passed passed, $failed failed"
-((failed == 0))
+finish

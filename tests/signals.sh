@@ -1,52 +1,7 @@
 #!/usr/bin/env bash
 # Captures as they come from a bench: which lines, which transactions, the signals of a dump, and what is learned of one.
-# The last line is 'N passed, M failed', and the exit status is 1 where a case fails.
-#
-# It runs the launcher at the top of the repository, or the program that TWIRE names.
-set -u
+source "$(dirname -- "$(readlink -f -- "${BASH_SOURCE[0]}")")/suite.bash" || exit 1
 
-tests=$(dirname -- "$(readlink -f -- "${BASH_SOURCE[0]}")")
-twire=$(readlink -f -- "${TWIRE:-$tests/../twire}")
-work=$(mktemp -d)
-trap 'rm -rf -- "$work"' EXIT
-cd -- "$work" || exit 1
-
-passed=0
-failed=0
-
-# expect NAME STATUS OUT ERR COMMAND ARG..: one call of twire, with hints only where the arguments say so.
-expect() {
-    local name=$1 status=$2 out=$3 err=$4
-    shift 4
-    local found_out found_err found_status
-    found_out=$("$twire" "$@" 2>err)
-    found_status=$?
-    found_err=$(cat err)
-    if [[ $found_status == "$status" && $found_out == "$out" && $found_err == "$err" ]]; then
-        passed=$((passed + 1))
-    else
-        failed=$((failed + 1))
-        printf 'FAILED: %s: wanted %s, found %s\n%s\n%s\n' "$name" "$status $out $err" "$found_status" "$found_out" "$found_err"
-    fi
-}
-
-# refuses NAME WORDS COMMAND ARG..: a command line that does not parse, for this reason.
-refuses() {
-    local name=$1 words=$2
-    shift 2
-    local found_out found_status
-    found_out=$("$twire" "$@" 2>err)
-    found_status=$?
-    if [[ $found_status == 2 && -z $found_out && $(head -n 1 err) == "error: $words" ]]; then
-        passed=$((passed + 1))
-    else
-        failed=$((failed + 1))
-        printf 'FAILED: %s: wanted %s, found %s\n' "$name" "$words" "$found_status"
-        cat err
-    fi
-}
-
-"$twire" --version >/dev/null 2>&1
 
 cat >plan <<'PLAN'
 plan 1
@@ -234,16 +189,7 @@ expect "a lesson by such names" 0 "$("$twire" learn hyphens --scl-code=-a --sda=
 # ---- which signals look like a bus
 
 buses() {
-    local name=$1 wanted=$2
-    shift 2
-    local found
-    found=$("$twire" signals "$@" 2>&1 | grep -v '^signal ')
-    if [[ $found == "$wanted" ]]; then
-        passed=$((passed + 1))
-    else
-        failed=$((failed + 1))
-        printf 'FAILED: %s: wanted %s, found %s\n' "$name" "$wanted" "$found"
-    fi
+    same "$1" "$2" "$("$twire" signals "${@:3}" 2>&1 | grep -v '^signal ')"
 }
 the_bus="bus 1 transactions --scl-code '!' --sda-code '\"'"
 one_bus() {
@@ -274,7 +220,7 @@ buses "a hint on more than 256 signals" "$the_bus
 302 signals, 1 buses
 hint: of the 302 codes of signals 256 were looked at for a bus: first those with
 hint: 'scl' or 'sda' in their name, and then in order" wide_design --hints always
-"$tests/../tools/dump" 100100000 >few
+"$top/tools/dump" 100100000 >few
 buses "no hint on fewer" "$the_bus
 3 signals, 1 buses" few --hints always
 # The same lines under two more codes each, as a simulator writes those of modules in one another.
@@ -328,7 +274,7 @@ signal \" 0 ..${n300:100} sda
 
 # ---- dumps of simulators and logic analysers: examples, made by the programs or in their forms
 
-example=$tests/../examples
+example=$examples
 probe=$'5-160 service/probe_10\n1 transactions, 0 unexplained'
 expect "two buses of Icarus Verilog" 0 "$probe" "" capture "$example/stop_meets_data.plan" "$example/two_buses.vcd"
 expect "the second of them" 1 $'165-320 unexplained\n1 transactions, 1 unexplained' "" \
@@ -397,7 +343,7 @@ hint: the names of the two lines are given with --scl NAME and --sda NAME" captu
 
 # ---- which transactions
 
-"$tests/../tools/dump" 100100000 2 >twice
+"$top/tools/dump" 100100000 2 >twice
 whole=$'5-160 a/m\n165-320 a/m\n2 transactions, 0 unexplained'
 late=$'165-320 a/m\n1 transactions, 0 unexplained'
 none='0 transactions, 0 unexplained'
@@ -441,7 +387,7 @@ expect "cut and unfinished in parts of a second" 0 \
 
 # ---- who spoke
 
-"$tests/../tools/dump" 100100001 2 >refused
+"$top/tools/dump" 100100001 2 >refused
 expect "a summary of two that explain all" 0 'a/m 0 alone, 2 with others
 b/n 0 alone, 2 with others
 unexplained 0
@@ -570,10 +516,9 @@ counts_as_decode() {
     while read -r _ wanted _ line; do
         eval "lines=($line)"
         [[ $("$twire" decode "$@" "${lines[@]}" | tail -n 1) == "$wanted transactions" ]] && found=$((found + 1)) && continue
-        failed=$((failed + 1))
-        echo "FAILED: decode does not count $wanted: $* $line"
+        fails "decode does not count $wanted: $* $line"
     done < <("$twire" signals "$@" | grep '^bus ')
-    ((found == 0)) || passed=$((passed + 1))
+    ((found == 0)) || passes
 }
 counts_as_decode glitch --min-pulse 2
 counts_as_decode chatter --min-pulse 2us --from 5 --to 199
@@ -609,7 +554,7 @@ refuses "how times of signals are written" "unexpected argument '--times' found"
 
 # ---- lines that are exchanged
 
-sed 's/ ! scl / ! sda /; s/ " sda / " scl /' <("$tests/../tools/dump" 100100000) >swapped
+sed 's/ ! scl / ! sda /; s/ " sda / " scl /' <("$top/tools/dump" 100100000) >swapped
 swapped_hint="hint: 0 of the transactions have whole bytes; with the two lines exchanged 1
 hint: would: are SCL and SDA exchanged?"
 expect "a hint on exchanged lines, of signals" 0 "$("$twire" signals swapped)" "$swapped_hint" signals swapped --hints always
@@ -641,16 +586,6 @@ refuses "a summary that is explained" "'--summary' leaves no transactions for '-
     capture plan two --summary --explain
 
 # ---- what is learned
-
-# same NAME WANTED FOUND: parts of what was learned.
-same() {
-    if [[ $3 == "$2" ]]; then
-        passed=$((passed + 1))
-    else
-        failed=$((failed + 1))
-        printf 'FAILED: %s: wanted %s, found %s\n' "$1" "$2" "$3"
-    fi
-}
 
 # words_of WORD FILE: the first two words of the lines that begin with this word.
 words_of() { sed -n "s/^\($1 [^ ]*\) .*/\1/p" "$2"; }
@@ -1111,14 +1046,9 @@ again() {
     shift 2
     local merge
     for merge in "" --merge --widen; do
-        if "$twire" learn "$dump" $merge "$@" >brief && "$twire" expand brief >learned_plan &&
-            "$twire" capture learned_plan "$dump" "$@" >report && grep -q ' transactions, 0 unexplained$' report; then
-            passed=$((passed + 1))
-        else
-            failed=$((failed + 1))
-            echo "FAILED: learned: $name $merge"
-            cat brief report
-        fi
+        "$twire" learn "$dump" $merge "$@" >brief && "$twire" expand brief >learned_plan &&
+            "$twire" capture learned_plan "$dump" "$@" >report && grep -q ' transactions, 0 unexplained$' report
+        held "learned: $name $merge" brief report
     done
 }
 # again_beside NAME DUMP TIME: the same of what is learned beside a brief of what was seen up to this time: one with its controller,
@@ -1129,22 +1059,17 @@ again_beside() {
         for lists in yes no; do
             "$twire" learn "$dump" --to "$3" $merge >first
             if [[ $lists == no ]]; then sed -i '/^controller/,$d' first; fi
-            if "$twire" learn "$dump" $merge --names first >brief &&
+            "$twire" learn "$dump" $merge --names first >brief &&
                 grep -q '^# [1-9][0-9]* transactions are those of messages in first$' brief &&
-                "$twire" capture first "$dump" --with brief >report && grep -q ' transactions, 0 unexplained$' report; then
-                passed=$((passed + 1))
-            else
-                failed=$((failed + 1))
-                echo "FAILED: learned beside a brief: $name $merge $lists"
-                cat first brief report
-            fi
+                "$twire" capture first "$dump" --with brief >report && grep -q ' transactions, 0 unexplained$' report
+            held "learned beside a brief: $name $merge $lists" first brief report
         done
     done
 }
-again "an example" "$tests/../examples/stop_meets_data.vcd"
-again "an example of sigrok" "$tests/../examples/probe_sigrok.vcd" --scl D0 --sda D1
-again "an example of Icarus Verilog" "$tests/../examples/probe_icarus.vcd"
-again "an example of GHDL" "$tests/../examples/write_ghdl.vcd"
+again "an example" "$examples/stop_meets_data.vcd"
+again "an example of sigrok" "$examples/probe_sigrok.vcd" --scl D0 --sda D1
+again "an example of Icarus Verilog" "$examples/probe_icarus.vcd"
+again "an example of GHDL" "$examples/write_ghdl.vcd"
 again "a path of 255 bytes that ends in a read" bytes_255
 again "the first bus" two --scope top.i2c0
 again "the second bus" two --scope top.i2c1
@@ -1186,17 +1111,12 @@ expect "a family of the longest pages" 0 "$(
     printf '50w 00 01\n50w 00 01 02\n50w 00 03 04\n50w 01\n'
 } | seen_in 1000 >full
 "$twire" learn full --widen >full_brief
-if [[ $? == 1 && $(sed -n '2,6p' full_brief) == "# seen: 260 transactions, 256 messages
+[[ $? == 1 && $(sed -n '2,6p' full_brief) == "# seen: 260 transactions, 256 messages
 # in no message: 3, first at 257000: a plan has at most 256 messages
 
 # 1 times, first at 1000: S 50 Wr A 00 A P
-# never seen: 50 Wr NA, 0x00 NA" && $("$twire" expand full_brief | grep -c '^message ') == 256 ]]; then
-    passed=$((passed + 1))
-else
-    failed=$((failed + 1))
-    echo "FAILED: more messages than a plan has, with --widen"
-    head -n 8 full_brief
-fi
+# never seen: 50 Wr NA, 0x00 NA" && $("$twire" expand full_brief | grep -c '^message ') == 256 ]]
+held "more messages than a plan has, with --widen" full_brief
 
 # Generated dumps: transactions of one to three frames, to few addresses, of few data bytes, refused at times.
 for seed in 1 2 3 4 5 6 7 8; do
@@ -1365,18 +1285,11 @@ fi
 
 # quick NAME STATUS LINE COMMAND ARG..: the last line of the report or of the refusal.
 quick() {
-    local name=$1 status=$2 line=$3
-    shift 3
     local found found_status
-    found=$( ($bounds; timeout 60 "$twire" "$@") 2>&1)
+    found=$( ($bounds; timeout 60 "$twire" "${@:4}") 2>&1)
     found_status=$?
     found=${found##*$'\n'}
-    if [[ $found_status == "$status" && $found == "$line" ]]; then
-        passed=$((passed + 1))
-    else
-        failed=$((failed + 1))
-        printf 'FAILED: %s: wanted %s, found %s\n%s\n' "$name" "$status $line" "$found_status" "${found:0:300}"
-    fi
+    same "$1" "$2 $3" "$found_status ${found:0:300}"
 }
 tail='$var wire 1 ! scl $end $var wire 1 " sda $end $enddefinitions $end #0 1! 1" #5 0" #9 1"'
 { yes '$scope module deep $end' | head -n $size; echo "$tail"; } >deep
@@ -1405,5 +1318,4 @@ quick "codes that no signal has, and the signals" 0 "2 signals, 0 buses" signals
     awk -v size=$size 'BEGIN { for (n = 0; n < size; n++) print "1!0!x!" }' | sed 's/!/!\n/g'; } >one_time
 quick "many changes at one time" 0 "2 signals, 0 buses" signals one_time
 
-echo "$passed passed, $failed failed"
-[[ $failed == 0 ]]
+finish

@@ -2,59 +2,40 @@
 # The public surface of the libraries, as tools/surface lists it: that each file has the part of it of which
 # tests/expected/surface.txt has the checksum, so that a clause which is weakened or lost shows. What differs from a commit is
 # shown by 'tools/surface --diff COMMIT'. Where a change of the surface is wanted:
-#
 #     tools/surface --sums >tests/expected/surface.txt
 #
-# And that each mutant which the gate does not try (tests/mutants) still changes something. The last line is 'N passed, M failed',
-# and the exit status is 1 where a case fails. It needs no program.
-set -u
+# And that each mutant which the gate does not try (tests/mutants) still changes something. It needs no program.
+twire=none
+source "$(dirname -- "$(readlink -f -- "${BASH_SOURCE[0]}")")/suite.bash" || exit 1
 
-tests=$(dirname -- "$(readlink -f -- "${BASH_SOURCE[0]}")")
-here=$(dirname -- "$tests")
-work=$(mktemp -d)
-trap 'rm -rf -- "$work"' EXIT
-cd -- "$work" || exit 1
 
-passed=0
-failed=0
-
-# want NAME: that the command before this one succeeded.
-want() {
-    if (($? == 0)); then
-        passed=$((passed + 1))
-    else
-        failed=$((failed + 1))
-        echo "FAILED: $1"
-    fi
-}
-
-"$here/tools/surface" >found
-want "tools/surface"
-"$here/tools/surface" --sums >sums
-want "tools/surface --sums"
+"$top/tools/surface" >found
+held "tools/surface"
+"$top/tools/surface" --sums >sums
+held "tools/surface --sums"
 diff -u --label tests/expected/surface.txt --label found "$tests/expected/surface.txt" sums
-want "another surface than tests/expected/surface.txt: tools/surface --diff COMMIT shows what differs"
+held "another surface than tests/expected/surface.txt: tools/surface --diff COMMIT shows what differs"
 [[ $(wc -l <sums) == $(grep -c '^== ' found) ]]
-want "a checksum for each file that is listed"
+held "a checksum for each file that is listed"
 
 # A copy of what is listed, in which lines are changed.
 mkdir -p copy
-(cd -- "$here" && tar -cf - tools/surface crates.txt crates/*/src crates/*/specs) | tar -xf - -C copy
-want "a copy of the sources"
+(cd -- "$top" && tar -cf - tools/surface crates.txt crates/*/src crates/*/specs) | tar -xf - -C copy
+held "a copy of the sources"
 
 calls() {
     (cd -- copy && for crate in crates/*/specs; do grep -rh '^ *pub fn ' "${crate%specs}src"; done) | sed 's/^ *//; s/[(<].*//' | sort
 }
 comm -23 <(calls) <(grep '^ *pub fn ' found | sed 's/^ *//; s/[(<].*//' | sort) >missing
 [[ ! -s missing ]]
-want "calls that are not listed: $(head -5 missing)"
+held "calls that are not listed" missing
 
 # shows NAME FILE SCRIPT: a file that sed has changed shows in the listing.
 shows() {
     cp -- "copy/$2" kept
     sed -i "$3" "copy/$2"
     ! cmp -s kept "copy/$2" && ! copy/tools/surface | cmp -s found -
-    want "$1 does not show"
+    held "$1 does not show"
     cp -- kept "copy/$2"
 }
 
@@ -71,15 +52,15 @@ shows "a definition that only others name" crates/message_tree/specs/Sizes.antt 
 shows "a field of a definition" crates/report/specs/Checks.antt '/pub judged/d'
 
 copy/tools/surface | cmp -s found -
-want "the copy is listed as the sources are"
+held "the copy is listed as the sources are"
 sed -i '1i // a comment, and lines below one another\n\n' copy/crates/report/src/lines.rt copy/crates/report/src/checks.rt
 copy/tools/surface | cmp -s found -
-want "a comment does not show"
+held "a comment does not show"
 
 # A mutant is a file, and pairs of an old line and a new one, of which the old one stands in the file once.
 for edit in "$tests"/mutants/*/*.edit; do
     crate=${edit%/*}
-    crate=$here/crates/${crate##*/}
+    crate=$top/crates/${crate##*/}
     changes=0
     while IFS= read -r line; do
         case $line in
@@ -90,8 +71,7 @@ for edit in "$tests"/mutants/*/*.edit; do
         esac
     done <"$edit"
     ((changes > 0 && changes % 2 == 0))
-    want "what a mutant changes: $edit"
+    held "what a mutant changes: $edit"
 done
 
-echo "$passed passed, $failed failed"
-((failed == 0))
+finish

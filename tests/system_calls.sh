@@ -1,45 +1,26 @@
 #!/usr/bin/env bash
 # Which calls a command makes of the system in its plain form, where the contracts of its run speak of calls: each file is read
-# to the call that gives no bytes, in the order of the words, and no further; one after what is refused is not read; a report
-# is written once all is read, and after a call that fails there is no other.
-# The last line is 'N passed, M failed', and the exit status is 1 where a case fails. Without strace there are no cases.
-#
-# It runs the launcher at the top of the repository, or the program that TWIRE names.
-set -u
-
-tests=$(dirname -- "$(readlink -f -- "${BASH_SOURCE[0]}")")
-twire=$(readlink -f -- "${TWIRE:-$tests/../twire}")
-work=$(mktemp -d)
-trap 'rm -rf -- "$work"' EXIT
-cd -- "$work" || exit 1
-
-passed=0
-failed=0
+# to the call that gives no bytes, in the order of the words, and no further; one after what is refused is not read; a report is
+# written once all is read, and after a call that fails there is no other. Without strace there are no cases.
+source "$(dirname -- "$(readlink -f -- "${BASH_SOURCE[0]}")")/suite.bash" || exit 1
 
 strace -o log -e trace=read true 2>/dev/null || {
     echo "(this machine has no strace, or it may trace nothing here: no system call was looked at)"
-    echo "0 passed, 0 failed"
-    exit
+    finish
 }
 
 # calls NAME STATUS CALLS COMMAND ARG..: one call of twire. CALLS has a line for each call on a file of this folder: 'FILE N'
 # where N bytes were read, 'out N' and 'err N' where they were written, and 'FILE -' or 'out -' where the call failed. The calls
 # of other threads than the first one are not looked at: all files are read, and reports written, by that one.
 calls() {
-    local name=$1 status=$2 wanted=$3 found found_status
-    shift 3
-    strace -y -o log -e trace=read,write "$twire" "$@" >"${out_file:-out}" 2>err </dev/null
-    found_status=$?
+    local found
+    strace -y -o log -e trace=read,write "$twire" "${@:4}" >"${out_file:-out}" 2>err </dev/null
+    status=$?
     found=$(sed -nE -e "s|^read\([0-9]+<$work/([a-z]+)>.*\) += -[0-9].*|\1 -|p" \
         -e "s|^read\([0-9]+<$work/([a-z]+)>.*\) += ([0-9]+)\$|\1 \2|p" \
         -e 's/^write\(1<.*\) += -[0-9].*/out -/p' -e 's/^write\(2<.*\) += -[0-9].*/err -/p' \
         -e 's/^write\(1<.*\) += ([0-9]+)$/out \1/p' -e 's/^write\(2<.*\) += ([0-9]+)$/err \1/p' log)
-    if [[ $found_status == "$status" && $found == "$wanted" ]]; then
-        passed=$((passed + 1))
-    else
-        failed=$((failed + 1))
-        printf 'FAILED: %s: wanted status %s\n%s\nfound status %s\n%s\n' "$name" "$status" "$wanted" "$found_status" "$found"
-    fi
+    same "$1" "status $2"$'\n'"$3" "status $status"$'\n'"$found"
 }
 
 # whole FILE..: the calls that read these to their ends, 65,536 bytes at most in each.
@@ -55,8 +36,6 @@ whole() {
     done
 }
 
-"$twire" --version >/dev/null 2>&1
-
 cat >plan <<'PLAN'
 plan 1
 message m write 1001000 stop else stop ;
@@ -70,7 +49,7 @@ printf 'brief 1\nmessage m write 0x48 ;\ncontroller a m ;\n' >brief
 printf 'brief 1\nmessage n write 0x49 ;\ncontroller b n ;\n' >further
 printf 'cert 1\npairs 1\nP6\n' >cert
 : >empty
-"$tests/../tools/dump" 100100000 >vcd
+"$top/tools/dump" 100100000 >vcd
 { cat vcd && printf '$comment %70000s $end' ''; } >long
 
 # Reports are as long as they are in COMMAND_LINE: 'safe: 1 pairs' has 13 bytes and its end of line.
@@ -127,5 +106,4 @@ calls "check, where nothing can be written" 2 "$(whole plan)"$'\nout -\nerr 14' 
 calls "verify, where nothing can be written" 2 "$(whole plan cert)"$'\nout -\nerr 14' verify plan cert
 calls "capture --live, where nothing can be written" 2 "$(whole plan vcd)"$'\nout -\nerr 14' capture --live plan vcd
 
-echo "$passed passed, $failed failed"
-[[ $failed == 0 ]]
+finish

@@ -1,38 +1,14 @@
 #!/usr/bin/env bash
-# The checks of a team, as docs/GUIDE.md has them: its script and its workflow, in a git repository of its own, with the mistakes
-# that people make. Each ends with a line that says what to do, and once that is done the checks pass. The last line is
-# 'N passed, M failed', and the exit status is 1 where a case fails.
-#
-# It runs the launchers of twire and twire-verify, or the programs that TWIRE and TWIRE_VERIFY name.
-set -u
+# The checks of a team, as docs/GUIDE.md has them: its script and its workflow, in a git repository of its own, with the
+# mistakes that people make. Each ends with a line that says what to do, and once that is done the checks pass.
+source "$(dirname -- "$(readlink -f -- "${BASH_SOURCE[0]}")")/suite.bash" || exit 1
 
-tests=$(dirname -- "$(readlink -f -- "${BASH_SOURCE[0]}")")
-twire=$(readlink -f -- "${TWIRE:-$tests/../twire}")
-verifier=$(readlink -f -- "${TWIRE_VERIFY:-$tests/../tools/twire-verify}")
-guide=$tests/../docs/GUIDE.md
-work=$(mktemp -d)
-trap 'rm -rf -- "$work"' EXIT
-cd -- "$work" || exit 1
+guide=$top/docs/GUIDE.md
 type -P git >/dev/null || {
     echo "left out: the checks of a team (there is no git)"
-    echo "0 passed, 0 failed"
-    exit 0
+    finish
 }
-"$twire" --version >/dev/null 2>&1
 "$verifier" --version >/dev/null 2>&1
-
-passed=0
-failed=0
-
-# want NAME WANTED FOUND
-want() {
-    if [[ $2 == "$3" ]]; then
-        passed=$((passed + 1))
-        return
-    fi
-    failed=$((failed + 1))
-    printf 'FAILED: %s: wanted\n%s\nfound\n%s\n' "$1" "$2" "$3"
-}
 
 # block LANGUAGE: the block of the guide's section in this language.
 block() {
@@ -77,7 +53,7 @@ checks() {
     text=$(sh checks.sh 2>&1)
     status=$?
     ((status == 0)) && text=$(head -n 1 <<<"$text")
-    want "$1" "$2: $3" "$status: $(tail -n 1 <<<"$text")"
+    same "$1" "$2: $3" "$status: $(tail -n 1 <<<"$text")"
 }
 
 # advice: what the last line of the checks says behind its colon, which is a command.
@@ -103,15 +79,15 @@ again() {
     git checkout -q -f main && git reset -q --hard && git clean -q -f -d
 }
 
-want "the script is there" "#!/bin/sh" "$(head -n 1 checks.sh)"
-want "what the shell finds wrong" "" "$(sh -n checks.sh 2>&1)"
+same "the script is there" "#!/bin/sh" "$(head -n 1 checks.sh)"
+same "what the shell finds wrong" "" "$(sh -n checks.sh 2>&1)"
 checks "no plan yet" 1 "checks: there is no bus.plan: $expand"
 bash -c "$(advice)"
 checks "no certificate yet" 1 "checks: there is no bus.cert: $certify"
 advised "no certificate yet"
 git add .
 git commit -q -m "The bus"
-want "all that the script says" "accepted safe
+same "all that the script says" "accepted safe
 safe: 1 pairs
     where targets acknowledge, decided in the header: 1, later: 0,
     at a read's end: 0; may end together: 0" "$(cd / && sh "$work/bus/checks.sh" 2>&1)"
@@ -121,7 +97,7 @@ safe: 1 pairs
 sed -i 's/any read eeprom 16/any read eeprom 32/' pch.brief
 checks "a stale plan" 1 "checks: bus.plan is not what the briefs mean: $expand"
 advised "a stale plan"
-want "which file that changed" " M bus.plan
+same "which file that changed" " M bus.plan
  M pch.brief" "$(git status --short)"
 again
 
@@ -141,20 +117,20 @@ again
 printf 'message get write sensor settings read sensor 1 ;\ncontroller host get ;\n' >>bmc.brief
 rewritten
 checks "an unsafe plan" 1 "checks: the plan is not safe, and this says what mends it: twire check devices.brief --with bmc.brief --with pch.brief --explain"
-want "what its line says" "    see bmc.brief:2 and bmc.brief:4
+same "what its line says" "    see bmc.brief:2 and bmc.brief:4
 unsafe: 1 of 3 pairs" "$(bash -c "$(advice)" | grep -E '^    see|^unsafe')"
 again
 
 sed -i 's/^controller pch load ;/controller pch ;/' pch.brief
 rewritten
 checks "a message in no controller" 1 "checks: not all was looked at: let a controller list each message"
-want "the line above it" "    not checked: 1 message that no controller lists: load (pch.brief:2)" \
+same "the line above it" "    not checked: 1 message that no controller lists: load (pch.brief:2)" \
     "$(sh checks.sh 2>&1 | grep 'that no controller')"
 again
 
 printf 'controller spare load ;\nnever bmc pch ;\n' >>pch.brief
 rewritten
-want "pairs that never keeps apart" "    not checked: 1 of 3 pairs, which 'never' keeps apart" "$(sh checks.sh 2>&1 | tail -n 1)"
+same "pairs that never keeps apart" "    not checked: 1 of 3 pairs, which 'never' keeps apart" "$(sh checks.sh 2>&1 | tail -n 1)"
 again
 
 printf 'brief 1\n' >fan.brief
@@ -164,7 +140,7 @@ again
 refused="checks: the briefs are refused: mend the place shown above, or their order in checks.sh (what a file uses stands before it)"
 sed -i 's/^briefs=.*/briefs="bmc.brief devices.brief pch.brief"/' checks.sh
 checks "the wrong order" 1 "$refused"
-want "the refusal above it" "refused P8 line 2" "$(sh checks.sh 2>&1 | grep -o '^refused P8 line 2')"
+same "the refusal above it" "refused P8 line 2" "$(sh checks.sh 2>&1 | grep -o '^refused P8 line 2')"
 again
 
 sed -i 's/^briefs=.*/briefs="devices.brief bcm.brief pch.brief"/' checks.sh
@@ -202,7 +178,7 @@ returns bus.plan "$expand"
 returns bus.cert "$certify"
 checks "a checkout of Windows, after what the lines say" 0 "accepted safe"
 git add . 2>/dev/null
-want "what has changed there" "M  .gitattributes" "$(git status --short)"
+same "what has changed there" "M  .gitattributes" "$(git status --short)"
 
 # The same in the repository itself.
 cd "$work/bus" || exit 1
@@ -221,17 +197,16 @@ cd "$work/bus" || exit 1
 # ---- the workflow
 
 block yaml >workflow.yml
-want "the steps of the workflow" 3 "$(grep -c '^      - run: ' workflow.yml)"
+same "the steps of the workflow" 3 "$(grep -c '^      - run: ' workflow.yml)"
 git clone -q . "$work/server"
 sed -n 's/^      - run: //p' workflow.yml >"$work/steps"
 cd "$work/server" || exit 1
 while IFS= read -r step; do
-    want "a step of the workflow: $step" 0 "$(PATH=/usr/local/bin:/usr/bin:/bin bash -e -c "$step" >"$work/said" 2>&1 </dev/null; echo $?)"
+    same "a step of the workflow: $step" 0 "$(PATH=/usr/local/bin:/usr/bin:/bin bash -e -c "$step" >"$work/said" 2>&1 </dev/null; echo $?)"
 done <"$work/steps"
-want "what its last step says" "accepted safe" "$(head -n 1 "$work/said")"
+same "what its last step says" "accepted safe" "$(head -n 1 "$work/said")"
 # (it may be a link to the launcher, which stays as it is)
 rm twire/bin/twire-verify && echo "another program" >twire/bin/twire-verify
-want "a changed program, by its sums" 1 "$(bash -e -c "$(sed -n 2p "$work/steps")" >/dev/null 2>&1; echo $?)"
+same "a changed program, by its sums" 1 "$(bash -e -c "$(sed -n 2p "$work/steps")" >/dev/null 2>&1; echo $?)"
 
-echo "$passed passed, $failed failed"
-((failed == 0))
+finish

@@ -603,7 +603,7 @@ with subprocess.Popen([TWIRE, 'lsp', '--with', '-'], stdin=subprocess.DEVNULL, s
     want('standard input as a file', [2, b'', b"error: standard input is the editor's, and none of the files"],
          [process.returncode, out, err.splitlines()[0]] if err else [process.returncode, out, err])
 
-with open(sys.argv[2] + '/expected/lsp_help.txt', encoding='ascii') as file:
+with open(sys.argv[2] + '/../docs/help/lsp.txt', encoding='ascii') as file:
     want('the help', file.read(), subprocess.run([TWIRE, 'lsp', '--help'], capture_output=True, text=True, check=True).stdout)
 
 print(f'{passed} passed, {failed} failed')
