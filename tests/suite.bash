@@ -209,6 +209,6 @@ work=$(mktemp -d) || exit 1
 trap at_exit EXIT
 if [[ ! -v twire ]]; then
     twire=$(readlink -f -- "${TWIRE:-$top/twire}")
-    "$twire" --version >/dev/null 2>&1
+    "$twire" check "$examples/two_writers.plan" >/dev/null 2>&1
 fi
 cd -- "$work" || exit 1
