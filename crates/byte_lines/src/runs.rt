@@ -20,7 +20,7 @@ use vcd_read::{Probe, Wrong};
 ///
 /// `Read` where the reader failed or gave no end, `Vcd` with the first refusal of the dump, `Write` where the writer failed
 /// or took no bytes, and `NoMemory` where an allocation fails. Where a refused dump meets a writer that fails, it is `Vcd`.
-/// What was written by then stays.
+/// What was written by then stays. In blocks, the lines that are kept are lost where it stops.
 pub fn write_decoded<J: Input, O: Output>(
     alloc: Global,
     vcd: &mut J,

@@ -19,15 +19,12 @@ abbrev pub seen_of : Remark → Option Seen
 seen_of (Recording recorded rises hints) = seen_in recorded
 seen_of _ = None
 
--- the status is that of these counts, where so many were to be Stopped, and where in some of them a controller may have
--- departed from the rules of the plan
-pub record IsJudged (at_least : Option ℕ) (told : Told) : Type 0 where
-  pub departed : ℕ
-  pub judged : JudgesSeen told.status at_least told.seen departed
+-- the status is that of these counts, where so many were to be Stopped
+abbrev pub IsJudged : Option ℕ → Told → Type 0
+IsJudged at_least told = JudgesSeen told.status at_least told.seen told.departed
 
--- the same of a run that has ended, which says what it told of
-pub record EndsJudged (at_least : Option ℕ) (ended : Ended) : Type 0 where
+-- the same of a run that has ended, which says what it told of, where in so many a controller departed from the rules
+pub record EndsJudged (at_least : Option ℕ) (departed : ℕ) (ended : Ended) : Type 0 where
   pub seen : Seen
   pub told : seen_of ended.remark ≡ Some seen
-  pub departed : ℕ
   pub judged : JudgesSeen ended.status at_least seen departed

@@ -1,6 +1,6 @@
 // Runs over the dump of a recorded bus: each hands what the dump shows to the form that is wanted.
 
-ghost use Rattle.std.specs.Prelude.{◌≡◌, IfOk, string_bytes};
+ghost use Rattle.std.specs.Prelude.{◌≡◌, ℕ, IfOk, string_bytes};
 ghost use Rattle.byte_lines.specs.DecodedRuns.{TellsDecoded};
 ghost use Rattle.byte_lines.specs.declared.writing.ByteCounts.{ByteCounts};
 ghost use Rattle.dump_runs.specs.Statuses.{EndsJudged, IsJudged};
@@ -33,7 +33,7 @@ use plan_core::Plan;
 use plan_words::PlanWords;
 use report::{CaptureCounts, CaptureReport, live_capture, write_capture};
 use run_ends::{
-    Canvas, Ended, Halt, Recorded, Remark, Sources, Style, halted, open_dump, write_wave,
+    Canvas, Ended, Halt, Recorded, Remark, Sources, Style, halted, halted_by, open_dump, write_wave,
 };
 use run_parts::{Input, Output, RunError, Status, Watched, write_lines};
 use signals::{Dump, Listed, OpenDump, Recorder, SignalDump, Tapped, reads_ahead};
@@ -57,11 +57,13 @@ pub struct Capture<'a> {
     pub drives: Drives<'a>,
 }
 
-// What a capture has come to: its status, what it tells, and how often SCL rises.
+// What a capture has come to: its status, what it tells, in how many transactions a controller departed from the rules of the
+// plan, and how often SCL rises.
 #[derive(Clone, Copy)]
 struct Told {
     status: Status,
     seen: Seen,
+    departed: u64,
     rises: Rises,
 }
 
@@ -238,6 +240,7 @@ fn capture_picked<R: AllocGlobal + Threads + Sync, J: Input, O: Output>(
             Ok(counts) => Ok(Told {
                 status: counts.status,
                 seen: seen_live(counts),
+                departed: 0,
                 rises: counts.rises,
             }),
             Err(error) => Err(error),
@@ -247,6 +250,7 @@ fn capture_picked<R: AllocGlobal + Threads + Sync, J: Input, O: Output>(
             Ok(captured) => Ok(Told {
                 status: captured.status,
                 seen: seen_in(&captured),
+                departed: 0,
                 rises: captured.rises,
             }),
             Err(error) => Err(error),
@@ -263,7 +267,7 @@ fn capture_in_form<R: AllocGlobal + Threads + Sync, I: Input, J: Input, O: Outpu
     capture: Capture<'_>,
     style: Style,
 ) -> Result<Ended, Halt>
-    ensures status { IfOk result (λ it. EndsJudged capture.entry.bus.view.at_least it) }
+    ensures status { IfOk result (λ it. (departed : ℕ) × EndsJudged capture.entry.bus.view.at_least departed it) }
 {
     let GivenPlan { plan, provenance } = plans.find(rt.alloc())?;
     let words = plans.words(&plan, &provenance);
@@ -320,6 +324,7 @@ fn capture_dump<R: AllocGlobal + Threads + Sync, J: Input, O: Output>(
     Ok(Told {
         status: status_of_seen(capture.bus.view.at_least, seen, departed),
         seen,
+        departed,
         rises,
     })
 }
@@ -429,7 +434,7 @@ fn decode_exactly<J: Input, O: Output>(
                 counts.rises,
             ),
         }),
-        Err(error) => Err(Halt::Dump(error, wrong)),
+        Err(error) => Err(halted_by(error, wrong)),
     }
 }
 
@@ -451,7 +456,7 @@ fn decode_in_form<R: Files + Print + Eprint + Clock + AllocGlobal, J: Input, O: 
     style: Style,
     canvas: Option<Canvas<'_, '_>>,
 ) -> Result<Ended, Halt>
-    ensures status { IfOk result (λ it. EndsJudged bus.entry.view.at_least it) }
+    ensures status { IfOk result (λ it. EndsJudged bus.entry.view.at_least 0 it) }
 {
     let alloc = rt.alloc();
     let mut dump = open_dump(alloc, vcd, bus)?;
@@ -472,7 +477,7 @@ fn decode_in_form<R: Files + Print + Eprint + Clock + AllocGlobal, J: Input, O: 
         Ok(told) => told,
         Err(error) => return Err(halted(dump, error)),
     };
-    let status = status_of_seen(bus.view.at_least, selection.seen, selection.departed);
+    let status = status_of_seen(bus.view.at_least, selection.seen, 0);
     draw_tapped(rt, tap, least, bus.view.window, status, canvas)?;
     let recorded = Recorded::Bytes(bus.view.window, selection.seen);
     Ok(Ended {
@@ -779,7 +784,7 @@ pub fn list_signals<J: Input, O: Output>(
     let mut wrong = None;
     let listed = match dump.find(alloc, limits, &mut wrong) {
         Ok(listed) => listed,
-        Err(error) => return Err(Halt::Dump(error, wrong)),
+        Err(error) => return Err(halted_by(error, wrong)),
     };
     write_listed(alloc, &listed, out, style)?;
     Ok(Ended {

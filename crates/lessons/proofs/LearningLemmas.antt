@@ -58,7 +58,7 @@ learns least scl sda start told dump learned decodes teaches =
       samples = decodes.samples;
       read = decodes.read;
       seen = told;
-      same_brief = sees.same_brief;
+      sees = sees;
       teaches = teaches;
       explains = λ all good. explains told learned teaches good ts (sees.kept all);
     }

@@ -1,6 +1,6 @@
 -- What was kept of the transactions that were seen stays kept.
 use Rattle.std.proofs.Common.{◌≡◌, ◌≢◌, ◌⊎◌, inl, inr, ℕ, zero, suc, ◌<◌, ◌+◌, List, [], ◌∷◌, ◌++◌, All, map, length, get_or, take, slice_set, Contains, refl, sym, ◌∙◌, ap, subst, arith, Result, Ok, Err, OnOk}
-use Rattle.std.proofs.lemmas.List.Elements.{All-append, All-cons, All-nil, All-weaker, Contains-append_left}
+use Rattle.std.proofs.lemmas.List.Elements.{All-append, All-cons, All-nil, All-weaker, Contains-append_left, Contains-append_right, Contains-append_cases, Contains-push}
 use Rattle.std.proofs.lemmas.List.{get_or-map, length-map, map-append, take_more}
 use Rattle.capture_check.specs.Transactions.{Recorded}
 use Rattle.capture_check.specs.Views.{recorded}
@@ -9,9 +9,9 @@ use Rattle.capture_check.specs.declared.listening.Transaction.{Transaction}
 use Rattle.lessons.specs.declared.paths.Step.{Step}
 use Rattle.lessons.specs.declared.seen.Sight.{Sight}
 use Rattle.lessons.specs.declared.seen.Sights.{Sights}
-use Rattle.lessons.specs.Lessons.{odd_in, path_seen, paths_in}
+use Rattle.lessons.specs.Lessons.{odd_in, path_seen, paths_in, seen_in}
 use Rattle.lessons.specs.Plans.{HasMarks}
-use Rattle.lessons.specs.Seen.{IsAmong, IsKept, IsStopped, KeepsAll, Sees}
+use Rattle.lessons.specs.Seen.{IsAmong, IsKept, IsOfOne, IsStopped, KeepsAll, Sees}
 
 -- all paths and all that is odd are still there
 pub stays_by : (a b : Sights) → ((path : List Step) → Contains (paths_in a) path → Contains (paths_in b) path) → (odd_in a ≢ [] → odd_in b ≢ []) →
@@ -19,13 +19,25 @@ pub stays_by : (a b : Sights) → ((path : List Step) → Contains (paths_in a) 
 stays_by a b f g t (inl (path, at, h)) = inl (path, f path at, h)
 stays_by a b f g t (inr odd) = inr (g odd)
 
+-- what is of some is of more
+of_left : (ts more : List Recorded) (path : List Step) → IsOfOne ts path → IsOfOne (ts ++ more) path
+of_left ts more path o = (o.0, Contains-append_left ts more o.0 o.1, o.2, o.3)
+
+of_right : (ts more : List Recorded) (path : List Step) → IsOfOne more path → IsOfOne (ts ++ more) path
+of_right ts more path o = (o.0, Contains-append_right ts more o.0 o.1, o.2, o.3)
+
+-- each path was there, or is of one of these
+abbrev pub Shown : Sights → List Recorded → Sights → Type 0
+Shown a ts b = (path : List Step) → Contains (paths_in b) path → Contains (paths_in a) path ⊎ IsOfOne ts path
+
 -- one more transaction was seen
-pub sees_one : (a b : Sights) (t : Recorded) → b.before ≡ a.before → b.view ≡ a.view →
+sees_one : (a b : Sights) (t : Recorded) → b.before ≡ a.before → b.view ≡ a.view → Shown a (t ∷ []) b →
     ((path : List Step) → Contains (paths_in a) path → Contains (paths_in b) path) → (odd_in a ≢ [] → odd_in b ≢ []) →
     (KeepsAll a → IsStopped t.until → IsKept b t) → Sees a (t ∷ []) b
-sees_one a b t brief view f g kept = record {
+sees_one a b t brief view shown f g kept = record {
   same_brief = brief;
   same_view = view;
+  shown = shown;
   stays = stays_by a b f g;
   kept = λ all. All-cons (λ t. IsStopped t.until → IsKept b t) t [] (kept all) (All-nil (λ t. IsStopped t.until → IsKept b t));
 }
@@ -34,21 +46,19 @@ sees_one a b t brief view f g kept = record {
 pub same_paths : (a b : Sights) → paths_in b ≡ paths_in a → (path : List Step) → Contains (paths_in a) path → Contains (paths_in b) path
 same_paths a b e path at = subst (λ (ps : List (List Step)). Contains ps path) (sym e) at
 
--- nothing changed, as the transaction is not told
-pub sees_nothing : (a b : Sights) (t : Recorded) → b.before ≡ a.before → b.view ≡ a.view → paths_in b ≡ paths_in a → odd_in b ≡ odd_in a →
-    (KeepsAll a → IsStopped t.until → ⊥) → Sees a (t ∷ []) b
-sees_nothing a b t brief view paths odd none =
-    sees_one a b t brief view (same_paths a b paths) (λ some e. some (sym odd ∙ e)) (λ all stopped. absurd (none all stopped))
+pub shown_same : (a b : Sights) (ts : List Recorded) → paths_in b ≡ paths_in a → Shown a ts b
+shown_same a b ts e path at = inl (subst (λ (ps : List (List Step)). Contains ps path) e at)
 
 -- it counts as none
 pub sees_odd : (a b : Sights) (t : Recorded) → b.before ≡ a.before → b.view ≡ a.view → paths_in b ≡ paths_in a → odd_in b ≢ [] → Sees a (t ∷ []) b
-sees_odd a b t brief view paths odd = sees_one a b t brief view (same_paths a b paths) (λ some. odd) (λ all stopped. inr odd)
+sees_odd a b t brief view paths odd =
+    sees_one a b t brief view (shown_same a b (t ∷ []) paths) (same_paths a b paths) (λ some. odd) (λ all stopped. inr odd)
 
 -- it has one of the paths
-pub sees_path : (a b : Sights) (t : Recorded) → b.before ≡ a.before → b.view ≡ a.view →
-    ((path : List Step) → Contains (paths_in a) path → Contains (paths_in b) path) → odd_in b ≡ odd_in a → IsAmong (paths_in b) t.marks → Sees a (t ∷ []) b
+pub sees_path : (a b : Sights) (t : Recorded) → b.before ≡ a.before → b.view ≡ a.view → paths_in b ≡ paths_in a → odd_in b ≡ odd_in a →
+    IsAmong (paths_in b) t.marks → Sees a (t ∷ []) b
 sees_path a b t brief view paths odd among =
-    sees_one a b t brief view paths (λ some e. some (sym odd ∙ e)) (λ all stopped. inl among)
+    sees_one a b t brief view (shown_same a b (t ∷ []) paths) (same_paths a b paths) (λ some e. some (sym odd ∙ e)) (λ all stopped. inl among)
 
 -- ---- one after another
 
@@ -56,6 +66,7 @@ pub sees_none : (a : Sights) → Sees a [] a
 sees_none a = record {
   same_brief = refl;
   same_view = refl;
+  shown = λ path at. inl at;
   stays = λ t kept. kept;
   kept = λ all. All-nil (λ t. IsStopped t.until → IsKept a t);
 }
@@ -67,11 +78,20 @@ pub sees_more : (a b c : Sights) (ts more : List Recorded) → Sees a ts b → S
 sees_more a b c ts more first then = record {
   same_brief = then.same_brief ∙ first.same_brief;
   same_view = then.same_view ∙ first.same_view;
+  shown = λ path at. shown_by path (then.shown path at);
   stays = λ t kept. then.stays t (first.stays t kept);
   kept = λ all. All-append (λ t. IsStopped t.until → IsKept c t) ts more
       (All-weaker (λ t. IsStopped t.until → IsKept b t) (λ t. IsStopped t.until → IsKept c t) (λ t kept stopped. then.stays t (kept stopped)) ts (first.kept all))
       (then.kept (keeps_all a b first.same_brief first.same_view all));
 }
+  where
+    shown_before : (path : List Step) → Contains (paths_in a) path ⊎ IsOfOne ts path → Contains (paths_in a) path ⊎ IsOfOne (ts ++ more) path
+    shown_before path (inl at) = inl at
+    shown_before path (inr o) = inr (of_left ts more path o)
+
+    shown_by : (path : List Step) → Contains (paths_in b) path ⊎ IsOfOne more path → Contains (paths_in a) path ⊎ IsOfOne (ts ++ more) path
+    shown_by path (inl at) = shown_before path (first.shown path at)
+    shown_by path (inr o) = inr (of_right ts more path o)
 
 -- ---- paths
 
@@ -91,15 +111,39 @@ paths_more sights more new e path at =
     let both : map path_seen new ≡ map path_seen sights ++ map path_seen more = ap (map path_seen) e ∙ map-append path_seen sights more in
     subst (λ (ps : List (List Step)). Contains ps path) (sym both) (Contains-append_left (map path_seen sights) (map path_seen more) path at)
 
--- nothing more was seen, and all paths are still there
-pub sees_added : (a b : Sights) → b.before ≡ a.before → b.view ≡ a.view →
-    ((path : List Step) → Contains (paths_in a) path → Contains (paths_in b) path) → odd_in b ≡ odd_in a → Sees a [] b
-sees_added a b brief view f odd = record {
+-- nothing more was seen
+pub sees_added : (a b : Sights) → b.before ≡ a.before → b.view ≡ a.view → paths_in b ≡ paths_in a → odd_in b ≡ odd_in a → Sees a [] b
+sees_added a b brief view paths odd = record {
   same_brief = brief;
   same_view = view;
-  stays = stays_by a b f (λ some e. some (sym odd ∙ e));
+  shown = shown_same a b [] paths;
+  stays = stays_by a b (same_paths a b paths) (λ some e. some (sym odd ∙ e));
   kept = λ all. All-nil (λ t. IsStopped t.until → IsKept b t);
 }
+
+-- a path of this transaction was added
+pub sees_new : (a b : Sights) (t : Recorded) (sight : Sight) → b.before ≡ a.before → b.view ≡ a.view → seen_in b ≡ seen_in a ++ sight ∷ [] → odd_in b ≡ odd_in a →
+    IsStopped t.until → HasMarks (path_seen sight) t.marks → Sees a (t ∷ []) b
+sees_new a b t sight brief view added odd stopped has =
+    sees_one a b t brief view (λ path at. shown path (Contains-append_cases (paths_in a) (path_seen sight ∷ []) path (here path at)))
+    (paths_more (seen_in a) (sight ∷ []) (seen_in b) added) (λ some e. some (sym odd ∙ e)) (λ all stopped. inl among)
+  where
+    both : paths_in b ≡ paths_in a ++ path_seen sight ∷ []
+    both = ap (map path_seen) added ∙ map-append path_seen (seen_in a) (sight ∷ [])
+
+    here : (path : List Step) → Contains (paths_in b) path → Contains (paths_in a ++ path_seen sight ∷ []) path
+    here path at = subst (λ (ps : List (List Step)). Contains ps path) both at
+
+    only : (path : List Step) → Contains (path_seen sight ∷ []) path → path_seen sight ≡ path
+    only path (zero, lt, same) = same
+    only path (suc k, lt, same) = absurd (omega (arith, lt))
+
+    shown : (path : List Step) → Contains (paths_in a) path ⊎ Contains (path_seen sight ∷ []) path → Contains (paths_in a) path ⊎ IsOfOne (t ∷ []) path
+    shown path (inl at) = inl at
+    shown path (inr at) = inr (t, (zero, omega arith, refl), stopped, subst (λ (steps : List Step). HasMarks steps t.marks) (only path at) has)
+
+    among : IsAmong (paths_in b) t.marks
+    among = (path_seen sight, subst (λ (ps : List (List Step)). Contains ps (path_seen sight)) (sym both) (Contains-push (paths_in a) (path_seen sight)), has)
 
 pub then_sees : {A E : Type 0} (r : Result A E) (a b c : Sights) (t : Recorded) → Sees a [] b → OnOk r (Sees b (t ∷ []) c) → OnOk r (Sees a (t ∷ []) c)
 then_sees (Ok x) a b c t first then = sees_more a b c [] (t ∷ []) first then

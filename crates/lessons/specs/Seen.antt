@@ -39,10 +39,15 @@ HasEveryTime seen = (seen.view.window.from ≡ None) × (seen.view.window.to ≡
 abbrev pub KeepsAll : Sights → Type 0
 KeepsAll seen = (seen.before ≡ None) × HasEveryTime seen
 
--- each transaction of these that a STOP ended is kept, and what was kept before still is
+-- a transaction among these that a STOP ended has the path
+abbrev pub IsOfOne : List Recorded → List Step → Type 0
+IsOfOne ts path = (t : Recorded) × Contains ts t × IsStopped t.until × HasMarks path t.marks
+
+-- Each transaction of these that a STOP ended is kept, and what was kept before still is. Each path that is new is of one of them.
 pub record Sees (before : Sights) (ts : List Recorded) (after : Sights) : Type 0 where
   pub same_brief : after.before ≡ before.before
   pub same_view : after.view ≡ before.view
+  pub shown : (path : List Step) → Contains (paths_in after) path → Contains (paths_in before) path ⊎ IsOfOne ts path
   pub stays : (t : Recorded) → IsKept before t → IsKept after t
   pub kept : KeepsAll before → All (λ t. IsStopped t.until → IsKept after t) ts
 
@@ -54,12 +59,13 @@ seeing_sink = record { takes = Sees; stops = λ before ts error after. Unit {0} 
 abbrev pub ExplainsAll : Contents → List Recorded → Type 0
 ExplainsAll plan ts = All (λ t. IsStopped t.until → (p : ℕ) × Leaver plan t.marks p) ts
 
--- What was seen of the dump is taught. Where the status is good, the plan that the brief means explains the whole dump.
+-- What was seen of the transactions in the dump is taught. Where the status is good, the plan that the brief means explains all
+-- of them that a STOP ended.
 pub record Learns (least : ℕ) (scl sda : Finder) (start : Sights) (dump : List ℕ) (learned : Learned) : Type 0 where
   pub samples : List Sample
   pub read : samples_of scl sda dump ≡ Ok samples
   pub seen : Sights
-  pub same_brief : seen.before ≡ start.before
+  pub sees : Sees start (quiet_transactions least samples) seen
   pub teaches : Teaches seen learned
   pub explains : KeepsAll start → learned.status ≡ Good →
       ExplainsAll teaches.plan (quiet_transactions least samples)

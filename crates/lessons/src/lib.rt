@@ -8,8 +8,9 @@
 //! what was seen to the brief, and `told` has what is told of paths that are in none of its messages. What a brief means is decided
 //! by `brief_text`, and what explains a capture by `capture_check`. `had` finds which paths a message has, by contract, and only
 //! those are told as what it was made of. `checking` reads the brief that was made again, and finds by `taken` which paths its plan
-//! has, so that `brief_of` promises it; `laws` says that there is no path without a transaction. Of the rest is proved that it is
-//! safe.
+//! has, so that `brief_of` promises it; `laws` says that there is no path without a transaction. `seen` keeps, by `fitting`, a path only of a
+//! transaction that has it, and `learning` goes from a dump to the brief: of both a contract says so. Of the rest is proved that
+//! it is safe.
 #![tactic(auto)]
 
 mod alike;

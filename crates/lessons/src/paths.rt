@@ -40,7 +40,7 @@ pub(crate) enum NoPath {
     NoSending,
     /// The controllers of the brief before it leave no room.
     NoController,
-    /// It was put into a message that does not have it.
+    /// It was put into a message, or taken for a path, that it does not have.
     Lost,
 }
 

@@ -163,6 +163,7 @@ impl<'a> Sights<'a> {
         transaction: &Transaction,
         by: u32,
     ) -> Result<(), AllocError>
+        requires { IsStopped transaction.now.until }
         ensures { OnOk result (Sees self.old (recorded transaction.now ∷ []) self.new) }
     {
         let key = key_of(self.alloc, path.as_slice())?;
@@ -185,19 +186,23 @@ impl<'a> Sights<'a> {
         transaction: &Transaction,
         by: u32,
     ) -> Result<(), AllocError>
+        requires { IsStopped transaction.now.until }
         ensures { OnOk result (Sees self.old (recorded transaction.now ∷ []) self.new) }
     {
+        if !has_marks(path.as_slice(), transaction.marks.as_slice()) {
+            return self.see_odd(NoPath::Lost, transaction.from);
+        }
         let number = self.sights.len();
         if self.numbers.insert(key, number).is_err() {
             return Err(AllocError);
         }
         self.sights.push(Sight {
             path,
-            times: 0,
+            times: 1,
             first: transaction.from,
-            by: 0,
+            by,
         })?;
-        self.see_again(number, transaction, by)
+        Ok(())
     }
 
     // The path with this number once more. One that the transaction does not have would count as none.
@@ -335,7 +340,8 @@ fn count_again(sights: &mut Vec<Sight>, number: usize, by: u32)
 }
 
 fn is_stopped(until: Until) -> bool
-    ensures { IsStopped until → result ≡ true }
+    ensures all { IsStopped until → result ≡ true }
+    ensures only { result ≡ true → IsStopped until }
 {
     matches!(until, Until::Stopped(_))
 }

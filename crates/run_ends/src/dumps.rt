@@ -5,6 +5,7 @@ use dump_tokens::Bus;
 use run_parts::{Input, RunError};
 use signals::Dump;
 use std::alloc::Global;
+use vcd_read::Wrong;
 
 /// The dump. Where a time has a unit it has to say what its numbers count; that it has no such line is for its reader to say.
 pub fn open_dump<'v, 'a, J: Input>(
@@ -21,5 +22,13 @@ pub fn open_dump<'v, 'a, J: Input>(
 
 /// Why a run over this dump ends without its report.
 pub fn halted<J: Input>(mut dump: Dump<'_, '_, J>, error: RunError) -> Halt {
-    Halt::Dump(error, dump.take_wrong())
+    halted_by(error, dump.take_wrong())
+}
+
+/// The same by what is wrong with the dump. Where memory ran out at its refusal nothing is said of that.
+pub fn halted_by(error: RunError, wrong: Option<Wrong>) -> Halt {
+    match error {
+        RunError::Vcd(_) => Halt::Dump(error, wrong),
+        _ => Halt::Dump(error, None),
+    }
 }

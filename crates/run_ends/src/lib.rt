@@ -19,7 +19,7 @@ mod voices;
 
 pub use advice::{About, Closing, advise, names_of, no_drive, no_lines, no_timescale, refuse};
 pub use canvases::{Canvas, write_wave};
-pub use dumps::{halted, open_dump};
+pub use dumps::{halted, halted_by, open_dump};
 pub use endings::{Ended, Halt, Recorded, RefusedSource, Remark, Takes};
 pub use extras::Extras;
 pub use inputs::{Inputs, NamedSources, both_read, one_read, open_both, open_sources};

@@ -14,5 +14,5 @@ returns c =
     let b : Sights = record a { sights = c.count_again.new.sights } in
     let among = c.has_path.ensures (cc) in
     let sights = ap (map path_seen) c.as_slice.ensures.value ∙ sym c.count_again.ensures in
-    sees_path a b (recorded c.args.transaction.now) refl refl (same_paths a b c.count_again.ensures) refl
+    sees_path a b (recorded c.args.transaction.now) refl refl c.count_again.ensures refl
     (among_same _ _ _ _ sights c.as_slice-2.ensures.value among)

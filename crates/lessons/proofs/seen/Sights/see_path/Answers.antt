@@ -8,4 +8,4 @@ returns-else-branch c =
     let b = c.is_in_brief.new.self in
     let is = c.in_ok-is_in_brief-in-None.ensures in
     then_sees c.see_new.result a b c.see_new.new.self (recorded c.args.transaction.now)
-    (sees_added a b is.before is.view (same_paths a b is.sights) is.odd) c.see_new.ensures
+    (sees_added a b is.before is.view is.sights is.odd) c.see_new.ensures
