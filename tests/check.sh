@@ -2,15 +2,13 @@
 # Runs twire from the command line, and compares the exit status and all that it writes.
 source "$(dirname -- "$(readlink -f -- "${BASH_SOURCE[0]}")")/suite.bash" || exit 1
 
-# The first call may build the program, and says so on standard error. What the launcher runs knows which of the two it is, and
-# the first digits of the hash of its sources; what the kit has just made does not.
-status=$?
+# What the launcher runs knows of which build it is, and the first digits of the hash of its sources; what the kit has just made
+# does not.
+call --version
 build='(proved|trial), sources [0-9a-f]{12}'
 [[ $twire -ef $top/twire ]] || build+='|unknown build'
 sed -i -E "s/^(.*) \\(($build)\\)\$/\1/; t; s/\$/ of no build/" out
-want 0 "twire 0.1.0" ""
-: >err
-compare "version"
+judge "version" 0 "twire 0.1.0" ""
 
 # Plans.
 

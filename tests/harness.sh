@@ -55,7 +55,6 @@ for line in 'exit 0' 'exit 1' 'exit 7' true 'echo "$nothing"' 'kill "$$"; sleep 
     [[ $folder == /* && ! -e $folder && ! -e /proc/$job/exe ]]
     held "what is left of it: $line" said
 done
-
 same "names that run a command, whose status would be that of the case" "" "$(grep -nE '^ *held "[^"]*\$\(' "$tests"/*.sh)"
 
 finish

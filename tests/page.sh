@@ -160,9 +160,7 @@ same "a name of markup is a text" '<header><h1>a&lt;b&gt;&amp;&quot;c&quot;.plan
 browser=$(type -P chromium || type -P chromium-browser || type -P google-chrome)
 if [[ -z $browser ]]; then
     echo "left out: the browser (no command 'chromium')"
-    echo "$passed passed, $failed failed"
-    ((failed == 0))
-    exit
+    finish
 fi
 
 # opened FILE [OPTION]: the page as the browser has it after its script, in the file dom; its errors go into the file errors.
