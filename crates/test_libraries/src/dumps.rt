@@ -70,7 +70,7 @@ fn is_due(wrong: Option<&Wrong>, due: &Due) -> bool {
         (None, Due::Nothing) => true,
         (Some(Wrong::Unended(opened)), Due::Open(wanted)) => opened == wanted,
         (Some(Wrong::Token(place)), Due::Token(offset, column, before, token, expected)) => {
-            place.offset == *offset + DEFINITIONS.len() as u64
+            place.offset == offset.saturating_add(DEFINITIONS.len() as u64)
                 && place.column == *column
                 && place.before() == before.as_bytes()
                 && place.token() == token.as_bytes()
