@@ -176,7 +176,11 @@ impl Gate for Flags {
 // 40 participants of 8 controllers are 700 pairs.
 fn meet_at_tables<R: Threads + Sync>(rt: &R, alloc: Global, plan: &Plan, workers: u32) -> bool {
     let flags = Flags::new(workers);
-    table_with(rt, alloc, plan, workers, &flags).is_ok() && flags.have_met(700)
+    let has_verdicts = match table_with(rt, alloc, plan, workers, &flags) {
+        Ok(table) => table.verdicts().len() == 700 && table.is_safe(),
+        Err(_) => false,
+    };
+    has_verdicts && flags.have_met(700)
 }
 
 #[test]
