@@ -1,15 +1,11 @@
-//! Tests of what no command shows, through the public calls of the libraries: single calls and their values, messages and
-//! plans that no text of a plan reaches, dumps and certificates in pieces, runs over streams that fail, the queue, threads,
-//! trees of any depth. What is a command with its files is a case of the trials (`tests/cases`). The tests stand apart from
-//! the libraries, which are then proved once and not once more with their tests.
+//! Tests of what no command shows, and no clause says: what threads do, runs over streams that fail, trees of any depth, the
+//! places of refusals in texts that come in pieces, and how refusals are written. And calls of the libraries that neither a
+//! command nor `calls` makes are made once. What is a command with its files is a case of the trials (`tests/cases`). The
+//! tests stand apart from the libraries, which are then proved once and not once more with their tests.
 #![tactic(auto)]
 
 #[cfg(test)]
 mod acceptance;
-#[cfg(test)]
-mod bits;
-#[cfg(test)]
-mod captures;
 #[cfg(test)]
 mod certificates;
 #[cfg(test)]
@@ -17,13 +13,7 @@ mod dumps;
 #[cfg(test)]
 mod gates;
 #[cfg(test)]
-mod limits;
-#[cfg(test)]
 mod messages;
-#[cfg(test)]
-mod plans;
-#[cfg(test)]
-mod queue;
 #[cfg(test)]
 mod refusals;
 #[cfg(test)]

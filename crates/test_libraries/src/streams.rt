@@ -1,16 +1,15 @@
-// Runs over streams that fail: a reader at each of its calls, and a writer after each number of bytes.
+// The runs that no command makes, over streams that fail: a reader at each of its calls, and a writer after each number of
+// bytes. Those that a command makes fail so in the trials.
 
 use bench_run::{NoGate, run_bench};
-use byte_lines::write_decoded;
-use report::{FaultyReader, FaultyWriter, live_capture, run_capture, run_certify, run_check};
-use run_parts::{RunError, Status, read_within};
+use report::{FaultyReader, FaultyWriter, run_capture, run_certify, run_check};
+use run_parts::{RunError, Status};
 use spellings::{run_brief, run_expand, run_print};
-use std::alloc::{AllocError, Global};
+use std::alloc::Global;
 use std::sync::Wait;
 use std::thread::Threads;
 use std::time::Clock;
-use vcd_read::Probe;
-use verifying::{find_plan, run_verify};
+use verifying::run_verify;
 
 #[derive(Clone, Copy)]
 enum Run {
@@ -21,8 +20,6 @@ enum Run {
     Expand,
     Brief,
     Capture,
-    Live,
-    Decode,
     Bench,
 }
 
@@ -58,11 +55,7 @@ const DUMP: &str = "$var wire 1 ! scl $end $var wire 1 % sda $end $enddefinition
 #0 1! 1% #5 0% #7 x% #9 1%
 ";
 
-const UNENDED: &str = "$var wire 1 ! scl $end $var wire 1 % sda $end $enddefinitions $end
-#0 1! 1% #5 0%
-";
-
-static CASES: [Case; 10] = [
+static CASES: [Case; 8] = [
     Case {
         run: Run::Check,
         first: TWO_WRITERS,
@@ -105,19 +98,6 @@ static CASES: [Case; 10] = [
         second: DUMP,
         report: "5-7 cut\n0 transactions, 0 unexplained\n",
     },
-    // nothing is written of it before its end
-    Case {
-        run: Run::Live,
-        first: TWO_WRITERS,
-        second: UNENDED,
-        report: "5- unfinished\n0 transactions, 0 unexplained\n",
-    },
-    Case {
-        run: Run::Decode,
-        first: DUMP,
-        second: "",
-        report: "5-7 cut S\n0 transactions\n",
-    },
     Case {
         run: Run::Bench,
         first: THREE_WRITERS,
@@ -126,70 +106,26 @@ static CASES: [Case; 10] = [
     },
 ];
 
-#[derive(Drop)]
-struct Streams<'a> {
-    first: FaultyReader<'a>,
-    second: FaultyReader<'a>,
-    out: FaultyWriter,
-}
-
-// Streams for a case: readers that give pieces and fail in these calls, and this writer.
-fn streams_of(
-    case: &Case,
+// How streams fail: readers give pieces and fail in these calls, where 0 is none, and a writer behind its room, where it else
+// takes no bytes.
+#[derive(Clone, Copy)]
+struct Way {
     piece: usize,
     fails_at: [u32; 2],
-    out: FaultyWriter,
-) -> Streams<'static> {
-    Streams {
-        first: FaultyReader::new(case.first.as_bytes(), piece, fails_at[0]),
-        second: FaultyReader::new(case.second.as_bytes(), piece, fails_at[1]),
-        out,
-    }
-}
-
-// A capture that is told while it is read: one transaction, which goes on at the end.
-fn ends_live<R: Threads + Sync>(
-    rt: &R,
-    alloc: Global,
-    plan: &mut FaultyReader<'_>,
-    vcd: &mut FaultyReader<'_>,
-    out: &mut FaultyWriter,
-) -> Result<Status, RunError> {
-    let plan = find_plan(alloc, plan)?;
-    let (scl, sda) = (Probe::Named("scl"), Probe::Named("sda"));
-    let counts = live_capture(rt, alloc, &plan, vcd, out, scl, sda, 0, &mut None)?;
-    if counts.transactions == 1 && counts.stopped == 0 && counts.unexplained == 0 {
-        Ok(counts.status)
-    } else {
-        Ok(Status::Refused)
-    }
-}
-
-// A dump in bytes: one transaction, which is cut.
-fn ends_decoded(
-    alloc: Global,
-    vcd: &mut FaultyReader<'_>,
-    out: &mut FaultyWriter,
-) -> Result<Status, RunError> {
-    let (scl, sda) = (Probe::Named("scl"), Probe::Named("sda"));
-    let counts = write_decoded(alloc, vcd, out, scl, sda, 0, false, &mut None)?;
-    if counts.transactions == 1 && counts.stopped == 0 {
-        Ok(Status::Good)
-    } else {
-        Ok(Status::Refused)
-    }
+    room: usize,
+    fails: bool,
 }
 
 fn ends<R: Threads + Wait + Clock + Sync>(
     rt: &R,
     alloc: Global,
-    run: Run,
-    streams: &mut Streams<'_>,
+    case: &Case,
+    way: Way,
+    out: &mut FaultyWriter,
 ) -> Result<Status, RunError> {
-    let first = &mut streams.first;
-    let second = &mut streams.second;
-    let out = &mut streams.out;
-    match run {
+    let first = &mut FaultyReader::new(case.first.as_bytes(), way.piece, way.fails_at[0]);
+    let second = &mut FaultyReader::new(case.second.as_bytes(), way.piece, way.fails_at[1]);
+    match case.run {
         Run::Check => run_check(rt, alloc, first, out, 1),
         Run::Certify => run_certify(alloc, first, out),
         Run::Verify => run_verify(alloc, first, second, out),
@@ -197,8 +133,6 @@ fn ends<R: Threads + Wait + Clock + Sync>(
         Run::Expand => run_expand(alloc, first, out),
         Run::Brief => run_brief(alloc, first, out),
         Run::Capture => run_capture(rt, alloc, first, second, out, "scl", "sda"),
-        Run::Live => ends_live(rt, alloc, first, second, out),
-        Run::Decode => ends_decoded(alloc, first, out),
         Run::Bench => run_bench(
             rt,
             alloc,
@@ -213,10 +147,20 @@ fn ends<R: Threads + Wait + Clock + Sync>(
     }
 }
 
-// ---- readers
-
-// A byte in each call, and all bytes in one.
-const PIECES: [usize; 2] = [1, 65_536];
+// Whether the run ends so, and the writer has then taken as many first bytes of its report as it has room for.
+fn takes<R: Threads + Wait + Clock + Sync>(
+    rt: &R,
+    alloc: Global,
+    case: &Case,
+    way: Way,
+    wanted: Result<Status, RunError>,
+) -> bool {
+    let Ok(mut out) = FaultyWriter::new(alloc, way.room, way.fails) else {
+        return false;
+    };
+    ends(rt, alloc, case, way, &mut out) == wanted
+        && Some(out.taken.as_slice()) == case.report.as_bytes().get(..way.room)
+}
 
 // In how many calls a reader gives this text, the one that gives none among them.
 fn calls_of(text: &str, piece: usize) -> u32 {
@@ -224,42 +168,35 @@ fn calls_of(text: &str, piece: usize) -> u32 {
     u32::try_from(pieces).unwrap_or(u32::MAX).saturating_add(1)
 }
 
-// Whether a run whose readers fail in these calls answers Read, and has written nothing.
-fn is_unread<R: Threads + Wait + Clock + Sync>(
-    rt: &R,
-    alloc: Global,
-    case: &Case,
-    piece: usize,
-    fails_at: [u32; 2],
-) -> bool {
-    let Ok(out) = FaultyWriter::new(alloc, case.report.len(), true) else {
-        return false;
-    };
-    let mut streams = streams_of(case, piece, fails_at, out);
-    ends(rt, alloc, case.run, &mut streams) == Err(RunError::Read) && streams.out.taken.is_empty()
-}
-
+// A run whose readers fail does not call its writer, which would fail.
 fn is_unread_at_each_call<R: Threads + Wait + Clock + Sync>(
     rt: &R,
     alloc: Global,
     case: &Case,
     piece: usize,
 ) -> bool {
-    for call in 1..=calls_of(case.first, piece) {
-        if !is_unread(rt, alloc, case, piece, [call, 0]) {
-            return false;
-        }
-    }
-    if case.second.is_empty() {
-        return true;
-    }
-    for call in 1..=calls_of(case.second, piece) {
-        if !is_unread(rt, alloc, case, piece, [0, call]) {
+    let first = calls_of(case.first, piece);
+    let second = if case.second.is_empty() {
+        0
+    } else {
+        calls_of(case.second, piece)
+    };
+    for call in 1..=first.saturating_add(second) {
+        let way = Way {
+            piece,
+            fails_at: [call, call.saturating_sub(first)],
+            room: 0,
+            fails: true,
+        };
+        if !takes(rt, alloc, case, way, Err(RunError::Read)) {
             return false;
         }
     }
     true
 }
+
+// A byte in each call, and all bytes in one.
+const PIECES: [usize; 2] = [1, 65_536];
 
 #[test]
 fn a_reader_that_fails_at_any_call_is_read_and_nothing_is_written(rt: HostRuntime) {
@@ -270,51 +207,29 @@ fn a_reader_that_fails_at_any_call_is_read_and_nothing_is_written(rt: HostRuntim
     }
 }
 
-fn is_read(alloc: Global, text: &[u8], calls: u32, wanted: Option<RunError>) -> bool {
-    match read_within(alloc, &mut FaultyReader::new(text, 1, 0), calls) {
-        Ok(found) => found.as_slice() == text && wanted.is_none(),
-        Err(error) => wanted == Some(error),
-    }
-}
-
-#[test]
-fn the_call_that_gives_no_bytes_counts(rt: HostRuntime) {
-    assert!(rt; is_read(rt.alloc(), b"ab", 3, None));
-    assert!(rt; is_read(rt.alloc(), b"ab", 2, Some(RunError::Read)));
-    assert!(rt; is_read(rt.alloc(), b"", 0, Some(RunError::Read)));
-}
-
-// ---- writers
-
-// Whether the run ends so where the writer has so much room, and has then taken as many first bytes of its report.
-fn takes<R: Threads + Wait + Clock + Sync>(
-    rt: &R,
-    alloc: Global,
-    case: &Case,
-    room: usize,
-    fails: bool,
-    wanted: Result<Status, RunError>,
-) -> bool {
-    let Ok(out) = FaultyWriter::new(alloc, room, fails) else {
-        return false;
-    };
-    let mut streams = streams_of(case, PIECES[1], [0, 0], out);
-    ends(rt, alloc, case.run, &mut streams) == wanted
-        && Some(streams.out.taken.as_slice()) == case.report.as_bytes().get(..room)
-}
-
 fn takes_each_front<R: Threads + Wait + Clock + Sync>(
     rt: &R,
     alloc: Global,
     case: &Case,
     fails: bool,
 ) -> bool {
-    for room in 0..case.report.len() {
-        if !takes(rt, alloc, case, room, fails, Err(RunError::Write)) {
+    for room in 0..=case.report.len() {
+        let way = Way {
+            piece: PIECES[1],
+            fails_at: [0, 0],
+            room,
+            fails,
+        };
+        let wanted = if room < case.report.len() {
+            Err(RunError::Write)
+        } else {
+            Ok(Status::Good)
+        };
+        if !takes(rt, alloc, case, way, wanted) {
             return false;
         }
     }
-    takes(rt, alloc, case, case.report.len(), fails, Ok(Status::Good))
+    true
 }
 
 #[test]
