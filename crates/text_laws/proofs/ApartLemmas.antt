@@ -1,9 +1,10 @@
 -- Two sendings are apart exactly where one controller sends both or a `never` covers them.
-use Rattle.std.proofs.Common.{◌≡◌, ℕ, ◌⊎◌, inl, inr, ◌||◌, ◌&&◌, ◌==◌, Bool, true, false, not, List, [], ◌∷◌, ◌++◌, map, Option, Some, None, slice_get, refl, ap, sym, ◌∙◌, subst, true≢false}
+use Rattle.std.proofs.Common.{◌≡◌, ℕ, ◌⊎◌, inl, inr, ◌||◌, ◌&&◌, ◌==◌, Bool, true, false, not, List, [], ◌∷◌, ◌++◌, map, Option, Some, None, slice_get, refl, ap, sym, ◌∙◌, subst, true≢false, arith}
 use Rattle.std.specs.List.{list_any, filter, flat_map}
 use Rattle.std.specs.Map.{keys_of}
 use Rattle.std.specs.Str.{bytes_eq}
 use Rattle.std.proofs.lemmas.Bool.{and_parts, eqb-true, eq-eqb}
+use Rattle.std.proofs.lemmas.Grind.{common_steps}
 use Rattle.message_tree.specs.Trees.{FrameTree}
 use Rattle.plan_core.specs.Building.{number_of}
 use Rattle.plan_core.specs.Contents.{Contents}
@@ -174,11 +175,7 @@ module _ (draft : Draft) (sound : Sound draft) where
         by (Some label) (Some l) e f = by_labels s label l h owner e f
 
     means_is : (s : Side) → (s.label ≡ None) ⊎ In s draft.labels → side_means draft s p ≡ side_covers draft s (record { controller = p.side.controller; message = m })
-    means_is s known = by (bytes_eq s.controller p.side.controller) refl
-      where
-        by : (b : Bool) → bytes_eq s.controller p.side.controller ≡ b → (b && label_means draft s.label p.side.label) ≡ (b && label_covers draft s.label m)
-        by true e = ap (λ (c : Bool). true && c) (means_covers s known (same-bytes_eq s.controller p.side.controller e))
-        by false e = refl
+    means_is s known = grind (arith, common_steps, means_covers, same-bytes_eq)
 
   -- ---- the plan
 
@@ -256,9 +253,7 @@ module _ (draft : Draft) (sound : Sound draft) where
     inside = named_inside.0
 
     pub means : (s : Side) → (s.label ≡ None) ⊎ In s draft.labels → side_means draft s x.part ≡ side_covers draft s sent
-    means s known =
-        means_is x.part sent.message (placed x.part among_parts sent.message inside) s known
-        ∙ ap (λ (c : List ℕ). side_covers draft s (record { controller = c; message = sent.message })) x.owner
+    means s known = grind (arith, common_steps, means_is, placed, among_parts, inside)
 
   -- ---- two sendings
 
@@ -285,9 +280,7 @@ module _ (draft : Draft) (sound : Sound draft) where
           (first.0, second.0, inr (n.0, n.1, first.1, second.1))
 
   of_one : (v w : Part) → In (two v w) (pairs_among (parts draft)) → v.side.controller ≡ w.side.controller → In (two v w) told_pairs
-  of_one v w h e =
-      in_left (two v w) (filter are_of_one (pairs_among (parts draft))) (flat_map (pairs_meant draft) draft.nevers)
-      (in_filter are_of_one (pairs_among (parts draft)) (two v w) h (bytes_eq-same v.side.controller w.side.controller e))
+  of_one v w h e = grind (arith, common_steps, in_left, in_filter, bytes_eq-same)
 
   of_never : (v w : Part) (n : Side × Side) → In v (parts draft) → In w (parts draft) → In n draft.nevers → side_means draft n.0 v ≡ true → side_means draft n.1 w ≡ true → In (two v w) told_pairs
   of_never v w n h g k e f =

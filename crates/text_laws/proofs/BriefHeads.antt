@@ -1,7 +1,7 @@
 -- What the reader of briefs takes has a layout, and how heads of briefs are refused.
-use Rattle.std.proofs.Common.{◌≡◌, ℕ, Bool, true, false, List, length, Option, Some, None, codes, refl, ap, sym, ◌∙◌}
-use Rattle.std.specs.Prelude.{Result, Ok, Err, if◌then◌else◌}
-use Rattle.std.specs.Str.{bytes_eq}
+use Rattle.std.proofs.Common.{◌≡◌, ℕ, List, length, Some, None, codes, refl, ap, sym, ◌∙◌, arith}
+use Rattle.std.proofs.lemmas.Grind.{common_steps}
+use Rattle.std.specs.Prelude.{Result, Ok, Err}
 use Rattle.plan_core.proofs.BuildingLemmas.{same-bytes_eq}
 use Rattle.brief_text.specs.Briefs.{text_read, brief_read, items_in, IsRefused}
 use Rattle.brief_text.specs.Drafts.{Draft, no_items}
@@ -13,7 +13,7 @@ use Rattle.brief_tokens.specs.declared.symbols.Keyword.{Keyword}
 use Rattle.brief_tokens.specs.declared.symbols.Keyword.TheVariants as keywords
 use Rattle.brief_tokens.specs.Heads.{after_head}
 use Rattle.brief_tokens.specs.Tokens.{Tokens, next, keyword, word, keyword_of, token_of_word, tokens_from, tokens_of}
-use Rattle.layout.specs.Refusals.{no_version, brief_letters, brief_head, head_or, letters_in, stranger, refusal_by, refusal_of}
+use Rattle.layout.specs.Refusals.{brief_letters, brief_head, head_or, letters_in, stranger, refusal_by, refusal_of}
 use Rattle.lexer.specs.declared.lexemes.Letters.{Letters}
 use Rattle.lexer.specs.declared.lexemes.Letters.TheVariants.{Brief}
 use Rattle.lexer.specs.Lexemes.{Lexemes, text_end, stray, foreign, no_dots, briefs, lexemes_of}
@@ -47,40 +47,11 @@ some_keyword bytes k e = rw e refl
 
 -- a word that is told as a word
 word_is : (bytes others : List ℕ) → token_of_word bytes ≡ word others → bytes ≡ others
-word_is bytes others h = by (keyword_of bytes) refl
-  where
-    by : (o : Option Keyword) → keyword_of bytes ≡ o → bytes ≡ others
-    by None e = let same : word bytes ≡ word others = sym (no_keyword bytes e) ∙ h in cc
-    by (Some k) e = let none : keyword k ≡ word others = sym (some_keyword bytes k e) ∙ h in absurd cc
-
--- no other word is the keyword `brief`
-no_other : (a b c d e f g h i j k : Bool)
-    → (if a then Some keywords.Device else if b then Some keywords.Byte else if c then Some keywords.Any else if d then Some keywords.Message else if e then Some keywords.Controller
-    else if f then Some keywords.Interrupt else if g then Some keywords.Never else if h then Some keywords.Write else if i then Some keywords.Read else if j then Some keywords.Else
-    else if k then Some keywords.Stop else None) ≡ Some keywords.Brief → ⊥
-no_other true b c d e f g h i j k is = cc
-no_other false true c d e f g h i j k is = cc
-no_other false false true d e f g h i j k is = cc
-no_other false false false true e f g h i j k is = cc
-no_other false false false false true f g h i j k is = cc
-no_other false false false false false true g h i j k is = cc
-no_other false false false false false false true h i j k is = cc
-no_other false false false false false false false true i j k is = cc
-no_other false false false false false false false false true j k is = cc
-no_other false false false false false false false false false true k is = cc
-no_other false false false false false false false false false false true is = cc
-no_other false false false false false false false false false false false is = cc
+word_is bytes others h = grind (arith, common_steps, no_keyword, some_keyword)
 
 pub brief_word : (bytes : List ℕ) → token_of_word bytes ≡ keyword keywords.Brief → bytes ≡ codes "brief"
-brief_word bytes h = by (bytes_eq bytes (codes "brief")) refl
-  where
-    found : (o : Option Keyword) → keyword_of bytes ≡ o → keyword_of bytes ≡ Some keywords.Brief
-    found None e = let none : word bytes ≡ keyword keywords.Brief = sym (no_keyword bytes e) ∙ h in absurd cc
-    found (Some k) e = let same : keyword k ≡ keyword keywords.Brief = sym (some_keyword bytes k e) ∙ h in e ∙ (let is : k ≡ keywords.Brief = cc in ap (λ (x : Keyword). Some x) is)
-
-    by : (t : Bool) → bytes_eq bytes (codes "brief") ≡ t → bytes ≡ codes "brief"
-    by true e = same-bytes_eq bytes (codes "brief") e
-    by false e = let rest = rw e at (found (keyword_of bytes) refl) in absurd (no_other _ _ _ _ _ _ _ _ _ _ _ rest)
+unfolding token_of_word
+brief_word bytes h = same-bytes_eq bytes (codes "brief") (grind arith)
 
 -- ---- what is read
 
@@ -99,16 +70,7 @@ second_is (lexemes.next (lexemes.sign c) at more) line rest h = absurd cc
 second_is (lexemes.last ending at) line rest h = absurd cc
 
 front_is : (all : Lexemes) (line at : ℕ) (rest : Tokens) → tokens_from all ≡ next (keyword keywords.Brief) line (next (word (codes "1")) at rest) → BriefFront all
-front_is (lexemes.next (lexemes.word b) here more) line at rest h =
-    let token : token_of_word b ≡ keyword keywords.Brief = cc in
-    let second : tokens_from more ≡ next (word (codes "1")) at rest = cc in
-    let s = second_is more at rest second in
-    record {
-      line = here;
-      at = s.0;
-      more = s.1;
-      is = ap (λ (n : List ℕ). lexemes.next (lexemes.word n) here more) (brief_word b token) ∙ ap (lexemes.next (lexemes.word (codes "brief")) here) s.2;
-    }
+front_is (lexemes.next (lexemes.word b) here more) line at rest h = grind (arith, common_steps, second_is, brief_word)
 front_is (lexemes.next (lexemes.sign c) here more) line at rest h = absurd cc
 front_is (lexemes.last ending here) line at rest h = absurd cc
 
@@ -139,25 +101,15 @@ abbrev bad : PlanError → Result Letters PlanError
 bad e = Err e
 
 second_stranger : (rest : Lexemes) (e : PlanError) → brief_letters rest ≡ Some (bad e) → (line : ℕ) → after_head (next (keyword keywords.Brief) line (tokens_from rest)) ≡ Err e
-second_stranger (lexemes.next (lexemes.word b) at more) e h line = by (bytes_eq b (codes "1")) h
-  where
-    by : (t : Bool) → (if t then Some (good Brief) else None) ≡ Some (bad e) → after_head (next (keyword keywords.Brief) line (next (token_of_word b) at (tokens_from more))) ≡ Err e
-    by true g = let none : good Brief ≡ bad e = cc in absurd cc
-    by false g = absurd cc
+second_stranger (lexemes.next (lexemes.word b) at more) e h line = grind (arith, common_steps)
 second_stranger (lexemes.next (lexemes.sign c) at more) e h line = absurd cc
 second_stranger (lexemes.last text_end at) e h line = absurd cc
-second_stranger (lexemes.last stray at) e h line = let same : bad (no_version (lexemes.last stray at)) ≡ bad e = cc in let is : no_version (lexemes.last stray at) ≡ e = cc in ap (λ (d : PlanError). Err d) is
-second_stranger (lexemes.last foreign at) e h line = let same : bad (no_version (lexemes.last foreign at)) ≡ bad e = cc in let is : no_version (lexemes.last foreign at) ≡ e = cc in ap (λ (d : PlanError). Err d) is
+second_stranger (lexemes.last stray at) e h line = grind (arith, common_steps)
+second_stranger (lexemes.last foreign at) e h line = grind (arith, common_steps)
 
 head_stranger : (all : Lexemes) (e : PlanError) → brief_head all ≡ Some (bad e) → after_head (tokens_from all) ≡ Err e
 unfolding token_of_word
-head_stranger (lexemes.next (lexemes.word b) line rest) e h = by (bytes_eq b (codes "brief")) refl h
-  where
-    by : (t : Bool) → bytes_eq b (codes "brief") ≡ t → (if t then brief_letters rest else None) ≡ Some (bad e) → after_head (next (token_of_word b) line (tokens_from rest)) ≡ Err e
-    by true is g =
-        let name = same-bytes_eq b (codes "brief") is in
-        ap (λ (n : List ℕ). after_head (next (token_of_word n) line (tokens_from rest))) name ∙ second_stranger rest e g line
-    by false is g = absurd cc
+head_stranger (lexemes.next (lexemes.word b) line rest) e h = grind (arith, common_steps, same-bytes_eq, second_stranger)
 head_stranger (lexemes.next (lexemes.sign c) line rest) e h = absurd cc
 head_stranger (lexemes.last ending line) e h = absurd cc
 

@@ -1,10 +1,11 @@
 -- The parts of a sound draft.
-use Rattle.std.proofs.Common.{◌≡◌, ℕ, ◌+◌, ◌⊎◌, inl, inr, Bool, true, false, not, cond, List, [], ◌∷◌, map, length, Option, Some, None, refl, ap, sym, ◌∙◌, subst, arith, true≢false}
+use Rattle.std.proofs.Common.{◌≡◌, ℕ, ◌+◌, ◌⊎◌, inl, inr, Bool, true, false, not, cond, List, [], ◌∷◌, map, length, Option, Some, None, refl, ap, sym, ◌∙◌, subst, arith}
 use Rattle.std.specs.List.{list_any, filter, flat_map, count_by, sum_by}
 use Rattle.std.specs.Map.{keys_of}
 use Rattle.std.specs.Str.{bytes_eq}
 use Rattle.std.proofs.lemmas.List.{map-append}
 use Rattle.std.proofs.lemmas.List.Sums.{sum_by-cons, sum_by-append}
+use Rattle.std.proofs.lemmas.Grind.{common_steps}
 use Rattle.plan_core.specs.Names.{IsName}
 use Rattle.plan_core.proofs.BuildingLemmas.{same-bytes_eq}
 use Rattle.brief_text.specs.declared.syntax.Lengths.{Lengths}
@@ -24,11 +25,7 @@ module _ (draft : Draft) (sound : Sound draft) where
 
   -- a message is no family
   pub is_plain : (m : List ℕ) → In m (keys_of draft.plan.messages) → stands_for draft m ≡ m ∷ []
-  is_plain m h = by (family_of m draft.families) refl
-    where
-      by : (o : Option Lengths) → family_of m draft.families ≡ o → members_or m (family_of m draft.families) ≡ m ∷ []
-      by None e = ap (members_or m) e
-      by (Some range) e = absurd (sound.families.apart m range e h)
+  is_plain m h = grind (arith, common_steps, sound.families.apart)
 
   -- and in one family at most
   pub in_one : (m a b : List ℕ) → In m (stands_for draft a) → In m (stands_for draft b) → (m ≡ a) ⊎ ((m ≡ b) ⊎ (a ≡ b))
@@ -71,22 +68,12 @@ module _ (draft : Draft) (sound : Sound draft) where
       unnamed message = not (list_any (λ other. bytes_eq other message) (flat_map (label_messages draft) labels))
 
       size-cons : (p : List ℕ → Bool) (x : List ℕ) (xs : List (List ℕ)) → length (filter p (x ∷ xs)) ≡ cond (p x) 1 0 + length (filter p xs)
-      size-cons p x xs = by (p x)
-        where
-          by : (b : Bool) → length (cond b (x ∷ filter p xs) (filter p xs)) ≡ cond b 1 0 + length (filter p xs)
-          by true = omega arith
-          by false = omega arith
+      size-cons p x xs = grind (arith, common_steps)
 
       sizes-cons : (sides : List Side) (x : List ℕ) (xs : List (List ℕ)) → sum_by (λ t. length (filter (is_in_part draft labels t) (x ∷ xs))) sides
           ≡ count_by (λ t. is_in_part draft labels t x) sides + sum_by (λ t. length (filter (is_in_part draft labels t) xs)) sides
       sizes-cons [] x xs = refl
-      sizes-cons (t ∷ sides) x xs =
-          let first = sum_by-cons (λ t. length (filter (is_in_part draft labels t) (x ∷ xs))) t sides in
-          let second = sum_by-cons (λ t. length (filter (is_in_part draft labels t) xs)) t sides in
-          let here = size-cons (is_in_part draft labels t) x xs in
-          let count = count-cons (λ t. is_in_part draft labels t x) t sides in
-          let rest = sizes-cons sides x xs in
-          omega (arith, first, second, here, count, rest)
+      sizes-cons (t ∷ sides) x xs = grind (arith, common_steps, sum_by-cons, size-cons, count-cons, (sizes-cons sides x xs))
 
       sizes : (xs : List (List ℕ)) → ((m : List ℕ) → In m xs → In m c.1) → length (filter unnamed xs) + sum_by (λ t. length (filter (is_in_part draft labels t) xs)) labels ≡ length xs
       unfolding unnamed
@@ -109,29 +96,15 @@ module _ (draft : Draft) (sound : Sound draft) where
 
       mapped : (sides : List Side) → sum_by (λ (p : Part). length p.messages) (map (label_part draft labels c.1) sides) ≡ sum_by (λ t. length (filter (is_in_part draft labels t) c.1)) sides
       mapped [] = refl
-      mapped (t ∷ sides) =
-          sum_by-cons (λ (p : Part). length p.messages) (label_part draft labels c.1 t) (map (label_part draft labels c.1) sides)
-          ∙ ap (λ (n : ℕ). length (filter (is_in_part draft labels t) c.1) + n) (mapped sides)
-          ∙ sym (sum_by-cons (λ t. length (filter (is_in_part draft labels t) c.1)) t sides)
+      mapped (t ∷ sides) = grind (arith, common_steps, sum_by-cons, (mapped sides))
 
       pub all_sizes : sum_by (λ (p : Part). length p.messages) (rest_part draft labels c.1 c.0 ∷ map (label_part draft labels c.1) labels) ≡ length c.1
       unfolding unnamed
-      all_sizes =
-          sum_by-cons (λ (p : Part). length p.messages) (rest_part draft labels c.1 c.0) (map (label_part draft labels c.1) labels)
-          ∙ ap (λ (n : ℕ). length (filter unnamed c.1) + n) (mapped labels) ∙ sizes c.1 (λ m h. h)
+      all_sizes = grind (arith, common_steps, sum_by-cons, unnamed, mapped, sizes)
 
     kept_sizes : (all : List Part) → sum_by (λ (p : Part). length p.messages) (filter sends_any all) ≡ sum_by (λ (p : Part). length p.messages) all
     kept_sizes [] = refl
-    kept_sizes (p ∷ all) = by (sends_any p) refl (kept_sizes all) ∙ sym (sum_by-cons (λ (p : Part). length p.messages) p all)
-      where
-        empty : (names : List (List ℕ)) → (elim names [ [] ↦ false | message ∷ messages ↦ true ]) ≡ false → length names ≡ 0
-        empty [] e = refl
-        empty (n ∷ names) e = absurd (true≢false e)
-
-        by : (b : Bool) → sends_any p ≡ b → sum_by (λ (p : Part). length p.messages) (filter sends_any all) ≡ sum_by (λ (p : Part). length p.messages) all
-            → sum_by (λ (p : Part). length p.messages) (cond b (p ∷ filter sends_any all) (filter sends_any all)) ≡ length p.messages + sum_by (λ (p : Part). length p.messages) all
-        by true e rest = sum_by-cons (λ (p : Part). length p.messages) p (filter sends_any all) ∙ ap (λ (n : ℕ). length p.messages + n) rest
-        by false e rest = let none = empty p.messages e in omega (arith, rest, none)
+    kept_sizes (p ∷ all) = grind (arith, common_steps, sum_by-cons, (kept_sizes all))
 
     pub parts_sizes : sum_by (λ (p : Part). length p.messages) (parts_of draft c) ≡ length c.1
     parts_sizes = by (labels_of draft c.0) (several c.0)

@@ -1,8 +1,9 @@
 -- Names of entries.
-use Rattle.std.proofs.Common.{◌≡◌, ℕ, zero, suc, ◌<◌, ◌⊎◌, inl, inr, Bool, true, false, cond, List, [], ◌∷◌, ◌++◌, length, get_or, Option, Some, None, is_some, refl, ap, sym, subst, arith, true≢false}
+use Rattle.std.proofs.Common.{◌≡◌, ℕ, zero, suc, ◌<◌, ◌⊎◌, inl, inr, Bool, true, false, cond, List, [], ◌∷◌, ◌++◌, length, get_or, Option, Some, None, refl, ap, sym, subst, arith}
 use Rattle.std.specs.Map.{keys_of, lookup}
 use Rattle.std.specs.Str.{bytes_eq}
 use Rattle.std.proofs.lemmas.List.Quantifiers.{position-Some}
+use Rattle.std.proofs.lemmas.Grind.{common_steps}
 use Rattle.plan_core.specs.Building.{number_of, has_name}
 use Rattle.plan_core.proofs.BuildingLemmas.{bytes_eq-same, same-bytes_eq, position-None, none_from_is_some}
 use Rattle.text_laws.proofs.Membership.{In, in_left, in_right, in_either, is_false, not_both}
@@ -25,11 +26,7 @@ module _ {X : Type 0} where
       subst (λ (n : List ℕ). In n (keys_of entries)) (sym (same-bytes_eq name (get_or (keys_of entries) k []) found.1)) (at_in (keys_of entries) k [] found.0)
 
   pub has_name_in : (name : List ℕ) (entries : List (List ℕ × X)) → has_name name entries ≡ true → In name (keys_of entries)
-  has_name_in name entries h = by (number_of name entries) refl h
-    where
-      by : (o : Option ℕ) → number_of name entries ≡ o → is_some o ≡ true → In name (keys_of entries)
-      by None e g = absurd (true≢false (sym g))
-      by (Some k) e g = number_in name entries k e
+  has_name_in name entries h = grind (arith, common_steps, number_in)
 
   pub number_none : (name : List ℕ) (entries : List (List ℕ × X)) → (In name (keys_of entries) → ⊥) → number_of name entries ≡ None
   number_none name entries new = none_from_is_some (number_of name entries) (is_false (has_name name entries) (λ h. new (has_name_in name entries h)))
@@ -40,11 +37,7 @@ module _ {X : Type 0} where
       not_both (bytes_eq name (get_or (keys_of entries) at.0 [])) (bytes_eq-same name (get_or (keys_of entries) at.0 []) (sym at.2)) (position-None (bytes_eq name) (keys_of entries) none at.0 [] at.1)
 
   pub in_has_name : (name : List ℕ) (entries : List (List ℕ × X)) → In name (keys_of entries) → has_name name entries ≡ true
-  in_has_name name entries h = by (number_of name entries) refl
-    where
-      by : (o : Option ℕ) → number_of name entries ≡ o → is_some (number_of name entries) ≡ true
-      by None e = absurd (none_number name entries e h)
-      by (Some k) e = ap is_some e
+  in_has_name name entries h = grind (arith, common_steps, none_number)
 
   pub keys_both : (one other : List (List ℕ × X)) → keys_of (one ++ other) ≡ keys_of one ++ keys_of other
   keys_both [] other = refl
@@ -71,35 +64,15 @@ module _ {X : Type 0} where
 
   pub lookup_none : (name : List ℕ) (entries : List (List ℕ × X)) → lookup (bytes_eq name) entries ≡ None → In name (keys_of entries) → ⊥
   lookup_none name [] e h = h
-  lookup_none name ((n, y) ∷ entries) e h = by (bytes_eq name n) refl e h (lookup_none name entries)
-    where
-      by : (t : Bool) → bytes_eq name n ≡ t → cond t (Some y) (lookup (bytes_eq name) entries) ≡ None → (name ≡ n) ⊎ In name (keys_of entries) → (lookup (bytes_eq name) entries ≡ None → In name (keys_of entries) → ⊥) → ⊥
-      by true is f g later = absurd cc
-      by false is f (inl same) later = not_both (bytes_eq name n) (bytes_eq-same name n same) is
-      by false is f (inr there) later = later f there
+  lookup_none name ((n, y) ∷ entries) e h = grind (arith, common_steps, not_both, bytes_eq-same, (lookup_none name entries))
 
   pub lookup_kept : (name : List ℕ) (entries more : List (List ℕ × X)) (x : X) → lookup (bytes_eq name) entries ≡ Some x → lookup (bytes_eq name) (entries ++ more) ≡ Some x
   lookup_kept name [] more x e = absurd cc
-  lookup_kept name (f ∷ entries) more x e = by (bytes_eq name f.0) e (lookup_kept name entries more x)
-    where
-      by : (t : Bool) → cond t (Some f.1) (lookup (bytes_eq name) entries) ≡ Some x → (lookup (bytes_eq name) entries ≡ Some x → lookup (bytes_eq name) (entries ++ more) ≡ Some x)
-          → cond t (Some f.1) (lookup (bytes_eq name) (entries ++ more)) ≡ Some x
-      by true h later = h
-      by false h later = later h
+  lookup_kept name (f ∷ entries) more x e = grind (arith, common_steps, (lookup_kept name entries more x))
 
   pub lookup_last : (name : List ℕ) (entries : List (List ℕ × X)) (n : List ℕ) (y x : X) → lookup (bytes_eq name) (entries ++ (n, y) ∷ []) ≡ Some x → (lookup (bytes_eq name) entries ≡ Some x) ⊎ ((name ≡ n) × (y ≡ x))
-  lookup_last name [] n y x e = by (bytes_eq name n) refl e
-    where
-      by : (t : Bool) → bytes_eq name n ≡ t → cond t (Some y) (None) ≡ Some x → (lookup (bytes_eq name) [] ≡ Some x) ⊎ ((name ≡ n) × (y ≡ x))
-      by true is h = inr (same-bytes_eq name n is, cc)
-      by false is h = absurd cc
-  lookup_last name (f ∷ entries) n y x e = by (bytes_eq name f.0) e (lookup_last name entries n y x)
-    where
-      by : (t : Bool) → cond t (Some f.1) (lookup (bytes_eq name) (entries ++ (n, y) ∷ [])) ≡ Some x
-          → (lookup (bytes_eq name) (entries ++ (n, y) ∷ []) ≡ Some x → (lookup (bytes_eq name) entries ≡ Some x) ⊎ ((name ≡ n) × (y ≡ x)))
-          → (cond t (Some f.1) (lookup (bytes_eq name) entries) ≡ Some x) ⊎ ((name ≡ n) × (y ≡ x))
-      by true h later = inl h
-      by false h later = later h
+  lookup_last name [] n y x e = grind (arith, common_steps, same-bytes_eq)
+  lookup_last name (f ∷ entries) n y x e = grind (arith, common_steps, (lookup_last name entries n y x))
 
   -- a name that is new at the end changes no other
   pub lookup_other : (name : List ℕ) (entries : List (List ℕ × X)) (n : List ℕ) (y : X) → (name ≡ n → ⊥) → lookup (bytes_eq name) (entries ++ (n, y) ∷ []) ≡ lookup (bytes_eq name) entries

@@ -1,5 +1,6 @@
 -- Heads are refused exactly as those who read either a plan or a brief refuse them.
-use Rattle.std.proofs.Common.{◌≡◌, ℕ, Bool, true, false, List, ◌∷◌, length, Option, Some, None, codes, refl, ap, sym, ◌∙◌, subst, true≢false}
+use Rattle.std.proofs.Common.{◌≡◌, ℕ, Bool, true, false, List, ◌∷◌, length, Option, Some, None, codes, refl, ap, sym, ◌∙◌, subst, true≢false, arith}
+use Rattle.std.proofs.lemmas.Grind.{common_steps}
 use Rattle.std.specs.Prelude.{Result, Ok, Err, if◌then◌else◌}
 use Rattle.std.specs.Str.{bytes_eq}
 use Rattle.plan_core.proofs.BuildingLemmas.{bytes_eq-same, same-bytes_eq}
@@ -26,7 +27,7 @@ use Rattle.plan_text.proofs.TextLemmas.{text_refused}
 use Rattle.text_laws.proofs.BriefHeads.{no_keyword, some_keyword, brief_word, brief_refused, plan_refused}
 use Rattle.text_laws.proofs.FirstKinds.{first_too}
 use Rattle.text_laws.proofs.FirstWords.{FirstIs, first_same}
-use Rattle.text_laws.proofs.PlanWords.{no_head as not_plan}
+use Rattle.text_laws.proofs.Heads.{no_head as not_plan}
 
 abbrev bad : PlanError → Result Letters PlanError
 bad e = Err e
@@ -117,22 +118,14 @@ brief_begins (lexemes.last ending line) r h = absurd cc
 
 -- what a brief is refused for in this way is no version
 stranger_second : (rest : Lexemes) (e : PlanError) → brief_letters rest ≡ Some (bad e) → is_version e ≡ false
-stranger_second (lexemes.next (lexemes.word b) at more) e h = by (bytes_eq b (codes "1")) h
-  where
-    by : (t : Bool) → (if t then Some some_letters else None) ≡ Some (bad e) → is_version e ≡ false
-    by true g = let none : some_letters ≡ bad e = cc in absurd cc
-    by false g = absurd cc
+stranger_second (lexemes.next (lexemes.word b) at more) e h = grind (arith, common_steps)
 stranger_second (lexemes.next (lexemes.sign c) at more) e h = absurd cc
 stranger_second (lexemes.last text_end at) e h = absurd cc
 stranger_second (lexemes.last stray at) e h = let same : bad (errors.Unexpected at) ≡ bad e = cc in let is : errors.Unexpected at ≡ e = cc in ap is_version (sym is)
 stranger_second (lexemes.last foreign at) e h = let same : bad (errors.NotAscii at) ≡ bad e = cc in let is : errors.NotAscii at ≡ e = cc in ap is_version (sym is)
 
 stranger_no_version : (all : Lexemes) (e : PlanError) → brief_head all ≡ Some (bad e) → is_version e ≡ false
-stranger_no_version (lexemes.next (lexemes.word b) line rest) e h = by (bytes_eq b (codes "brief")) h
-  where
-    by : (t : Bool) → (if t then brief_letters rest else None) ≡ Some (bad e) → is_version e ≡ false
-    by true g = stranger_second rest e g
-    by false g = absurd cc
+stranger_no_version (lexemes.next (lexemes.word b) line rest) e h = grind (arith, common_steps, stranger_second)
 stranger_no_version (lexemes.next (lexemes.sign c) line rest) e h = absurd cc
 stranger_no_version (lexemes.last ending line) e h = absurd cc
 

@@ -2,12 +2,13 @@
 use Rattle.std.proofs.Common.{◌≡◌, ℕ, ◌+◌, ◌==◌, Bool, true, false, List, [], ◌∷◌, refl, ap, sym, ◌∙◌, subst, arith, true≢false}
 use Rattle.std.specs.Prelude.{nat_lt}
 use Rattle.std.proofs.lemmas.Bool.Decides.{nat_tests}
+use Rattle.std.proofs.lemmas.Grind.{common_steps}
 use Rattle.given_plans.specs.Given.{is_version}
 use Rattle.layout.specs.Refusals.{no_version}
 use Rattle.lexer.specs.declared.lexemes.Letters.TheVariants.{Plain, Brief}
-use Rattle.lexer.specs.Lexemes.{Lexemes, next, word, Alphabet, no_dots, briefs, letters, Class, line_feed, blank, number_sign, sign_byte, word_part, foreign_byte, stray_byte, class_of, begins_with_part, put_before, raw_lexemes, in_comment, lexemes_of}
-use Rattle.lexer.proofs.LexemeLemmas.{by_class, lexemes_at, part_at, class_part}
-use Rattle.text_laws.proofs.FirstWords.{comment_ends, comment_breaks, comment_goes}
+use Rattle.lexer.specs.Lexemes.{Lexemes, no_dots, briefs, letters, Class, line_feed, blank, number_sign, sign_byte, word_part, foreign_byte, stray_byte, class_of, raw_lexemes, in_comment, lexemes_of}
+use Rattle.lexer.proofs.LexemeLemmas.{by_class, lexemes_at}
+use Rattle.text_laws.proofs.FirstWords.{comment_ends, comment_breaks, comment_goes, word_begins}
 
 -- what stands first is a lexeme, or the end of the text
 abbrev IsFirst : Lexemes → Type 0
@@ -28,28 +29,6 @@ sign_too byte h = grind (arith, nat_tests)
 part_too : (byte : ℕ) → class_of Plain byte ≡ word_part → class_of Brief byte ≡ word_part
 part_too byte h = grind (arith, nat_tests)
 
--- parts of words are a word
-word_begins : (a : Alphabet) (bytes : List ℕ) (line : ℕ) → begins_with_part (letters a) bytes ≡ true → (w : List ℕ) × (at : ℕ) × (rest : Lexemes) × (raw_lexemes a line bytes ≡ next (word w) at rest)
-word_begins a [] line h = absurd (true≢false (sym h))
-word_begins a (byte ∷ bytes) line h = by (begins_with_part (letters a) bytes) refl (word_begins a bytes line)
-  where
-    is : raw_lexemes a line (byte ∷ bytes) ≡ part_at (begins_with_part (letters a) bytes) a line byte bytes
-    is = by_class word_part a line byte bytes (class_part (letters a) byte h)
-
-    by : (t : Bool) → begins_with_part (letters a) bytes ≡ t → (begins_with_part (letters a) bytes ≡ true → (w : List ℕ) × (at : ℕ) × (rest : Lexemes) × (raw_lexemes a line bytes ≡ next (word w) at rest))
-        → (w : List ℕ) × (at : ℕ) × (rest : Lexemes) × (raw_lexemes a line (byte ∷ bytes) ≡ next (word w) at rest)
-    by true e more =
-        let f = more e in
-        (byte ∷ f.0, f.1, f.2, is ∙ ap (λ (t : Bool). part_at t a line byte bytes) e ∙ ap (put_before byte) f.3)
-    by false e more = (byte ∷ [], line, _, is ∙ ap (λ (t : Bool). part_at t a line byte bytes) e)
-
-part_first : (line byte : ℕ) (bytes : List ℕ) → IsFirst (part_at (begins_with_part Brief bytes) briefs line byte bytes)
-part_first line byte bytes = by (begins_with_part Brief bytes) refl
-  where
-    by : (t : Bool) → begins_with_part Brief bytes ≡ t → IsFirst (part_at t briefs line byte bytes)
-    by true e = let f = word_begins briefs bytes line e in ap (λ (all : Lexemes). is_version (no_version (put_before byte all))) f.3
-    by false e = refl
-
 abbrev Both : List ℕ → ℕ → Type 0
 Both bytes line = (IsFirst (raw_lexemes no_dots line bytes) → IsFirst (raw_lexemes briefs line bytes)) × (IsFirst (in_comment no_dots line bytes) → IsFirst (in_comment briefs line bytes))
 
@@ -59,7 +38,7 @@ module _ (line byte : ℕ) (bytes : List ℕ) (below : (at : ℕ) → Both bytes
   outside blank e f = subst IsFirst (sym (by_class blank briefs line byte bytes (blank_too byte e))) ((below line).0 f)
   outside number_sign e f = subst IsFirst (sym (by_class number_sign briefs line byte bytes (number_too byte e))) ((below line).1 f)
   outside sign_byte e f = subst IsFirst (sym (by_class sign_byte briefs line byte bytes (sign_too byte e))) refl
-  outside word_part e f = subst IsFirst (sym (by_class word_part briefs line byte bytes (part_too byte e))) (part_first line byte bytes)
+  outside word_part e f = let b = word_begins briefs line byte bytes (part_too byte e) in ap (λ (all : Lexemes). is_version (no_version all)) b.3
   outside foreign_byte e f = absurd (true≢false (sym f))
   outside stray_byte e f = absurd (true≢false (sym f))
 
@@ -69,11 +48,8 @@ module _ (line byte : ℕ) (bytes : List ℕ) (below : (at : ℕ) → Both bytes
   inside false false e g f = absurd (true≢false (sym f ∙ ap (λ (all : Lexemes). is_version (no_version all)) (comment_breaks no_dots line byte bytes g)))
 
 both : (bytes : List ℕ) (line : ℕ) → Both bytes line
-both [] line = ((λ f. refl), (λ f. refl))
-both (byte ∷ bytes) line = (
-  (λ f. outside line byte bytes (both bytes) (class_of Plain byte) refl (subst IsFirst (by_class (class_of Plain byte) no_dots line byte bytes refl) f)),
-  inside line byte bytes (both bytes) (byte == 10) (nat_lt byte 128) refl refl,
-)
+both [] line = grind (arith, common_steps)
+both (byte ∷ bytes) line = grind (arith, common_steps, outside, by_class, inside, (both bytes))
 
 pub first_too : (text : List ℕ) → is_version (no_version (lexemes_of no_dots 1 text)) ≡ true → is_version (no_version (lexemes_of briefs 1 text)) ≡ true
 unfolding lexemes_of

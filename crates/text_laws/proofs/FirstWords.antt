@@ -4,7 +4,7 @@ use Rattle.std.specs.Prelude.{nat_lt}
 use Rattle.std.proofs.lemmas.Bool.Decides.{nat_tests}
 use Rattle.lexer.specs.declared.lexemes.Letters.{Letters}
 use Rattle.lexer.specs.declared.lexemes.Letters.TheVariants.{Plain, Dots, Brief}
-use Rattle.lexer.specs.Lexemes.{Lexemes, next, last, word, sign, Alphabet, no_dots, briefs, letters, Class, line_feed, blank, number_sign, sign_byte, word_part, foreign_byte, stray_byte, class_of, begins_with_part, put_before, raw_lexemes, in_comment, lexemes_of}
+use Rattle.lexer.specs.Lexemes.{Lexemes, next, word, Alphabet, no_dots, briefs, letters, Class, line_feed, blank, number_sign, sign_byte, word_part, foreign_byte, stray_byte, class_of, begins_with_part, put_before, raw_lexemes, in_comment, lexemes_of}
 use Rattle.lexer.proofs.LexemeLemmas.{by_class, lexemes_at, comment_at, part_at, class_part}
 
 -- the first lexeme is a word that begins with `b`
@@ -64,42 +64,20 @@ module _ (a : Alphabet) (line byte : ℕ) (bytes : List ℕ) where
 
 -- ---- words
 
--- parts of words are a word
-word_begins : (bytes : List ℕ) (line : ℕ) → begins_with_part Plain bytes ≡ true → (w : List ℕ) × (at : ℕ) × (rest : Lexemes) × (raw_lexemes no_dots line bytes ≡ next (word w) at rest)
-word_begins [] line h = absurd (true≢false (sym h))
-word_begins (byte ∷ bytes) line h = by (begins_with_part Plain bytes) refl (word_begins bytes line)
+-- parts of words are a word that begins with the first of them
+pub word_begins : (a : Alphabet) (line byte : ℕ) (bytes : List ℕ) → class_of (letters a) byte ≡ word_part → (w : List ℕ) × (at : ℕ) × (rest : Lexemes) × (raw_lexemes a line (byte ∷ bytes) ≡ next (word (byte ∷ w)) at rest)
+word_begins a line byte [] h = ([], line, _, by_class word_part a line byte [] h)
+word_begins a line byte (c ∷ bytes) h = by (begins_with_part (letters a) (c ∷ bytes)) refl (word_begins a line c bytes)
   where
-    is : raw_lexemes no_dots line (byte ∷ bytes) ≡ part_at (begins_with_part Plain bytes) no_dots line byte bytes
-    is = by_class word_part no_dots line byte bytes (class_part Plain byte h)
+    is : raw_lexemes a line (byte ∷ (c ∷ bytes)) ≡ part_at (begins_with_part (letters a) (c ∷ bytes)) a line byte (c ∷ bytes)
+    is = by_class word_part a line byte (c ∷ bytes) h
 
-    by : (t : Bool) → begins_with_part Plain bytes ≡ t → (begins_with_part Plain bytes ≡ true → (w : List ℕ) × (at : ℕ) × (rest : Lexemes) × (raw_lexemes no_dots line bytes ≡ next (word w) at rest))
-        → (w : List ℕ) × (at : ℕ) × (rest : Lexemes) × (raw_lexemes no_dots line (byte ∷ bytes) ≡ next (word w) at rest)
+    by : (t : Bool) → begins_with_part (letters a) (c ∷ bytes) ≡ t → (class_of (letters a) c ≡ word_part → (w : List ℕ) × (at : ℕ) × (rest : Lexemes) × (raw_lexemes a line (c ∷ bytes) ≡ next (word (c ∷ w)) at rest))
+        → (w : List ℕ) × (at : ℕ) × (rest : Lexemes) × (raw_lexemes a line (byte ∷ (c ∷ bytes)) ≡ next (word (byte ∷ w)) at rest)
     by true e more =
-        let f = more e in
-        (byte ∷ f.0, f.1, f.2, is ∙ ap (λ (t : Bool). part_at t no_dots line byte bytes) e ∙ ap (put_before byte) f.3)
-    by false e more = (byte ∷ [], line, raw_lexemes no_dots line bytes, is ∙ ap (λ (t : Bool). part_at t no_dots line byte bytes) e)
-
--- the first byte of a word is the part that goes onto it
-put_first : (byte : ℕ) (all : Lexemes) → FirstIs (put_before byte all) → byte ≡ 98
-put_first byte (next (word b) line rest) f = let e : next (word (byte ∷ b)) line rest ≡ next (word (98 ∷ f.0)) f.1 f.2 = f.3 in cc
-put_first byte (next (sign c) line rest) f = let e : next (sign c) line rest ≡ next (word (98 ∷ f.0)) f.1 f.2 = f.3 in absurd cc
-put_first byte (last ending line) f = let e : last ending line ≡ next (word (98 ∷ f.0)) f.1 f.2 = f.3 in absurd cc
-
-first_byte : (t : Bool) (line byte : ℕ) (bytes : List ℕ) → FirstIs (part_at t briefs line byte bytes) → byte ≡ 98
-first_byte true line byte bytes f = put_first byte (raw_lexemes briefs line bytes) f
-first_byte false line byte bytes f = let e : next (word (byte ∷ [])) line (raw_lexemes briefs line bytes) ≡ next (word (98 ∷ f.0)) f.1 f.2 = f.3 in cc
-
-plain_first : (line : ℕ) (bytes : List ℕ) → FirstIs (raw_lexemes no_dots line (98 ∷ bytes))
-plain_first line bytes = let f = word_begins (98 ∷ bytes) line refl in by (begins_with_part Plain bytes) refl
-  where
-    is : raw_lexemes no_dots line (98 ∷ bytes) ≡ part_at (begins_with_part Plain bytes) no_dots line 98 bytes
-    is = by_class word_part no_dots line 98 bytes refl
-
-    by : (t : Bool) → begins_with_part Plain bytes ≡ t → FirstIs (raw_lexemes no_dots line (98 ∷ bytes))
-    by true e =
-        let f = word_begins bytes line e in
-        (f.0, f.1, f.2, is ∙ ap (λ (t : Bool). part_at t no_dots line 98 bytes) e ∙ ap (put_before 98) f.3)
-    by false e = ([], line, raw_lexemes no_dots line bytes, is ∙ ap (λ (t : Bool). part_at t no_dots line 98 bytes) e)
+        let f = more (class_part (letters a) c e) in
+        (c ∷ f.0, f.1, f.2, is ∙ ap (λ (t : Bool). part_at t a line byte (c ∷ bytes)) e ∙ ap (put_before byte) f.3)
+    by false e more = ([], line, _, is ∙ ap (λ (t : Bool). part_at t a line byte (c ∷ bytes)) e)
 
 abbrev Both : List ℕ → ℕ → Type 0
 Both bytes line = (FirstIs (raw_lexemes briefs line bytes) → FirstIs (raw_lexemes no_dots line bytes)) × (FirstIs (in_comment briefs line bytes) → FirstIs (in_comment no_dots line bytes))
@@ -111,8 +89,11 @@ module _ (line byte : ℕ) (bytes : List ℕ) (below : (at : ℕ) → Both bytes
   outside number_sign e f = subst FirstIs (sym (by_class number_sign no_dots line byte bytes (number_same byte e))) ((below line).1 f)
   outside sign_byte e f = absurd (let g = f.3 in cc)
   outside word_part e f =
-      let same = first_byte (begins_with_part Brief bytes) line byte bytes f in
-      subst (λ (c : ℕ). FirstIs (raw_lexemes no_dots line (c ∷ bytes))) (sym same) (plain_first line bytes)
+      let b = word_begins briefs line byte bytes e in
+      let both : next (word (byte ∷ b.0)) b.1 b.2 ≡ next (word (98 ∷ f.0)) f.1 f.2 = sym b.3 ∙ by_class word_part briefs line byte bytes e ∙ f.3 in
+      let same : byte ≡ 98 = cc in
+      let p = word_begins no_dots line byte bytes (subst (λ (c : ℕ). class_of Plain c ≡ word_part) (sym same) refl) in
+      (p.0, p.1, p.2, p.3 ∙ ap (λ (c : ℕ). next (word (c ∷ p.0)) p.1 p.2) same)
   outside foreign_byte e f = absurd (let g = f.3 in cc)
   outside stray_byte e f = absurd (let g = f.3 in cc)
 

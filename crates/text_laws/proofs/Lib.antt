@@ -1,3 +1,4 @@
+pub mod Phrases
 pub mod Membership
 pub mod JoinedNames
 pub mod EntryNames

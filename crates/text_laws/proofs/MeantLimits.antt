@@ -1,16 +1,15 @@
 -- The plan that a sound draft means is within the limits, and a builder refuses none of its controllers.
-use Rattle.std.proofs.Common.{◌≡◌, ℕ, ◌+◌, ◌<◌, ◌≤◌, ◌⊎◌, inl, inr, List, [], ◌∷◌, ◌++◌, map, length, Option, Some, None, is_some, refl, ap, subst, arith}
-use Rattle.std.specs.Prelude.{if◌then◌else◌}
+use Rattle.std.proofs.Common.{◌≡◌, ℕ, ◌+◌, ◌<◌, ◌≤◌, ◌⊎◌, inl, inr, List, [], ◌∷◌, ◌++◌, map, length, None, refl, ap, subst, arith}
 use Rattle.std.specs.List.{sum_by}
 use Rattle.std.specs.Map.{keys_of}
 use Rattle.std.proofs.lemmas.Bool.{lt-leb}
 use Rattle.std.proofs.lemmas.List.{length_push}
 use Rattle.std.proofs.lemmas.List.Sums.{sum_by-cons, sum_by_push}
-use Rattle.plan_core.specs.Building.{number_of, numbers_of, controller_name_refusal, list_refusal, with_sender, with_controller, never_refusal, with_never}
+use Rattle.std.proofs.lemmas.Grind.{common_steps}
+use Rattle.plan_core.specs.Building.{number_of, numbers_of, controller_name_refusal, list_refusal, with_sender, with_controller}
 use Rattle.plan_core.specs.Contents.{Contents}
 use Rattle.plan_core.specs.Limits.{IsWithinLimits, sending_count}
 use Rattle.plan_core.specs.Names.{IsName}
-use Rattle.plan_core.specs.declared.builder.BuildError.{BuildError}
 use Rattle.plan_core.specs.declared.limits.TheConstants.{MOST_CONTROLLERS, MOST_SENDINGS}
 use Rattle.plan_core.proofs.BuildingLemmas.{controller_fits, limits-controller, limits-never, length-numbers_of}
 use Rattle.brief_text.specs.Drafts.{Draft}
@@ -77,11 +76,7 @@ parts_fit (p ∷ ps) plan limits once named listed new few room =
 
 pub pairs_fit : (pairs : List (List ℕ × List ℕ)) (plan : Contents) → IsWithinLimits plan → IsWithinLimits (with_pairs plan pairs)
 pairs_fit [] plan limits = limits
-pairs_fit (p ∷ pairs) plan limits = pairs_fit pairs (with_pair plan p) (by (never_refusal plan p.0 p.1) refl)
-  where
-    by : (o : Option BuildError) → never_refusal plan p.0 p.1 ≡ o → IsWithinLimits (if is_some o then plan else with_never plan p.0 p.1)
-    by None e = limits-never plan p.0 p.1 limits e
-    by (Some cause) e = limits
+pairs_fit (p ∷ pairs) plan limits = grind (arith, common_steps, limits-never, (pairs_fit pairs (with_pair plan p)))
 
 module _ (draft : Draft) (sound : Sound draft) where
   pub parts_added : NoneIsRefused draft.plan (parts draft) × IsWithinLimits (with_parts draft.plan (parts draft))

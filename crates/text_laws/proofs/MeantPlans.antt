@@ -1,11 +1,12 @@
 -- The controllers of a plan that is meant, and its `never` items.
 use Rattle.std.proofs.Common.{◌≡◌, ℕ, suc, ◌+◌, ◌⊎◌, inl, inr, ◌||◌, ◌&&◌, ◌==◌, Bool, true, false, List, [], ◌∷◌, ◌++◌, map, length, Option, Some, None, is_some, slice_get, refl, ap, sym, ◌∙◌, subst, arith}
 use Rattle.std.specs.Prelude.{if◌then◌else◌, unwrap_or}
-use Rattle.std.specs.List.{list_any, filter_map, cons_option, range_with_len}
+use Rattle.std.specs.List.{list_any, filter_map, range_with_len}
 use Rattle.std.specs.Str.{bytes_eq}
 use Rattle.std.proofs.lemmas.Bool.{and_parts, eqb-true, eq-eqb}
 use Rattle.std.proofs.lemmas.List.{append_assoc, append-nil}
 use Rattle.std.proofs.lemmas.List.Folds.{list_any-append}
+use Rattle.std.proofs.lemmas.Grind.{common_steps}
 use Rattle.message_tree.specs.Trees.{FrameTree}
 use Rattle.plan_core.specs.Building.{number_of, with_sender, with_controller, two_refusal, never_refusal, controller_number, with_never}
 use Rattle.plan_core.specs.Contents.{Contents}
@@ -26,37 +27,23 @@ entry messages part = (part_name part, filter_map (λ name. number_of name messa
 
 pub parts_are : (ps : List Part) (plan : Contents) → with_parts plan ps ≡ record plan { controllers = plan.controllers ++ map (entry plan.messages) ps }
 unfolding with_sender
-parts_are [] plan = ap (λ (cs : List (List ℕ × List ℕ)). record plan { controllers = cs }) (sym (append-nil plan.controllers))
-parts_are (p ∷ ps) plan =
-    parts_are ps (with_controller plan (part_name p) p.messages)
-    ∙ ap (λ (cs : List (List ℕ × List ℕ)). record plan { controllers = cs }) (append_assoc plan.controllers (entry plan.messages p ∷ []) (map (entry plan.messages) ps))
+parts_are [] plan = grind (arith, common_steps, append-nil)
+parts_are (p ∷ ps) plan = grind (arith, common_steps, append_assoc, (parts_are ps (with_controller plan (part_name p) p.messages)))
 
 -- ---- `never` items
 
 module _ (plan : Contents) (pair : List ℕ × List ℕ) where
   pub pair_controllers : (with_pair plan pair).controllers ≡ plan.controllers
   unfolding with_never
-  pair_controllers = by (never_refusal plan pair.0 pair.1)
-    where
-      by : (o : Option BuildError) → (if is_some o then plan else with_never plan pair.0 pair.1).controllers ≡ plan.controllers
-      by None = refl
-      by (Some cause) = refl
+  pair_controllers = grind (arith, common_steps)
 
   pub pair_messages : (with_pair plan pair).messages ≡ plan.messages
   unfolding with_never
-  pair_messages = by (never_refusal plan pair.0 pair.1)
-    where
-      by : (o : Option BuildError) → (if is_some o then plan else with_never plan pair.0 pair.1).messages ≡ plan.messages
-      by None = refl
-      by (Some cause) = refl
+  pair_messages = grind (arith, common_steps)
 
   pair_kept : (i j : ℕ) → is_never plan i j ≡ true → is_never (with_pair plan pair) i j ≡ true
   unfolding with_never
-  pair_kept i j h = by (never_refusal plan pair.0 pair.1)
-    where
-      by : (o : Option BuildError) → is_never (if is_some o then plan else with_never plan pair.0 pair.1) i j ≡ true
-      by None = list_any-append (names_both i j) plan.nevers ((controller_number plan pair.0, controller_number plan pair.1) ∷ []) ∙ or_first (list_any (names_both i j) plan.nevers) _ h
-      by (Some cause) = h
+  pair_kept i j h = grind (arith, common_steps, list_any-append, or_first)
 
   -- the plan keeps these two apart from now on
   pair_added : (i j : ℕ) → number_of pair.0 plan.controllers ≡ Some i → number_of pair.1 plan.controllers ≡ Some j → (i ≡ j → ⊥) → is_never (with_pair plan pair) i j ≡ true
@@ -145,12 +132,8 @@ pairs_kept (p ∷ pairs) plan i j h = pairs_kept pairs (with_pair plan p) i j (p
 pub pairs_added : (pairs : List (List ℕ × List ℕ)) (plan : Contents) (a b : List ℕ) (i j : ℕ) → In (two a b) pairs → number_of a plan.controllers ≡ Some i → number_of b plan.controllers ≡ Some j → (i ≡ j → ⊥)
     → is_never (with_pairs plan pairs) i j ≡ true
 pairs_added [] plan a b i j h first second differ = absurd h
-pairs_added (p ∷ pairs) plan a b i j (inl e) first second differ =
-    pairs_kept pairs (with_pair plan p) i j
-    (pair_added plan p i j (ap (λ (q : List ℕ × List ℕ). number_of q.0 plan.controllers) (sym e) ∙ first) (ap (λ (q : List ℕ × List ℕ). number_of q.1 plan.controllers) (sym e) ∙ second) differ)
-pairs_added (p ∷ pairs) plan a b i j (inr h) first second differ =
-    pairs_added pairs (with_pair plan p) a b i j h
-    (ap (λ (cs : List (List ℕ × List ℕ)). number_of a cs) (pair_controllers plan p) ∙ first) (ap (λ (cs : List (List ℕ × List ℕ)). number_of b cs) (pair_controllers plan p) ∙ second) differ
+pairs_added (p ∷ pairs) plan a b i j (inl e) first second differ = grind (arith, common_steps, pairs_kept, pair_added)
+pairs_added (p ∷ pairs) plan a b i j (inr h) first second differ = grind (arith, common_steps, pair_controllers, (pairs_added pairs (with_pair plan p) a b i j h))
 
 -- a pair with these names
 abbrev pub Asked : Contents → List (List ℕ × List ℕ) → ℕ → ℕ → Type 0
@@ -158,33 +141,10 @@ Asked plan pairs i j = (pair : List ℕ × List ℕ) × In pair pairs × (Named 
 
 pub pairs_from : (pairs : List (List ℕ × List ℕ)) (plan : Contents) (i j : ℕ) → is_never (with_pairs plan pairs) i j ≡ true → (is_never plan i j ≡ true) ⊎ Asked plan pairs i j
 pairs_from [] plan i j h = inl h
-pairs_from (p ∷ pairs) plan i j h = by (pairs_from pairs (with_pair plan p) i j h)
-  where
-    here : (is_never plan i j ≡ true) ⊎ (Named plan p i j ⊎ Named plan p j i) → (is_never plan i j ≡ true) ⊎ Asked plan (p ∷ pairs) i j
-    here (inl k) = inl k
-    here (inr k) = inr (p, inl refl, k)
-
-    moved : (q : List ℕ × List ℕ) (a b : ℕ) → Named (with_pair plan p) q a b → Named plan q a b
-    moved q a b k = (subst (λ (cs : List (List ℕ × List ℕ)). number_of q.0 cs ≡ Some a) (pair_controllers plan p) k.0, subst (λ (cs : List (List ℕ × List ℕ)). number_of q.1 cs ≡ Some b) (pair_controllers plan p) k.1)
-
-    by : (is_never (with_pair plan p) i j ≡ true) ⊎ Asked (with_pair plan p) pairs i j → (is_never plan i j ≡ true) ⊎ Asked plan (p ∷ pairs) i j
-    by (inl k) = here (pair_from plan p i j k)
-    by (inr k) = inr (k.0, inr k.1, elim k.2 [ inl a ↦ inl (moved k.0 i j a) | inr b ↦ inr (moved k.0 j i b) ])
+pairs_from (p ∷ pairs) plan i j h = grind (arith, common_steps, pair_controllers, pair_from, (pairs_from pairs (with_pair plan p) i j h))
 
 pub never_turned : (plan : Contents) (i j : ℕ) → is_never plan i j ≡ is_never plan j i
-never_turned plan i j = by plan.nevers
-  where
-    either : (a b : Bool) → (a || b) ≡ (b || a)
-    either true true = refl
-    either true false = refl
-    either false true = refl
-    either false false = refl
-
-    by : (nevers : List (ℕ × ℕ)) → list_any (names_both i j) nevers ≡ list_any (names_both j i) nevers
-    by [] = refl
-    by (n ∷ nevers) =
-        ap (λ (b : Bool). b || list_any (names_both i j) nevers) (either ((n.0 == i) && (n.1 == j)) ((n.0 == j) && (n.1 == i)))
-        ∙ ap (λ (b : Bool). names_both j i n || b) (by nevers)
+never_turned plan i j = grind (arith, common_steps)
 
 -- ---- participants
 
@@ -220,10 +180,4 @@ sending_at plan p c k at = by (in_either (Sending c k) (sendings_from 0 plan.con
 
 pub from_numbers : (messages : List (List ℕ × FrameTree)) (names : List (List ℕ)) (k : ℕ) → In k (filter_map (λ name. number_of name messages) names) → (name : List ℕ) × In name names × (number_of name messages ≡ Some k)
 from_numbers messages [] k h = absurd h
-from_numbers messages (n ∷ names) k h = by (number_of n messages) refl h (from_numbers messages names k)
-  where
-    by : (o : Option ℕ) → number_of n messages ≡ o → In k (cons_option o (filter_map (λ name. number_of name messages) names)) → (In k (filter_map (λ name. number_of name messages) names) → (name : List ℕ) × In name names × (number_of name messages ≡ Some k))
-        → (name : List ℕ) × In name (n ∷ names) × (number_of name messages ≡ Some k)
-    by None e g later = let r = later g in (r.0, inr r.1, r.2)
-    by (Some j) e (inl same) later = (n, inl refl, e ∙ ap (λ (i : ℕ). Some i) (sym same))
-    by (Some j) e (inr g) later = let r = later g in (r.0, inr r.1, r.2)
+from_numbers messages (n ∷ names) k h = grind (arith, common_steps, (from_numbers messages names k))

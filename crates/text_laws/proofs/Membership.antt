@@ -3,6 +3,7 @@ use Rattle.std.proofs.Common.{◌≡◌, ℕ, zero, suc, ◌+◌, ◌<◌, Bool,
 use Rattle.std.specs.List.{list_any, filter, flat_map, Contains, slice_index_or, count_by}
 use Rattle.std.specs.Str.{bytes_eq}
 use Rattle.std.proofs.lemmas.List.Sums.{sum_by-cons}
+use Rattle.std.proofs.lemmas.Grind.{common_steps}
 use Rattle.plan_core.proofs.BuildingLemmas.{bytes_eq-same, same-bytes_eq}
 
 abbrev pub In : {A : Type 0} → A → List A → Type 0
@@ -69,19 +70,11 @@ module _ {A : Type 0} where
       new h = elim (in_either x xs ys h) [ inl a ↦ one.0 a | inr b ↦ apart x (inl refl) b ]
 
   pub distinct_push : (xs : List A) (x : A) → Distinct xs → (In x xs → ⊥) → Distinct (xs ++ x ∷ [])
-  distinct_push xs x one new = distinct_both xs (x ∷ []) one ((λ h. h), tt) apart
-    where
-      apart : (y : A) → In y xs → In y (x ∷ []) → ⊥
-      apart y h (inl e) = new (subst (λ (z : A). In z xs) e h)
-      apart y h (inr none) = none
+  distinct_push xs x one new = grind (arith, common_steps, distinct_both)
 
   pub any_in : (p : A → Bool) (xs : List A) → list_any p xs ≡ true → (x : A) × In x xs × (p x ≡ true)
   any_in p [] h = absurd (true≢false (sym h))
-  any_in p (x ∷ xs) h = by (or_either (p x) (list_any p xs) h) (any_in p xs)
-    where
-      by : (p x ≡ true) ⊎ (list_any p xs ≡ true) → (list_any p xs ≡ true → (y : A) × In y xs × (p y ≡ true)) → (y : A) × In y (x ∷ xs) × (p y ≡ true)
-      by (inl here) later = (x, inl refl, here)
-      by (inr there) later = let f = later there in (f.0, inr f.1, f.2)
+  any_in p (x ∷ xs) h = grind (arith, common_steps, or_either, (any_in p xs))
 
   pub in_any : (p : A → Bool) (xs : List A) (x : A) → In x xs → p x ≡ true → list_any p xs ≡ true
   in_any p [] x h is = absurd h
@@ -90,30 +83,15 @@ module _ {A : Type 0} where
 
   pub in_filter : (p : A → Bool) (xs : List A) (x : A) → In x xs → p x ≡ true → In x (filter p xs)
   in_filter p [] x h is = absurd h
-  in_filter p (y ∷ xs) x h is = by (p y) refl h (λ later. in_filter p xs x later is)
-    where
-      by : (t : Bool) → p y ≡ t → In x (y ∷ xs) → (In x xs → In x (filter p xs)) → In x (cond t (y ∷ filter p xs) (filter p xs))
-      by true e (inl here) others = inl here
-      by true e (inr later) others = inr (others later)
-      by false e (inl here) others = absurd (true≢false (sym is ∙ ap p here ∙ e))
-      by false e (inr later) others = others later
+  in_filter p (y ∷ xs) x h is = grind (arith, common_steps, (in_filter p xs x))
 
   pub from_filter : (p : A → Bool) (xs : List A) (x : A) → In x (filter p xs) → In x xs × (p x ≡ true)
   from_filter p [] x h = absurd h
-  from_filter p (y ∷ xs) x h = by (p y) refl h (from_filter p xs x)
-    where
-      by : (t : Bool) → p y ≡ t → In x (cond t (y ∷ filter p xs) (filter p xs)) → (In x (filter p xs) → In x xs × (p x ≡ true)) → In x (y ∷ xs) × (p x ≡ true)
-      by true e (inl here) others = (inl here, ap p here ∙ e)
-      by true e (inr later) others = let o = others later in (inr o.0, o.1)
-      by false e later others = let o = others later in (inr o.0, o.1)
+  from_filter p (y ∷ xs) x h = grind (arith, common_steps, (from_filter p xs x))
 
   pub distinct_filter : (p : A → Bool) (xs : List A) → Distinct xs → Distinct (filter p xs)
   distinct_filter p [] one = tt
-  distinct_filter p (x ∷ xs) one = by (p x) (distinct_filter p xs one.1)
-    where
-      by : (t : Bool) → Distinct (filter p xs) → Distinct (cond t (x ∷ filter p xs) (filter p xs))
-      by true rest = ((λ h. one.0 (from_filter p xs x h).0), rest)
-      by false rest = rest
+  distinct_filter p (x ∷ xs) one = grind (arith, common_steps, from_filter, (distinct_filter p xs one.1))
 
   pub in_contained : (xs : List A) (x : A) → Contains xs x → In x xs
   in_contained xs x c = at xs c.0 c.1 c.2
@@ -217,14 +195,8 @@ module _ {A : Type 0} (p : A → Bool) where
 
   pub count_none : (xs : List A) → list_any p xs ≡ false → count_by p xs ≡ 0
   count_none [] none = refl
-  count_none (x ∷ xs) none =
-      let parts = or_neither (p x) (list_any p xs) none in
-      count-cons x xs ∙ ap (λ (t : Bool). cond t 1 0 + count_by p xs) parts.0 ∙ omega (arith, count_none xs parts.1)
+  count_none (x ∷ xs) none = grind (arith, common_steps, or_neither, count-cons, (count_none xs))
 
   pub count_one : (xs : List A) → AtMostOne xs → list_any p xs ≡ true → count_by p xs ≡ 1
   count_one [] few h = absurd (true≢false (sym h))
-  count_one (x ∷ xs) few h = count-cons x xs ∙ by (p x) refl h (count_one xs few.1)
-    where
-      by : (t : Bool) → p x ≡ t → (t || list_any p xs) ≡ true → (list_any p xs ≡ true → count_by p xs ≡ 1) → cond t 1 0 + count_by p xs ≡ 1
-      by true is some later = omega (arith, count_none xs (few.0 is))
-      by false is some later = omega (arith, later some)
+  count_one (x ∷ xs) few h = grind (arith, common_steps, count-cons, count_none, (count_one xs few.1))

@@ -1,9 +1,10 @@
 -- What stands at which place of a list.
-use Rattle.std.proofs.Common.{◌≡◌, ℕ, zero, suc, ◌⊎◌, inl, inr, List, [], ◌∷◌, map, Option, Some, None, slice_get, refl, ap, sym, ◌∙◌, subst}
+use Rattle.std.proofs.Common.{◌≡◌, ℕ, zero, suc, ◌⊎◌, inl, inr, List, [], ◌∷◌, map, Option, Some, None, slice_get, refl, ap, sym, ◌∙◌, subst, arith}
 use Rattle.std.specs.Map.{keys_of}
 use Rattle.std.specs.Str.{bytes_eq}
 use Rattle.std.proofs.lemmas.List.Quantifiers.{position-Some}
 use Rattle.std.proofs.lemmas.Option.{get_or_from_slice_get}
+use Rattle.std.proofs.lemmas.Grind.{common_steps}
 use Rattle.plan_core.specs.Building.{number_of}
 use Rattle.plan_core.proofs.BuildingLemmas.{same-bytes_eq}
 use Rattle.plan_core.proofs.ListLemmas.{some_at}
@@ -58,10 +59,7 @@ module _ {A : Type 0} where
   in_between xs ys x y h g = in_flat (λ v. map (λ w. (v, w)) ys) xs x (x, y) h (in_map (λ w. (x, w)) ys y g)
 
   pub from_between : (xs ys : List A) (pair : A × A) → In pair (pairs_between xs ys) → In pair.0 xs × In pair.1 ys
-  from_between xs ys pair h =
-      let f = from_flat (λ v. map (λ w. (v, w)) ys) xs pair h in
-      let g = from_map (λ w. (f.0, w)) ys pair f.2 in
-      (subst (λ (v : A). In v xs) (sym (ap (λ (p : A × A). p.0) g.2)) f.1, subst (λ (w : A). In w ys) (sym (ap (λ (p : A × A). p.1) g.2)) g.1)
+  from_between xs ys pair h = grind (arith, common_steps, from_flat, from_map)
 
 module _ {A B : Type 0} (f : A → B) where
   pub slice_map : (xs : List A) (k : ℕ) (x : A) → slice_get xs k ≡ Some x → slice_get (map f xs) k ≡ Some (f x)

@@ -1,8 +1,9 @@
 -- Each message that a controller lists has one participant, and there are no others but interrupts.
 use Rattle.std.proofs.Common.{◌≡◌, ℕ, zero, suc, ◌+◌, ◌⊎◌, inl, inr, Bool, true, false, cond, List, [], ◌∷◌, map, length, Option, Some, None, slice_get, refl, ap, sym, ◌∙◌, subst, arith, true≢false}
-use Rattle.std.specs.List.{list_any, count_by, filter_map, cons_option, range_with_len}
+use Rattle.std.specs.List.{list_any, count_by, filter_map, range_with_len}
 use Rattle.std.specs.Map.{keys_of}
 use Rattle.std.proofs.lemmas.Option.{slice_get_within}
+use Rattle.std.proofs.lemmas.Grind.{common_steps}
 use Rattle.message_tree.specs.Trees.{FrameTree}
 use Rattle.plan_core.specs.Building.{number_of}
 use Rattle.plan_core.specs.Contents.{Contents}
@@ -66,15 +67,8 @@ module _ {A : Type 0} where
 
 to_sendings : (a : ℕ) (cs : List (List ℕ × List ℕ)) (j k : ℕ) (e : List ℕ × List ℕ) → slice_get cs j ≡ Some e → In k e.1 → In (Sending (a + j) k) (sendings_from a cs)
 to_sendings a [] j k e at h = absurd cc
-to_sendings a (c ∷ cs) zero k e at h =
-    let same : c ≡ e = cc in
-    let none : a ≡ a + 0 = omega arith in
-    in_left (Sending (a + 0) k) (map (Sending a) c.1) (sendings_from (a + 1) cs)
-    (subst (λ (n : ℕ). In (Sending n k) (map (Sending a) c.1)) none (in_map (Sending a) c.1 k (subst (λ (d : List ℕ × List ℕ). In k d.1) (sym same) h)))
-to_sendings a (c ∷ cs) (suc j) k e at h =
-    let next : a + 1 + j ≡ a + suc j = omega arith in
-    in_right (Sending (a + suc j) k) (map (Sending a) c.1) (sendings_from (a + 1) cs)
-    (subst (λ (n : ℕ). In (Sending n k) (sendings_from (a + 1) cs)) next (to_sendings (a + 1) cs j k e at h))
+to_sendings a (c ∷ cs) zero k e at h = grind (arith, common_steps, in_left, in_map)
+to_sendings a (c ∷ cs) (suc j) k e at h = grind (arith, common_steps, in_right, (to_sendings (a + 1) cs j k e at h))
 
 has_sending : (plan : Contents) (c k : ℕ) (e : List ℕ × List ℕ) → slice_get plan.controllers c ≡ Some e → In k e.1 → (p : ℕ) × (slice_get (participants_of plan) p ≡ Some (Sending c k))
 has_sending plan c k e at h =
@@ -84,13 +78,7 @@ has_sending plan c k e at h =
 
 in_numbers : (messages : List (List ℕ × FrameTree)) (names : List (List ℕ)) (name : List ℕ) (k : ℕ) → In name names → number_of name messages ≡ Some k → In k (filter_map (λ n. number_of n messages) names)
 in_numbers messages [] name k h e = absurd h
-in_numbers messages (n ∷ names) name k h e = by (number_of n messages) refl h (λ later. in_numbers messages names name k later e)
-  where
-    by : (o : Option ℕ) → number_of n messages ≡ o → In name (n ∷ names) → (In name names → In k (filter_map (λ m. number_of m messages) names)) → In k (cons_option o (filter_map (λ m. number_of m messages) names))
-    by None is (inl same) others = let none = sym e ∙ ap (λ (m : List ℕ). number_of m messages) same ∙ is in absurd cc
-    by None is (inr later) others = others later
-    by (Some j) is (inl same) others = let found : Some k ≡ Some j = sym e ∙ ap (λ (m : List ℕ). number_of m messages) same ∙ is in inl cc
-    by (Some j) is (inr later) others = inr (others later)
+in_numbers messages (n ∷ names) name k h e = grind (arith, common_steps, (in_numbers messages names name k))
 
 module _ (draft : Draft) (sound : Sound draft) where
   owner_is : (c : List ℕ × List (List ℕ)) → In c draft.controllers → (v : Part) → In v (parts_of draft c) → v.side.controller ≡ c.0
@@ -133,11 +121,7 @@ module _ (draft : Draft) (sound : Sound draft) where
       )
     where
       some_one : count_by (sends m) (parts_of draft c) ≡ 1 → list_any (sends m) (parts_of draft c) ≡ true
-      some_one one = by (true_or_false (list_any (sends m) (parts_of draft c)))
-        where
-          by : (list_any (sends m) (parts_of draft c) ≡ true) ⊎ (list_any (sends m) (parts_of draft c) ≡ false) → list_any (sends m) (parts_of draft c) ≡ true
-          by (inl e) = e
-          by (inr e) = absurd (let none = count_none (sends m) (parts_of draft c) e in omega (arith, none, one))
+      some_one one = grind (arith, common_steps, true_or_false, count_none)
 
   -- what a participant sends is listed
   pub listed_by : (p : ℕ) (x : Sent) → SendsFor draft p x → (c : List ℕ × List (List ℕ)) × In c draft.controllers × (c.0 ≡ x.controller) × In x.message c.1

@@ -1,6 +1,6 @@
 -- Each item that fits leaves a sound draft sound.
 use Rattle.std.proofs.Common.{◌≡◌, ℕ, suc, ◌+◌, ◌*◌, ◌^◌, ◌<◌, ◌≤◌, ◌⊎◌, inl, inr, ◌&&◌, Bool, true, false, not, cond, List, [], ◌∷◌, ◌++◌, map, length, Option, Some, None, is_some, refl, ap, sym, ◌∙◌, subst, arith, true≢false}
-use Rattle.std.specs.Prelude.{if◌then◌else◌, nat_lt, nat_le, unwrap_or}
+use Rattle.std.specs.Prelude.{if◌then◌else◌, nat_lt}
 use Rattle.std.specs.List.{list_any, filter, flat_map}
 use Rattle.std.specs.Map.{lookup, keys_of}
 use Rattle.std.specs.Str.{bytes_eq}
@@ -8,6 +8,7 @@ use Rattle.std.proofs.lemmas.Bool.{and_parts, leb-false, ltb-false}
 use Rattle.std.proofs.lemmas.List.{append_assoc, length-append, append-nil, map-append}
 use Rattle.std.proofs.lemmas.List.Concat.{flat_map-append}
 use Rattle.std.proofs.lemmas.List.Sums.{sum_by_push}
+use Rattle.std.proofs.lemmas.Grind.{common_steps}
 use Rattle.message_tree.specs.Patterns.{address_bits}
 use Rattle.message_tree.specs.declared.bits.Address.{Address}
 use Rattle.message_tree.specs.declared.bits.Bit.{Bit}
@@ -21,8 +22,8 @@ use Rattle.plan_core.proofs.BuildingLemmas.{passes, same-bytes_eq, limits-interr
 use Rattle.brief_text.specs.declared.syntax.Lengths.{Lengths}
 use Rattle.brief_text.specs.Drafts.{Draft, members_or, stands_for, address_said, number_said, same_label, same_side, is_new_label, with_label, with_item}
 use Rattle.brief_text.specs.Fitting.{ListFits, Fits}
-use Rattle.brief_text.specs.Judging.{is_family, is_message, taken_names, is_taken, controller_refusal_of, all_of, have_one_of, sendings, listing_refusal, lists_one, is_side, part_refusal, first_refusal, second_refusal, are_sides}
-use Rattle.brief_text.specs.Splitting.{side_name, labels_of, split_by, parts_of, parts}
+use Rattle.brief_text.specs.Judging.{is_family, is_message, taken_names, is_taken, controller_refusal_of, all_of, have_one_of, sendings, listing_refusal, is_side, part_refusal, first_refusal, second_refusal}
+use Rattle.brief_text.specs.Splitting.{side_name, labels_of, parts}
 use Rattle.brief_text.specs.Trees.{Side, device, byte, controller, interrupt, never_both, Said}
 use Rattle.brief_text.specs.Words.{known_number}
 use Rattle.text_laws.proofs.EntryNames.{has_name_in, keys_both, in_keys_left, in_keys_either, lookup_in}
@@ -52,65 +53,28 @@ unfolding address_bits
 seven a = refl
 
 number_small : (draft : Draft) (to : Said Address) → is_some (known_number 0 (address_bits (address_said draft to))) ≡ true → number_said draft to < 128
-number_small draft to some = by (known_number 0 (address_bits (address_said draft to))) refl some
-  where
-    by : (o : Option ℕ) → known_number 0 (address_bits (address_said draft to)) ≡ o → is_some o ≡ true → unwrap_or o 0 < 128
-    by None e h = absurd (true≢false (sym h))
-    by (Some k) e h =
-        let below = known_below (address_bits (address_said draft to)) 0 k e in
-        subst (λ (n : ℕ). k < (0 + 1) * 2 ^ n) (seven (address_said draft to)) below
+number_small draft to some = grind (arith, common_steps, known_below, seven)
 
 pub sound_interrupt : (draft : Draft) (name : List ℕ) (to : Said Address) → Sound draft → IsName name → Fits draft (interrupt name to) → Sound (with_item draft (interrupt name to))
 unfolding with_item with_interrupt parts
-sound_interrupt draft name to sound is fits = record {
-  limits = limits-interrupt draft.plan name (number_said draft to) sound.limits is (number_small draft to fits.2) fits.0;
-  no_controllers = sound.no_controllers;
-  no_nevers = sound.no_nevers;
-  families = record { apart = sound.families.apart; one = sound.families.one; known = sound.families.known; once = sound.families.once };
-  controllers = record { keys = sound.controllers.keys; named = sound.controllers.named; listed = λ c h. record { once = (sound.controllers.listed c h).once; known = (sound.controllers.listed c h).known }; few = sound.controllers.few };
-  labels = record { once = sound.labels.once; each = λ s h. let l = sound.labels.each s h in record { named = l.named; new = l.new; label = l.label; is = l.is; known = l.known; owned = l.owned } };
-  few_parts = sound.few_parts;
-  nevers = sound.nevers;
-}
+sound_interrupt draft name to sound is fits = grind (arith, common_steps, limits-interrupt, number_small)
 
 -- ---- devices and bytes
 
 pub sound_device : (draft : Draft) (name : List ℕ) (address : Address) → Sound draft → Sound (with_item draft (device name address))
 unfolding with_item parts
-sound_device draft name address sound = record {
-  limits = sound.limits;
-  no_controllers = sound.no_controllers;
-  no_nevers = sound.no_nevers;
-  families = sound.families;
-  controllers = sound.controllers;
-  labels = sound.labels;
-  few_parts = sound.few_parts;
-  nevers = sound.nevers;
-}
+sound_device draft name address sound = grind (arith, common_steps)
 
 pub sound_byte : (draft : Draft) (name : List ℕ) (bits : Pattern) → Sound draft → Sound (with_item draft (byte name bits))
 unfolding with_item parts
-sound_byte draft name bits sound = record {
-  limits = sound.limits;
-  no_controllers = sound.no_controllers;
-  no_nevers = sound.no_nevers;
-  families = sound.families;
-  controllers = sound.controllers;
-  labels = sound.labels;
-  few_parts = sound.few_parts;
-  nevers = sound.nevers;
-}
+sound_byte draft name bits sound = grind (arith, common_steps)
 
 -- ---- controllers
 
 module _ (draft : Draft) (sound : Sound draft) where
   -- what a name stands for, where it may be listed
   stands_once : (name : List ℕ) → Distinct (stands_for draft name)
-  stands_once name = by (family_of name draft.families) refl
-    where
-      by : (o : Option Lengths) → family_of name draft.families ≡ o → Distinct (members_or name o)
-      by None e = ((λ h. h), tt)
-      by (Some r) e = sound.families.once name r e
+  stands_once name = grind (arith, common_steps, sound.families.once)
 
   stands_known : (name : List ℕ) → is_message draft name ≡ true → (m : List ℕ) → In m (stands_for draft name) → In m (keys_of draft.plan.messages)
   stands_known name known m h = by (family_of name draft.families) refl h
@@ -166,10 +130,7 @@ module _ (draft : Draft) (sound : Sound draft) where
 
     free : (is_taken draft name ≡ false) × (length (parts draft) < MOST_CONTROLLERS)
     unfolding controller_refusal_of
-    free =
-        let first = passes (is_taken draft name) Twice _ fits.0 in
-        let second = passes (nat_le MOST_CONTROLLERS (length (parts draft))) TooMany _ first.1 in
-        (first.0, leb-false MOST_CONTROLLERS (length (parts draft)) second.0)
+    free = grind (arith, common_steps, passes, leb-false)
 
     no_key : In name (keys_of draft.controllers) → ⊥
     no_key h = not_both (is_taken draft name) (in_among name (taken_names draft) (in_left name (keys_of draft.controllers) (map side_name draft.labels) h)) free.0
@@ -193,11 +154,7 @@ module _ (draft : Draft) (sound : Sound draft) where
 
     one_part : length (parts extended) ≡ length (parts draft) + 1
     unfolding parts
-    one_part =
-        let both = flat_map-append (parts_of draft) draft.controllers ((name, listed) ∷ []) in
-        let single = ap (λ (labels : List Side). length (split_by draft labels name listed ++ [])) unlabelled in
-        let sizes = length-append (flat_map (parts_of draft) draft.controllers) (parts_of draft (name, listed) ++ []) in
-        ap length both ∙ omega (arith, single, sizes)
+    one_part = grind (arith, common_steps, flat_map-append, unlabelled, length-append)
 
     keys_are : keys_of extended.controllers ≡ keys_of draft.controllers ++ name ∷ []
     keys_are = keys_both draft.controllers ((name, listed) ∷ [])
@@ -260,13 +217,7 @@ module _ (draft : Draft) (sound : Sound draft) where
   module _ (side : Side) (formed : Formed side) (stands : is_side draft side ≡ true) where
     -- the controller lists one of the messages of the label
     found : (listed : List (List ℕ)) × (lookup (bytes_eq side.controller) draft.controllers ≡ Some listed) × ((label : List ℕ) → side.label ≡ Some label → have_one_of listed (stands_for draft label) ≡ true)
-    found = by (lookup (bytes_eq side.controller) draft.controllers) side.label refl refl stands
-      where
-        by : (o : Option (List (List ℕ))) (l : Option (List ℕ)) → lookup (bytes_eq side.controller) draft.controllers ≡ o → side.label ≡ l → lists_one draft o l ≡ true
-            → (listed : List (List ℕ)) × (lookup (bytes_eq side.controller) draft.controllers ≡ Some listed) × ((label : List ℕ) → side.label ≡ Some label → have_one_of listed (stands_for draft label) ≡ true)
-        by None l e f h = absurd (true≢false (sym h))
-        by (Some listed) None e f h = (listed, e, λ label is. let none = sym f ∙ is in absurd cc)
-        by (Some listed) (Some own) e f h = (listed, e, λ label is. let same : some own ≡ some label = sym f ∙ is in let name : own ≡ label = cc in subst (λ (x : List ℕ). have_one_of listed (stands_for draft x) ≡ true) name h)
+    found = grind (arith, common_steps)
 
     owner : In side.controller (keys_of draft.controllers)
     owner = in_map (λ (c : List ℕ × List (List ℕ)). c.0) draft.controllers (side.controller, found.0) (lookup_in side.controller draft.controllers found.0 found.1)
@@ -360,62 +311,24 @@ module _ (draft : Draft) (sound : Sound draft) where
 
 -- where a side stays known
 labels_more : (draft : Draft) (side other : Side) → SideSound (keys_of draft.controllers) draft.labels other → SideSound (keys_of (with_label draft side).controllers) (with_label draft side).labels other
-labels_more draft side other known = by (is_new_label draft side) known.1
-  where
-    by : (b : Bool) → (other.label ≡ None) ⊎ In other draft.labels
-        → SideSound (keys_of (if b then record draft { labels = draft.labels ++ side ∷ [] } else draft).controllers) (if b then record draft { labels = draft.labels ++ side ∷ [] } else draft).labels other
-    by true (inl none) = (known.0, inl none)
-    by true (inr there) = (known.0, inr (in_left other draft.labels (side ∷ []) there))
-    by false which = (known.0, which)
+labels_more draft side other known = grind (arith, common_steps, in_left)
 
 same_keys : (draft : Draft) (side : Side) → keys_of (with_label draft side).controllers ≡ keys_of draft.controllers
-same_keys draft side = by (is_new_label draft side)
-  where
-    by : (b : Bool) → keys_of (if b then record draft { labels = draft.labels ++ side ∷ [] } else draft).controllers ≡ keys_of draft.controllers
-    by true = refl
-    by false = refl
-
-same_nevers : (draft : Draft) (side : Side) → (with_label draft side).nevers ≡ draft.nevers
-same_nevers draft side = by (is_new_label draft side)
-  where
-    by : (b : Bool) → (if b then record draft { labels = draft.labels ++ side ∷ [] } else draft).nevers ≡ draft.nevers
-    by true = refl
-    by false = refl
+same_keys draft side = grind (arith, common_steps)
 
 sound_nevers : (draft : Draft) (nevers : List (Side × Side)) → Sound draft
     → ((never : Side × Side) → In never nevers → SideSound (keys_of draft.controllers) draft.labels never.0 × SideSound (keys_of draft.controllers) draft.labels never.1) → Sound (record draft { nevers = nevers })
 unfolding parts
-sound_nevers draft nevers sound each = record {
-  limits = sound.limits;
-  no_controllers = sound.no_controllers;
-  no_nevers = sound.no_nevers;
-  families = sound.families;
-  controllers = sound.controllers;
-  labels = sound.labels;
-  few_parts = sound.few_parts;
-  nevers = each;
-}
+sound_nevers draft nevers sound each = grind (arith, common_steps)
 
 -- why a side is not refused
 first_free : (draft : Draft) (first : Side) → first_refusal draft first ≡ None → (is_side draft first ≡ true) × (part_refusal draft first ≡ None)
 unfolding first_refusal
-first_free draft first e = by (is_side draft first) refl e
-  where
-    by : (b : Bool) → is_side draft first ≡ b → (if b then part_refusal draft first else Some Unknown) ≡ None → (is_side draft first ≡ true) × (part_refusal draft first ≡ None)
-    by true f h = (f, h)
-    by false f h = absurd cc
+first_free draft first e = grind (arith, common_steps)
 
 second_free : (draft : Draft) (first second : Side) → second_refusal draft first second ≡ None → (is_side draft second ≡ true) × (part_refusal draft second ≡ None)
 unfolding second_refusal
-second_free draft first second e =
-    let one = passes (bytes_eq first.controller second.controller) Twice _ e in
-    let two = passes (not (is_side draft second)) Unknown _ one.1 in
-    let three = passes (list_any (are_sides first second) draft.nevers) Twice _ two.1 in
-    (is_true (is_side draft second) two.0, three.1)
-  where
-    is_true : (b : Bool) → not b ≡ false → b ≡ true
-    is_true true h = refl
-    is_true false h = absurd (true≢false h)
+second_free draft first second e = grind (arith, common_steps, passes)
 
 pub sound_never : (draft : Draft) (first second : Side) → Sound draft → ((label : List ℕ) → first.label ≡ Some label → IsName (side_name first)) → ((label : List ℕ) → second.label ≡ Some label → IsName (side_name second))
     → Fits draft (never_both first second) → Sound (with_item draft (never_both first second))

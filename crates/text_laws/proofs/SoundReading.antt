@@ -1,18 +1,19 @@
 -- Every draft that was read is sound.
-use Rattle.std.proofs.Common.{◌≡◌, ℕ, zero, suc, ◌+◌, ◌<◌, ◌≤◌, ◌⊎◌, inl, inr, ◌&&◌, Bool, true, false, not, List, [], ◌∷◌, ◌++◌, length, take, drop, codes, Option, Some, None, refl, ap, sym, ◌∙◌, subst, arith}
-use Rattle.std.specs.Prelude.{if◌then◌else◌, nat_lt, nat_le}
+use Rattle.std.proofs.Common.{◌≡◌, ℕ, ◌+◌, ◌<◌, ◌≤◌, ◌&&◌, Bool, true, false, not, List, [], ◌∷◌, ◌++◌, length, take, drop, codes, Option, Some, None, refl, ap, sym, ◌∙◌, subst, arith}
+use Rattle.std.specs.Prelude.{nat_le}
 use Rattle.std.specs.List.{prefix_len}
 use Rattle.std.proofs.lemmas.Bool.{and_parts, ltb-true}
 use Rattle.std.proofs.lemmas.List.{length-append, length-take, length-drop}
+use Rattle.std.proofs.lemmas.Grind.{common_steps}
 use Rattle.plan_core.specs.Names.{IsName, is_name}
 use Rattle.plan_core.proofs.ContentsLemmas.{empty_within}
 use Rattle.brief_text.specs.declared.syntax.Lengths.{Lengths}
 use Rattle.brief_text.specs.Drafts.{Draft, no_items, with_item}
-use Rattle.brief_text.specs.Fitting.{Fits, MakeUp, frame_ranges, bytes_ranges, tail_ranges, often_ranges, range_count}
+use Rattle.brief_text.specs.Fitting.{Fits, MakeUp, frame_ranges, bytes_ranges, tail_ranges, often_ranges}
 use Rattle.brief_text.specs.Grammar.{SpellsFrame, SpellsBytes, SpellsNext, SpellsRefused, SpellsOften, SpellsItem, SpellsItems}
 use Rattle.brief_text.specs.Splitting.{side_name, parts}
 use Rattle.brief_text.specs.Trees.{Times, times, ranged, BriefFrame, write_to, read_from, BriefBytes, data_byte, no_more, BriefTail, stop_here, go_on, Side, BriefItem, device, byte, message, controller, interrupt, never_both}
-use Rattle.brief_text.specs.Words.{is_range, is_countable, is_brief_name, is_no_slash, halves_at, around_slash, whole_side, label_side, side_from, side_by}
+use Rattle.brief_text.specs.Words.{is_range, is_brief_name, is_no_slash, halves_at, around_slash, whole_side, label_side, side_from, side_by}
 use Rattle.brief_text.proofs.TakesLemmas.{le_from}
 use Rattle.brief_tokens.specs.Names.{is_brief_word}
 use Rattle.brief_tokens.specs.Tokens.{Tokens}
@@ -33,11 +34,7 @@ some_halves halves = Some halves
 
 -- the halves of a word
 halves_are : (slash : ℕ) (word : List ℕ) (halves : List ℕ × List ℕ) → halves_at slash word ≡ Some halves → (slash < length word) × (take slash word ≡ halves.0) × (drop (slash + 1) word ≡ halves.1)
-halves_are slash word halves e = by (nat_lt slash (length word)) refl e
-  where
-    by : (t : Bool) → nat_lt slash (length word) ≡ t → (if t then some_halves (take slash word, drop (slash + 1) word) else None) ≡ Some halves → (slash < length word) × (take slash word ≡ halves.0) × (drop (slash + 1) word ≡ halves.1)
-    by true is h = (ltb-true slash (length word) is, cc, cc)
-    by false is h = absurd cc
+halves_are slash word halves e = grind (arith, common_steps, ltb-true)
 
 label_named : (word first second : List ℕ) → around_slash word ≡ Some (first, second) → length word ≤ 32 → is_brief_name first ≡ true → is_brief_name second ≡ true → IsName (first ++ codes "_" ++ second)
 unfolding around_slash
@@ -78,61 +75,45 @@ side_formed word side e label is = by_halves (around_slash word) refl e
 
 -- ---- a range that is spelled
 
-either_one : (a b : ℕ) → 1 ≤ a + b → (1 ≤ a) ⊎ (1 ≤ b)
-either_one zero b h = inr (omega arith)
-either_one (suc a) b h = inl (omega arith)
-
-in_either : {P : Type 0} (a b : ℕ) → 1 ≤ a + b → (1 ≤ a → P) → (1 ≤ b → P) → P
-in_either a b some f g = elim (either_one a b some) [ inl h ↦ f h | inr h ↦ g h ]
-
-module _ (range : Lengths) where
+-- where it is no range no byte stands in it
+module _ (range : Lengths) (none : is_range range.least range.greatest ≡ false) where
   abbrev R : Option Lengths
   R = Some range
 
-  abbrev IsRange : Type 0
-  IsRange = is_range range.least range.greatest ≡ true
-
-  often_range : (often : Times) (from to : Tokens) → SpellsOften R often from to → 1 ≤ often_ranges often → IsRange
-  often_range (times n) from to s some = absurd (omega arith)
-  often_range ranged from to s some = s.1
+  often_range : (often : Times) (from to : Tokens) → SpellsOften R often from to → often_ranges often ≡ 0
+  often_range (times n) from to s = refl
+  often_range ranged from to s = cc
 
   mutual
-    frame_range : (f : BriefFrame) (from to : Tokens) → SpellsFrame R f from to → 1 ≤ frame_ranges f → IsRange
-    frame_range (write_to target refused acked) from to s some = in_either (tail_ranges refused) (bytes_ranges acked) some (refused_range refused s.2.0 s.2.2.0 s.2.2.1) (bytes_range acked s.2.2.0 to s.2.2.2)
-    frame_range (read_from target count refused after) from to s some = in_either (tail_ranges refused) (tail_ranges after) some (refused_range refused s.2.2.0 s.2.2.2.0 s.2.2.2.1) (next_range after s.2.2.2.0 to s.2.2.2.2)
+    frame_range : (f : BriefFrame) (from to : Tokens) → SpellsFrame R f from to → frame_ranges f ≡ 0
+    frame_range (write_to target refused acked) from to s = omega (arith, refused_range refused s.2.0 s.2.2.0 s.2.2.1, bytes_range acked s.2.2.0 to s.2.2.2)
+    frame_range (read_from target count refused after) from to s = omega (arith, refused_range refused s.2.2.0 s.2.2.2.0 s.2.2.2.1, next_range after s.2.2.2.0 to s.2.2.2.2)
 
-    bytes_range : (b : BriefBytes) (from to : Tokens) → SpellsBytes R b from to → 1 ≤ bytes_ranges b → IsRange
-    bytes_range (data_byte bits often refused acked) from to s some =
-        in_either (often_ranges often + tail_ranges refused) (bytes_ranges acked) some
-        (λ h. in_either (often_ranges often) (tail_ranges refused) h (often_range often s.0 s.2.0 s.2.1) (refused_range refused s.2.0 s.2.2.0 s.2.2.1))
-        (bytes_range acked s.2.2.0 to s.2.2.2)
-    bytes_range (no_more tail) from to s some = next_range tail from to s some
+    bytes_range : (b : BriefBytes) (from to : Tokens) → SpellsBytes R b from to → bytes_ranges b ≡ 0
+    bytes_range (data_byte bits often refused acked) from to s =
+        omega (arith, often_range often s.0 s.2.0 s.2.1, refused_range refused s.2.0 s.2.2.0 s.2.2.1, bytes_range acked s.2.2.0 to s.2.2.2)
+    bytes_range (no_more tail) from to s = next_range tail from to s
 
-    next_range : (t : BriefTail) (from to : Tokens) → SpellsNext R t from to → 1 ≤ tail_ranges t → IsRange
-    next_range stop_here from to s some = absurd (omega arith)
-    next_range (go_on frame) from to s some = frame_range frame from to s some
+    next_range : (t : BriefTail) (from to : Tokens) → SpellsNext R t from to → tail_ranges t ≡ 0
+    next_range stop_here from to s = refl
+    next_range (go_on frame) from to s = frame_range frame from to s
 
-    refused_range : (t : BriefTail) (from to : Tokens) → SpellsRefused R t from to → 1 ≤ tail_ranges t → IsRange
-    refused_range stop_here from to s some = absurd (omega arith)
-    refused_range (go_on frame) from to s some = frame_range frame s.2.0 s.2.2.0 s.2.2.1 some
+    refused_range : (t : BriefTail) (from to : Tokens) → SpellsRefused R t from to → tail_ranges t ≡ 0
+    refused_range stop_here from to s = refl
+    refused_range (go_on frame) from to s = frame_range frame s.2.0 s.2.2.0 s.2.2.1
 
-range_small : (range : Lengths) → is_range range.least range.greatest ≡ true → range.greatest ≤ 255
-range_small range is =
-    let parts = and_parts (is_countable range.greatest) (nat_le range.least range.greatest) is in
-    le_from range.greatest 255 (and_parts (nat_le 1 range.greatest) (nat_le range.greatest 255) parts.0).1
+range_small : (range : Lengths) (f : BriefFrame) (from to : Tokens) → SpellsFrame (Some range) f from to → frame_ranges f ≡ 1 → range.greatest ≤ 255
+range_small range f from to s one = let none = λ (is : is_range range.least range.greatest ≡ false). frame_range range is f from to s in grind (arith, common_steps, and_parts, le_from, none)
 
 -- ---- items
 
 sound_item : (draft : Draft) (item : BriefItem) (from to : Tokens) → Sound draft → Fits draft item → SpellsItem item from to → Sound (with_item draft item)
 sound_item draft (device name address) from to sound fits s = sound_device draft name address sound
 sound_item draft (byte name bits) from to sound fits s = sound_byte draft name bits sound
-sound_item draft (message name range frame) from to sound fits s = sound_message draft name range frame sound s.2.1.1 (bound range s.2.2.1 fits.ranges) fits
-  where
-    bound : (o : Option Lengths) → SpellsFrame o frame s.2.0 s.2.2.0 → frame_ranges frame ≡ range_count o → (r : Lengths) → o ≡ Some r → r.greatest ≤ 255
-    bound None spelled one r e = absurd cc
-    bound (Some range) spelled one r e =
-        let same : range ≡ r = cc in
-        subst (λ (l : Lengths). l.greatest ≤ 255) same (range_small range (frame_range range frame s.2.0 s.2.2.0 spelled (omega (arith, one))))
+sound_item draft (message name None frame) from to sound fits s = sound_message draft name None frame sound s.2.1.1 (λ r e. absurd cc) fits
+sound_item draft (message name (Some range) frame) from to sound fits s =
+    let small = range_small range frame s.2.0 s.2.2.0 s.2.2.1 fits.ranges in
+    sound_message draft name (Some range) frame sound s.2.1.1 (λ r e. let same : range ≡ r = cc in subst (λ (l : Lengths). l.greatest ≤ 255) same small) fits
 sound_item draft (controller name messages) from to sound fits s = sound_controller draft sound name messages s.2.1.1 fits
 sound_item draft (interrupt name target) from to sound fits s = sound_interrupt draft name target sound s.2.1.1 fits
 sound_item draft (never_both first second) from to sound fits s = sound_never draft first second sound (side_formed s.2.1.0 first s.2.1.2) (side_formed s.2.2.1.0 second s.2.2.1.2) fits
@@ -153,16 +134,7 @@ sound_texts (text ∷ texts) [] draft after sound spelled made = absurd spelled
 
 nothing_sound : Sound no_items
 unfolding parts
-nothing_sound = record {
-  limits = empty_within;
-  no_controllers = refl;
-  no_nevers = refl;
-  families = record { apart = λ name range e h. h; one = λ m a b r s e f h g. absurd cc; known = λ m a r e h. absurd cc; once = λ a r e. absurd cc };
-  controllers = record { keys = tt; named = λ name h. absurd h; listed = λ c h. absurd h; few = omega arith };
-  labels = record { once = tt; each = λ s h. absurd h };
-  few_parts = omega arith;
-  nevers = λ never h. absurd h;
-}
+nothing_sound = grind (arith, common_steps, empty_within)
 
 pub read_sound : (draft : Draft) → WasRead draft → Sound draft
 read_sound draft read =
