@@ -15,10 +15,10 @@ use Rattle.brief_text.specs.Drafts.{Draft, members_or, stands_for}
 use Rattle.brief_text.specs.Splitting.{Part, part_name, label_messages, is_label, is_in_part, label_part, rest_part, sends_any, split_by, labels_of, parts_of, parts, pairs_among, are_of_one, label_means, side_means, parts_meant, pairs_meant, pairs_apart, with_parts, plan_meant}
 use Rattle.brief_text.specs.Trees.{Side}
 use Rattle.text_laws.specs.Covering.{Sent, label_covers, side_covers, covers_both, told_apart, SendsFor}
-use Rattle.text_laws.proofs.DraftParts.{is_plain, in_one, from_parts, part_names_once}
+use Rattle.text_laws.proofs.PartLemmas.{is_plain, in_one, from_parts, part_names_once}
 use Rattle.text_laws.proofs.MeantPlans.{entry, parts_are, pairs_controllers, pairs_messages, pairs_added, pairs_from, never_turned, sending_at, from_numbers}
 use Rattle.text_laws.proofs.Membership.{In, Distinct, in_left, in_right, in_either, in_filter, from_filter, in_map, from_map, in_flat, from_flat, any_in, in_any, is_false, not_both, or_either, or_first, or_second, holds, holds_in, in_holds, distinct_one}
-use Rattle.text_laws.proofs.Places.{two, slice_in, slice_map, slice_from_map, number_key, key_number, among_places, from_among, in_between, from_between}
+use Rattle.text_laws.proofs.EntryNames.{two, slice_in, slice_map, slice_from_map, number_key, key_number, among_places, from_among, in_between, from_between}
 use Rattle.text_laws.proofs.SoundDrafts.{Sound, family_of}
 
 -- two tests that pass alike are one

@@ -1,8 +1,8 @@
 -- What the reader of briefs takes has a layout, and how heads of briefs are refused.
-use Rattle.std.proofs.Common.{◌≡◌, ℕ, List, length, Some, None, codes, refl, ap, sym, ◌∙◌, arith}
+use Rattle.std.proofs.Common.{◌≡◌, ℕ, List, length, Some, None, codes, refl, ap, sym, ◌∙◌, arith, Bool, true, false, ◌∷◌, Option, subst, true≢false}
 use Rattle.std.proofs.lemmas.Grind.{common_steps}
-use Rattle.std.specs.Prelude.{Result, Ok, Err}
-use Rattle.plan_core.proofs.BuildingLemmas.{same-bytes_eq}
+use Rattle.std.specs.Prelude.{Result, Ok, Err, if◌then◌else◌}
+use Rattle.plan_core.proofs.BuildingLemmas.{same-bytes_eq, bytes_eq-same}
 use Rattle.brief_text.specs.Briefs.{text_read, brief_read, items_in, IsRefused}
 use Rattle.brief_text.specs.Drafts.{Draft, no_items}
 use Rattle.brief_text.specs.Grammar.{Spells}
@@ -10,22 +10,26 @@ use Rattle.brief_text.specs.Splitting.{plan_meant}
 use Rattle.brief_text.specs.Trees.{BriefItem}
 use Rattle.brief_text.proofs.SaysLemmas.{text_takes, start}
 use Rattle.brief_tokens.specs.declared.symbols.Keyword.{Keyword}
-use Rattle.brief_tokens.specs.declared.symbols.Keyword.TheVariants as keywords
-use Rattle.brief_tokens.specs.Heads.{after_head}
+use Rattle.brief_tokens.specs.Heads.{after_head, after_version}
 use Rattle.brief_tokens.specs.Tokens.{Tokens, next, keyword, word, keyword_of, token_of_word, tokens_from, tokens_of}
-use Rattle.layout.specs.Refusals.{brief_letters, brief_head, head_or, letters_in, stranger, refusal_by, refusal_of}
+use Rattle.layout.specs.Refusals.{brief_letters, brief_head, head_or, letters_in, stranger, refusal_by, refusal_of, no_version}
 use Rattle.lexer.specs.declared.lexemes.Letters.{Letters}
 use Rattle.lexer.specs.declared.lexemes.Letters.TheVariants.{Brief}
 use Rattle.lexer.specs.Lexemes.{Lexemes, text_end, stray, foreign, no_dots, briefs, lexemes_of}
-use Rattle.lexer.specs.Lexemes as lexemes
 use Rattle.plan_text.specs.declared.errors.PlanError.{PlanError}
-use Rattle.plan_text.specs.Reader.{◌>>=◌}
+use Rattle.plan_text.specs.Reader.{◌>>=◌, version_at}
 use Rattle.plan_text.specs.Refusals.{First}
-use Rattle.plan_text.specs.Tokens as plan_tokens
 use Rattle.plan_text.proofs.TextLemmas.{text_refused}
 use Rattle.text_laws.proofs.BriefWords.{end_of, brief_ends}
 use Rattle.text_laws.proofs.FirstWords.{FirstIs, first_same}
-use Rattle.text_laws.proofs.Heads.{first_refused}
+use Rattle.text_laws.proofs.Heads.{first_refused, no_head as not_plan}
+use Rattle.std.specs.Str.{bytes_eq}
+use Rattle.given_plans.specs.Given.{is_version, IsNeither, no_plan, no_brief, no_head}
+use Rattle.text_laws.proofs.FirstKinds.{first_too}
+use Rattle.brief_tokens.specs.declared.symbols.Keyword.TheVariants as keywords
+use Rattle.lexer.specs.Lexemes as lexemes
+use Rattle.plan_text.specs.Tokens as plan_tokens
+use Rattle.plan_text.specs.declared.errors.PlanError.TheVariants as errors
 
 -- ---- tokens end as their lexemes do
 
@@ -101,17 +105,11 @@ abbrev bad : PlanError → Result Letters PlanError
 bad e = Err e
 
 second_stranger : (rest : Lexemes) (e : PlanError) → brief_letters rest ≡ Some (bad e) → (line : ℕ) → after_head (next (keyword keywords.Brief) line (tokens_from rest)) ≡ Err e
-second_stranger (lexemes.next (lexemes.word b) at more) e h line = grind (arith, common_steps)
-second_stranger (lexemes.next (lexemes.sign c) at more) e h line = absurd cc
-second_stranger (lexemes.last text_end at) e h line = absurd cc
-second_stranger (lexemes.last stray at) e h line = grind (arith, common_steps)
-second_stranger (lexemes.last foreign at) e h line = grind (arith, common_steps)
+second_stranger rest e_ e line = grind (arith, common_steps)
 
 head_stranger : (all : Lexemes) (e : PlanError) → brief_head all ≡ Some (bad e) → after_head (tokens_from all) ≡ Err e
 unfolding token_of_word
-head_stranger (lexemes.next (lexemes.word b) line rest) e h = grind (arith, common_steps, same-bytes_eq, second_stranger)
-head_stranger (lexemes.next (lexemes.sign c) line rest) e h = absurd cc
-head_stranger (lexemes.last ending line) e h = absurd cc
+head_stranger all e_ e = grind (arith, common_steps, same-bytes_eq, second_stranger)
 
 pub brief_refused : (text : List ℕ) (e : PlanError) → brief_head (lexemes_of briefs 1 text) ≡ Some (bad e) → IsRefused text e
 unfolding brief_read text_read tokens_of
@@ -121,3 +119,133 @@ brief_refused text e h =
 pub plan_refused : (text : List ℕ) (e : PlanError) → head_or None (lexemes_of no_dots 1 text) ≡ Err e → First text e
 unfolding plan_tokens.tokens_of
 plan_refused text e h = text_refused text e (first_refused (lexemes_of no_dots 1 text) e h)
+
+-- Heads are refused exactly as those who read either a plan or a brief refuse them.
+
+abbrev some_letters : Result Letters PlanError
+some_letters = Ok Brief
+
+-- `brief` is told as its keyword
+brief_token : token_of_word (codes "brief") ≡ keyword keywords.Brief
+unfolding token_of_word
+brief_token = refl
+
+-- ---- a brief whose head is refused for its version
+
+-- the head of a brief is refused so
+abbrev LacksHead : Tokens → Type 0
+LacksHead from = (e : PlanError) × (after_head from ≡ Err e) × (is_version e ≡ true)
+
+second_lacks : (rest : Lexemes) (line : ℕ) → brief_letters rest ≡ None → LacksHead (next (keyword keywords.Brief) line (tokens_from rest))
+second_lacks (lexemes.next (lexemes.word b) at more) line h = by (keyword_of b) refl
+  where
+    other : bytes_eq b (codes "1") ≡ false
+    other = test (bytes_eq b (codes "1")) h
+      where
+        test : (t : Bool) → (if t then Some (some_letters) else None) ≡ None → t ≡ false
+        test true g = absurd cc
+        test false g = refl
+
+    by : (o : Option Keyword) → keyword_of b ≡ o → LacksHead (next (keyword keywords.Brief) line (next (token_of_word b) at (tokens_from more)))
+    by None e = (errors.Version at, ap (λ t. after_version (next t at (tokens_from more))) (no_keyword b e) ∙ rw other refl, refl)
+    by (Some k) e = (errors.Version at, ap (λ t. after_version (next t at (tokens_from more))) (some_keyword b k e), refl)
+second_lacks (lexemes.next (lexemes.sign c) at more) line h = (errors.Version at, refl, refl)
+second_lacks (lexemes.last text_end at) line h = (errors.Version at, refl, refl)
+second_lacks (lexemes.last stray at) line h = absurd cc
+second_lacks (lexemes.last foreign at) line h = absurd cc
+
+other_keyword : (k : Keyword) (line : ℕ) (rest : Tokens) → (k ≡ keywords.Brief → ⊥) → after_head (next (keyword k) line rest) ≡ Err (errors.Version line)
+other_keyword keywords.Brief line rest differ = absurd (differ refl)
+other_keyword _ line rest differ = refl
+
+head_lacks : (all : Lexemes) → brief_head all ≡ None → is_version (no_version all) ≡ true → LacksHead (tokens_from all)
+head_lacks (lexemes.next (lexemes.word b) line rest) none first = by (bytes_eq b (codes "brief")) refl none
+  where
+    by : (t : Bool) → bytes_eq b (codes "brief") ≡ t → (if t then brief_letters rest else None) ≡ None → LacksHead (next (token_of_word b) line (tokens_from rest))
+    by true is h = subst (λ (n : List ℕ). LacksHead (next (token_of_word n) line (tokens_from rest))) (sym (same-bytes_eq b (codes "brief") is)) (brief_first h)
+      where
+        brief_first : brief_letters rest ≡ None → LacksHead (next (token_of_word (codes "brief")) line (tokens_from rest))
+        brief_first g = subst (λ t. LacksHead (next t line (tokens_from rest))) (sym brief_token) (second_lacks rest line g)
+    by false is h = told (keyword_of b) refl
+      where
+        told : (o : Option Keyword) → keyword_of b ≡ o → LacksHead (next (token_of_word b) line (tokens_from rest))
+        told None e = (errors.Version line, ap (λ t. after_head (next t line (tokens_from rest))) (no_keyword b e), refl)
+        told (Some k) e = (
+          errors.Version line,
+          ap (λ t. after_head (next t line (tokens_from rest))) (some_keyword b k e)
+              ∙ other_keyword k line (tokens_from rest) (λ same. true≢false (sym (bytes_eq-same b (codes "brief") (brief_word b (some_keyword b k e ∙ ap keyword same))) ∙ is)),
+          refl,
+        )
+head_lacks (lexemes.next (lexemes.sign c) line rest) none first = (errors.Version line, refl, refl)
+head_lacks (lexemes.last text_end line) none first = (errors.Version line, refl, refl)
+head_lacks (lexemes.last stray line) none first = absurd (true≢false (sym first))
+head_lacks (lexemes.last foreign line) none first = absurd (true≢false (sym first))
+
+lacks_read : (text : List ℕ) → LacksHead (tokens_of 1 text) → (e : PlanError) × IsRefused text e × (is_version e ≡ true)
+unfolding brief_read text_read
+lacks_read text h = (h.0, ap (λ r. (r >>= λ rest. items_in (length text) no_items (start rest)) >>= λ draft. Ok (plan_meant draft)) h.1, h.2)
+
+-- ---- heads of plans
+
+-- a refusal for the version says that what stands first is a lexeme or the end
+plan_first : (all : Lexemes) (e : PlanError) → head_or None all ≡ Err e → is_version e ≡ true → is_version (no_version all) ≡ true
+plan_first (lexemes.next (lexemes.word name) line rest) e h is = refl
+plan_first (lexemes.next (lexemes.sign c) line rest) e h is = refl
+plan_first (lexemes.last text_end line) e h is = refl
+plan_first (lexemes.last stray line) e h is = let same : errors.Unexpected line ≡ e = cc in absurd (true≢false (sym is ∙ ap is_version (sym same)))
+plan_first (lexemes.last foreign line) e h is = let same : errors.NotAscii line ≡ e = cc in absurd (true≢false (sym is ∙ ap is_version (sym same)))
+
+-- ---- heads of briefs
+
+brief_begins : (all : Lexemes) (r : Result Letters PlanError) → brief_head all ≡ Some r → FirstIs all
+brief_begins (lexemes.next (lexemes.word b) line rest) r h = by (bytes_eq b (codes "brief")) refl h
+  where
+    by : (t : Bool) → bytes_eq b (codes "brief") ≡ t → (if t then brief_letters rest else None) ≡ Some r → FirstIs (lexemes.next (lexemes.word b) line rest)
+    by true is g = (codes "rief", line, rest, ap (λ (n : List ℕ). lexemes.next (lexemes.word n) line rest) (same-bytes_eq b (codes "brief") is))
+    by false is g = absurd cc
+brief_begins (lexemes.next (lexemes.sign c) line rest) r h = absurd cc
+brief_begins (lexemes.last ending line) r h = absurd cc
+
+-- what a brief is refused for in this way is no version
+stranger_second : (rest : Lexemes) (e : PlanError) → brief_letters rest ≡ Some (bad e) → is_version e ≡ false
+stranger_second (lexemes.next (lexemes.word b) at more) e h = grind (arith, common_steps)
+stranger_second (lexemes.next (lexemes.sign c) at more) e h = absurd cc
+stranger_second (lexemes.last text_end at) e h = absurd cc
+stranger_second (lexemes.last stray at) e h = let same : bad (errors.Unexpected at) ≡ bad e = cc in let is : errors.Unexpected at ≡ e = cc in ap is_version (sym is)
+stranger_second (lexemes.last foreign at) e h = let same : bad (errors.NotAscii at) ≡ bad e = cc in let is : errors.NotAscii at ≡ e = cc in ap is_version (sym is)
+
+stranger_no_version : (all : Lexemes) (e : PlanError) → brief_head all ≡ Some (bad e) → is_version e ≡ false
+stranger_no_version (lexemes.next (lexemes.word b) line rest) e h = grind (arith, common_steps, stranger_second)
+stranger_no_version (lexemes.next (lexemes.sign c) line rest) e h = absurd cc
+stranger_no_version (lexemes.last ending line) e h = absurd cc
+
+-- as a plan it is refused for its version
+no_plan_head : (all : Lexemes) → FirstIs all → (line : ℕ) × (version_at (plan_tokens.tokens_from all) ≡ Err (errors.Version line))
+no_plan_head all first =
+    (first.1, ap (λ (ls : Lexemes). version_at (plan_tokens.tokens_from ls)) first.3 ∙ not_plan (98 ∷ first.0) first.1 (plan_tokens.tokens_from first.2) refl)
+
+refused_as_plan : (text : List ℕ) → FirstIs (lexemes_of no_dots 1 text) → (line : ℕ) × First text (errors.Version line)
+unfolding plan_tokens.tokens_of
+refused_as_plan text first = let h = no_plan_head (lexemes_of no_dots 1 text) first in (h.0, text_refused text (errors.Version h.0) h.1)
+
+pub head_exact : (text : List ℕ) (e : PlanError) → letters_in text ≡ Err e → IsNeither text e
+unfolding letters_in tokens_of
+head_exact text e h = by (brief_head (lexemes_of briefs 1 text)) refl h
+  where
+    by_version : brief_head (lexemes_of briefs 1 text) ≡ None → head_or None (lexemes_of no_dots 1 text) ≡ Err e → (t : Bool) → is_version e ≡ t → IsNeither text e
+    by_version none g false is = no_plan (plan_refused text e g) is
+    by_version none g true is =
+        let brief = lacks_read text (head_lacks (lexemes_of briefs 1 text) none (first_too text (plan_first (lexemes_of no_dots 1 text) e g is))) in
+        no_head (plan_refused text e g) is brief.1 brief.2
+
+    by_brief : (r : Result Letters PlanError) → brief_head (lexemes_of briefs 1 text) ≡ Some r → head_or (Some r) (lexemes_of no_dots 1 text) ≡ Err e → IsNeither text e
+    by_brief r is g =
+        let first = first_same text (brief_begins (lexemes_of briefs 1 text) r is) in
+        let own : r ≡ Err e = sym (ap (head_or (Some r)) first.3) ∙ g in
+        let refused = is ∙ ap (λ (x : Result Letters PlanError). Some x) own in
+        let plan = refused_as_plan text first in
+        no_brief plan.1 refl (brief_refused text e refused) (stranger_no_version (lexemes_of briefs 1 text) e refused)
+
+    by : (o : Option (Result Letters PlanError)) → brief_head (lexemes_of briefs 1 text) ≡ o → head_or o (lexemes_of no_dots 1 text) ≡ Err e → IsNeither text e
+    by None is g = by_version is g (is_version e) refl
+    by (Some r) is g = by_brief r is g

@@ -51,18 +51,15 @@ are_changes samples scl sda h front rest a b is one other = next_changes front r
 
 stamp_in_order : (test : Bool) (time now : ℕ) (scl sda : Level) (more : List Sample) → time ≤ now → ComeFrom now more →
     ComeFrom time ((if test then [] else record { time = now; scl = scl; sda = sda } ∷ []) ++ more)
-stamp_in_order true time now scl sda more le h = sooner time now more le h
-stamp_in_order false time now scl sda more le h = (le, h)
+stamp_in_order test time now scl sda more e f = grind (arith, common_steps, sooner)
 
 both_true : (a b : Bool) → (a && b) ≡ true → (a ≡ true) × (b ≡ true)
-both_true true b h = (refl, h)
-both_true false b h = absurd cc
+both_true a b e = grind (arith, common_steps)
 
 stamp_changes_by : (test : Bool) (time : ℕ) (scl sda scl_now sda_now : Level) (more : List Sample) → (same_level scl scl_now && same_level sda sda_now) ≡ test →
     ChangeFrom scl_now sda_now more →
     ChangeFrom scl sda ((if test then [] else record { time = time; scl = scl_now; sda = sda_now } ∷ []) ++ more)
-stamp_changes_by true time scl sda scl_now sda_now more e h = grind (arith, common_steps, both_true, alike)
-stamp_changes_by false time scl sda scl_now sda_now more e h = (e, h)
+stamp_changes_by test time scl sda scl_now sda_now more e f = grind (arith, common_steps, both_true, alike)
 
 stamp_changes : (time : ℕ) (scl sda scl_now sda_now : Level) (more : List Sample) → ChangeFrom scl_now sda_now more → ChangeFrom scl sda (sample_at time scl sda scl_now sda_now ++ more)
 stamp_changes time scl sda scl_now sda_now more h =
@@ -81,8 +78,7 @@ stamps_change (stamp ∷ stamps) scl_line sda_line scl sda = grind (arith, commo
 -- ---- a whole dump
 
 spelled_in_order : (scl sda : Finder) (text : List ℕ) (samples : List Sample) → Spells scl sda (tokens_of 1 text) samples → ComeFrom 0 samples
-spelled_in_order scl sda text samples (inl (d, is, tokens, these)) = grind (arith, common_steps, stamp_in_order, stamps_in_order)
-spelled_in_order scl sda text samples (inr (declarations, is, tokens, none)) = subst (ComeFrom 0) (sym none) tt
+spelled_in_order scl sda text samples e = grind (arith, common_steps, stamp_in_order, stamps_in_order)
 
 spelled_changes : (scl sda : Finder) (text : List ℕ) (samples : List Sample) → Spells scl sda (tokens_of 1 text) samples → ChangeFrom Unknown Unknown samples
 spelled_changes scl sda text samples (inl (d, is, tokens, these)) =

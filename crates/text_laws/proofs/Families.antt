@@ -111,8 +111,7 @@ record NewNames (draft : Draft) (name : List ℕ) (range : Option Lengths) : Typ
   room : length draft.plan.messages + length (members_or name range) ≤ MOST_MESSAGES
 
 none_is : {X : Type 0} (o : Option X) → is_some o ≡ false → o ≡ None
-none_is None e = refl
-none_is (Some x) e = absurd (true≢false e)
+none_is o e = grind (arith, common_steps)
 
 abbrev good : {A : Type 0} → A → Result A PlanError
 good x = Ok x
@@ -208,8 +207,7 @@ module _ (draft : Draft) (sound : Sound draft) (name : List ℕ) (range : Option
   -- ---- a label stands for what it stood for
 
   same_family : (label : List ℕ) → ((r : Lengths) × (family_of label draft.families ≡ Some r)) ⊎ In label (keys_of draft.plan.messages) → family_of label families ≡ family_of label draft.families
-  same_family label (inl f) = family_kept label f.0 f.1 ∙ sym f.1
-  same_family label (inr m) = grind (arith, common_steps, lookup_other, new.apart)
+  same_family label e = grind (arith, common_steps, family_kept, lookup_other)
 
   same_messages : (s : Side) → In s draft.labels → label_messages grown s ≡ label_messages draft s
   same_messages s h =

@@ -2,6 +2,7 @@
 use Rattle.std.proofs.Common.{◌≡◌, ℕ, ◌+◌, ◌==◌, Bool, true, false, List, [], ◌∷◌, refl, ap, sym, ◌∙◌, subst, arith, true≢false}
 use Rattle.std.specs.Prelude.{nat_lt}
 use Rattle.std.proofs.lemmas.Bool.Decides.{nat_tests}
+use Rattle.std.proofs.lemmas.Grind.{common_steps}
 use Rattle.lexer.specs.declared.lexemes.Letters.{Letters}
 use Rattle.lexer.specs.declared.lexemes.Letters.TheVariants.{Plain, Dots, Brief}
 use Rattle.lexer.specs.Lexemes.{Lexemes, next, word, Alphabet, no_dots, briefs, letters, Class, line_feed, blank, number_sign, sign_byte, word_part, foreign_byte, stray_byte, class_of, begins_with_part, put_before, raw_lexemes, in_comment, lexemes_of}
@@ -31,9 +32,7 @@ feed_byte Dots byte h = grind (arith, nat_tests)
 feed_byte Brief byte h = grind (arith, nat_tests)
 
 foreign_class : (l : Letters) (byte : ℕ) → nat_lt byte 128 ≡ false → class_of l byte ≡ foreign_byte
-foreign_class Plain byte h = grind (arith, nat_tests)
-foreign_class Dots byte h = grind (arith, nat_tests)
-foreign_class Brief byte h = grind (arith, nat_tests)
+foreign_class l byte e = grind (arith, common_steps, nat_tests)
 
 foreign_above : (l : Letters) (byte : ℕ) → class_of l byte ≡ foreign_byte → nat_lt byte 128 ≡ false
 foreign_above Plain byte h = grind (arith, nat_tests)
@@ -41,13 +40,7 @@ foreign_above Dots byte h = grind (arith, nat_tests)
 foreign_above Brief byte h = grind (arith, nat_tests)
 
 comment_over : (k : Class) (a : Alphabet) (line : ℕ) (bytes : List ℕ) → (k ≡ line_feed → ⊥) → (k ≡ foreign_byte → ⊥) → comment_at k a line bytes ≡ in_comment a line bytes
-comment_over line_feed a line bytes f g = absurd (f refl)
-comment_over foreign_byte a line bytes f g = absurd (g refl)
-comment_over blank a line bytes f g = refl
-comment_over number_sign a line bytes f g = refl
-comment_over sign_byte a line bytes f g = refl
-comment_over word_part a line bytes f g = refl
-comment_over stray_byte a line bytes f g = refl
+comment_over k a line bytes e f = grind (arith, common_steps)
 
 module _ (a : Alphabet) (line byte : ℕ) (bytes : List ℕ) where
   pub comment_ends : (byte == 10) ≡ true → in_comment a line (byte ∷ bytes) ≡ raw_lexemes a (line + 1) bytes

@@ -29,8 +29,7 @@ ends_alike (lexemes.last stray line) = refl
 ends_alike (lexemes.last foreign line) = refl
 
 after_end : (from : Tokens) → end_of (after_one from) ≡ end_of from
-after_end (next token line rest) = refl
-after_end (last ending line) = refl
+after_end from = grind (arith, common_steps)
 
 -- ---- words and keywords
 
@@ -63,16 +62,13 @@ Told r dots = (r ≡ Ok (letters_for r)) × (alphabet_of (letters_for r) ≡ dot
 
 second_told : (rest : Lexemes) (version : _) → second_at (tokens_from rest) ≡ Ok version → Told (plan_letters rest) (dots_of version)
 unfolding Told
-second_told (lexemes.next (lexemes.word b) line more) version h = grind (arith, common_steps, no_keyword, some_keyword)
-second_told (lexemes.next (lexemes.sign c) line more) version h = absurd cc
-second_told (lexemes.last ending line) version h = absurd cc
+second_told rest version e = grind (arith, common_steps, no_keyword, some_keyword)
 
 head_told : (all : Lexemes) (version : _) (brief : Option (Result Letters PlanError)) → version_at (tokens_from all) ≡ Ok version → Told (head_or brief all) (dots_of version)
 head_told (lexemes.next (lexemes.word name) line rest) version brief h = by (bytes_eq name (codes "plan")) refl
   where
     by : (t : Bool) → bytes_eq name (codes "plan") ≡ t → Told (head_or brief (lexemes.next (lexemes.word name) line rest)) (dots_of version)
-    by true e = rw e (second_told rest version (sym (head_is name line (tokens_from rest) e) ∙ h))
-    by false e = let none = sym (no_head name line (tokens_from rest) e) ∙ h in absurd cc
+    by t e = grind (arith, common_steps, second_told, head_is, no_head)
 head_told (lexemes.next (lexemes.sign c) line rest) version brief h = absurd cc
 head_told (lexemes.last ending line) version brief h = absurd cc
 
@@ -93,18 +89,13 @@ abbrev bad : PlanError → Result Letters PlanError
 bad e = Err e
 
 second_refused : (rest : Lexemes) (e : PlanError) → plan_letters rest ≡ Err e → second_at (tokens_from rest) ≡ Err e
-second_refused (lexemes.next (lexemes.word b) line more) e h = grind (arith, common_steps, no_keyword, some_keyword)
-second_refused (lexemes.next (lexemes.sign c) line more) e h = cc
-second_refused (lexemes.last text_end line) e h = cc
-second_refused (lexemes.last stray line) e h = cc
-second_refused (lexemes.last foreign line) e h = cc
+second_refused rest e_ e = grind (arith, common_steps, no_keyword, some_keyword)
 
 pub first_refused : (all : Lexemes) (e : PlanError) → head_or None all ≡ Err e → version_at (tokens_from all) ≡ Err e
 first_refused (lexemes.next (lexemes.word name) line rest) e h = by (bytes_eq name (codes "plan")) refl h
   where
     by : (t : Bool) → bytes_eq name (codes "plan") ≡ t → (if t then plan_letters rest else bad (errors.Version line)) ≡ Err e → version_at (next (token_of_word name) line (tokens_from rest)) ≡ Err e
-    by true is g = head_is name line (tokens_from rest) is ∙ second_refused rest e g
-    by false is g = no_head name line (tokens_from rest) is ∙ (let same : errors.Version line ≡ e = cc in ap (λ (d : PlanError). Err d) same)
+    by t e f = grind (arith, common_steps, head_is, second_refused, no_head)
 first_refused (lexemes.next (lexemes.sign c) line rest) e h = cc
 first_refused (lexemes.last text_end line) e h = cc
 first_refused (lexemes.last stray line) e h = cc

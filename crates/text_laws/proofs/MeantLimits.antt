@@ -15,7 +15,7 @@ use Rattle.plan_core.proofs.BuildingLemmas.{controller_fits, limits-controller, 
 use Rattle.brief_text.specs.Drafts.{Draft}
 use Rattle.brief_text.specs.Splitting.{Part, part_name, parts, with_parts, with_pair, with_pairs, pairs_apart, plan_meant}
 use Rattle.text_laws.specs.Adding.{NoneIsRefused}
-use Rattle.text_laws.proofs.DraftParts.{part_names_once, part_named, part_listed, part_sums}
+use Rattle.text_laws.proofs.PartLemmas.{part_names_once, part_named, part_listed, part_sums}
 use Rattle.text_laws.proofs.EntryNames.{in_has_name, number_none, in_keys_either}
 use Rattle.text_laws.proofs.Membership.{In, Distinct, in_either, holds, holds_in, is_false}
 use Rattle.text_laws.proofs.SoundDrafts.{Sound, ListSound}
@@ -38,9 +38,7 @@ list_free plan before (n ∷ names) known once apart room =
     still m h g = by (in_either m before (n ∷ []) h)
       where
         by : In m before ⊎ In m (n ∷ []) → ⊥
-        by (inl a) = apart m a (inr g)
-        by (inr (inl e)) = once.0 (subst (λ (x : List ℕ). In x names) e g)
-        by (inr (inr b)) = b
+        by e = grind (arith, common_steps)
 
 parts_fit : (ps : List Part) (plan : Contents) → IsWithinLimits plan → Distinct (map part_name ps) → ((p : Part) → In p ps → IsName (part_name p)) → ((p : Part) → In p ps → ListSound plan.messages p.messages)
     → ((p : Part) → In p ps → In (part_name p) (keys_of plan.controllers) → ⊥) → length plan.controllers + length ps ≤ MOST_CONTROLLERS

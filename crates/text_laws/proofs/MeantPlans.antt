@@ -17,7 +17,7 @@ use Rattle.plan_core.specs.declared.plans.Participant.TheVariants.{Sending, Inte
 use Rattle.plan_core.proofs.BuildingLemmas.{same-bytes_eq, NeverAllowed, never_allowed}
 use Rattle.brief_text.specs.Splitting.{Part, part_name, with_parts, with_pair, with_pairs}
 use Rattle.text_laws.proofs.Membership.{In, in_either, from_map, or_either, or_first, or_second, is_false}
-use Rattle.text_laws.proofs.Places.{two, slice_in}
+use Rattle.text_laws.proofs.EntryNames.{two, slice_in}
 
 -- ---- controllers
 
@@ -106,16 +106,13 @@ module _ (plan : Contents) (pair : List ℕ × List ℕ) where
               (allowed.at_first ∙ ap (λ (n : ℕ). Some n) (sym c_is ∙ eqb-true _ a parts.0), allowed.at_second ∙ ap (λ (n : ℕ). Some n) (sym d_is ∙ eqb-true _ b parts.1))
 
           last : (controller_number plan pair.0 == i && controller_number plan pair.1 == j) ≡ true ⊎ (controller_number plan pair.0 == j && controller_number plan pair.1 == i) ≡ true → Named i j ⊎ Named j i
-          last (inl k) = inl (named i j k)
-          last (inr k) = inr (named j i k)
+          last e = grind (arith, common_steps, named)
 
           drop_false : (b : Bool) → (b || false) ≡ true → b ≡ true
-          drop_false true k = refl
-          drop_false false k = k
+          drop_false b e = grind (arith, common_steps)
 
           cases : (list_any (names_both i j) plan.nevers ≡ true) ⊎ ((names_both i j (controller_number plan pair.0, controller_number plan pair.1) || false) ≡ true) → (is_never plan i j ≡ true) ⊎ (Named i j ⊎ Named j i)
-          cases (inl k) = inl k
-          cases (inr k) = inr (last (or_either _ _ (drop_false (names_both i j (controller_number plan pair.0, controller_number plan pair.1)) k)))
+          cases e = grind (arith, common_steps, last, or_either, drop_false)
 
 pub pairs_controllers : (pairs : List (List ℕ × List ℕ)) (plan : Contents) → (with_pairs plan pairs).controllers ≡ plan.controllers
 pairs_controllers [] plan = refl

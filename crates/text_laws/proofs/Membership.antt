@@ -17,30 +17,25 @@ Distinct (x ∷ xs) = (In x xs → ⊥) × Distinct xs
 -- ---- booleans
 
 pub or_either : (a b : Bool) → (a || b) ≡ true → (a ≡ true) ⊎ (b ≡ true)
-or_either true b h = inl refl
-or_either false b h = inr h
+or_either a b e = grind (arith, common_steps)
 
 pub or_first : (a b : Bool) → a ≡ true → (a || b) ≡ true
 or_first a b h = rw h refl
 
 pub or_second : (a b : Bool) → b ≡ true → (a || b) ≡ true
-or_second true b h = refl
-or_second false b h = h
+or_second a b e = grind (arith, common_steps)
 
 pub or_neither : (a b : Bool) → (a || b) ≡ false → (a ≡ false) × (b ≡ false)
-or_neither true b h = absurd (true≢false h)
-or_neither false b h = (refl, h)
+or_neither a b e = grind (arith, common_steps)
 
 pub is_false : (t : Bool) → (t ≡ true → ⊥) → t ≡ false
-is_false true none = absurd (none refl)
-is_false false none = refl
+is_false t e = grind (arith, common_steps)
 
 pub not_both : (t : Bool) → t ≡ true → t ≡ false → ⊥
 not_both t is isnt = true≢false (sym is ∙ isnt)
 
 pub true_or_false : (t : Bool) → (t ≡ true) ⊎ (t ≡ false)
-true_or_false true = inl refl
-true_or_false false = inr refl
+true_or_false t = grind (arith, common_steps)
 
 -- ---- elements
 
@@ -127,8 +122,7 @@ module _ {A B : Type 0} where
   from_flat f (x ∷ xs) y h = by (in_either y (f x) (flat_map f xs) h) (from_flat f xs y)
     where
       by : In y (f x) ⊎ In y (flat_map f xs) → (In y (flat_map f xs) → (z : A) × In z xs × In y (f z)) → (z : A) × In z (x ∷ xs) × In y (f z)
-      by (inl here) later = (x, inl refl, here)
-      by (inr there) later = let r = later there in (r.0, inr r.1, r.2)
+      by e f = grind (arith, common_steps)
 
   -- equal images come of equal elements alone
   pub distinct_from_map : (f : A → B) (xs : List A) → Distinct (map f xs) → Distinct xs
@@ -150,8 +144,7 @@ module _ {A B : Type 0} where
       new h = let r = from_map f (filter p xs) (f x) h in one.0 (subst (λ (y : B). In y (map f xs)) (sym r.2) (in_map f xs r.0 (from_filter p xs r.0 r.1).0))
 
       by : (t : Bool) → Distinct (map f (filter p xs)) → Distinct (map f (cond t (x ∷ filter p xs) (filter p xs)))
-      by true rest = (new, rest)
-      by false rest = rest
+      by t e = grind (arith, common_steps, new)
 
   -- of different images
   pub distinct_one : (f : A → B) (xs : List A) → Distinct (map f xs) → (x y : A) → In x xs → In y xs → f x ≡ f y → x ≡ y

@@ -17,12 +17,11 @@ use Rattle.brief_text.specs.Trees.{Side}
 use Rattle.text_laws.specs.Covering.{Sent, SendsFor}
 use Rattle.text_laws.specs.Sendings.{sends}
 use Rattle.text_laws.proofs.ApartLemmas.{plan_controllers, plan_messages, among_parts, named_inside}
-use Rattle.text_laws.proofs.DraftParts.{parts_once, part_of, from_parts, labels_within, part_names_once}
-use Rattle.text_laws.proofs.EntryNames.{none_number}
+use Rattle.text_laws.proofs.PartLemmas.{parts_once, part_of, from_parts, labels_within, part_names_once}
+use Rattle.text_laws.proofs.EntryNames.{none_number, slice_map, slice_from_map, number_key, distinct_at}
 use Rattle.text_laws.proofs.MeantLimits.{meant_within}
 use Rattle.text_laws.proofs.MeantPlans.{entry, sending_at, from_numbers}
 use Rattle.text_laws.proofs.Membership.{In, in_left, in_right, in_map, in_flat, any_in, true_or_false, holds_in, in_holds, distinct_one, distinct_from_map, count-cons, count_none}
-use Rattle.text_laws.proofs.Places.{slice_map, slice_from_map, number_key, distinct_at}
 use Rattle.text_laws.proofs.SoundDrafts.{Sound}
 
 module _ {A : Type 0} where
@@ -85,15 +84,13 @@ module _ (draft : Draft) (sound : Sound draft) where
   owner_is c at v h = by (part_of draft sound c at v h).side
     where
       by : (v.side ≡ whole c.0) ⊎ In v.side (labels_of draft c.0) → v.side.controller ≡ c.0
-      by (inl e) = ap (λ (s : Side). s.controller) e
-      by (inr g) = (labels_within draft sound c.0 v.side g).1
+      by e = grind (arith, common_steps, labels_within)
 
   message_number : (m : List ℕ) → In m (keys_of draft.plan.messages) → (k : ℕ) × (number_of m draft.plan.messages ≡ Some k)
   message_number m h = by (number_of m draft.plan.messages) refl
     where
       by : (o : Option ℕ) → number_of m draft.plan.messages ≡ o → (k : ℕ) × (number_of m draft.plan.messages ≡ Some k)
-      by None e = absurd (none_number m draft.plan.messages e h)
-      by (Some k) e = (k, e)
+      by o e = grind (arith, common_steps, none_number)
 
   -- each message that is listed is sent by a participant
   pub somebody : (c : List ℕ × List (List ℕ)) → In c draft.controllers → (m : List ℕ) → In m c.1 → (p : ℕ) × SendsFor draft p (record { controller = c.0; message = m })
