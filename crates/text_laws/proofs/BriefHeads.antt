@@ -21,11 +21,10 @@ use Rattle.plan_text.specs.Reader.{◌>>=◌, version_at}
 use Rattle.plan_text.specs.Refusals.{First}
 use Rattle.plan_text.proofs.TextLemmas.{text_refused}
 use Rattle.text_laws.proofs.BriefWords.{end_of, brief_ends}
-use Rattle.text_laws.proofs.FirstWords.{FirstIs, first_same}
+use Rattle.text_laws.proofs.FirstWords.{FirstIs, first_same, first_too}
 use Rattle.text_laws.proofs.Heads.{first_refused, no_head as not_plan}
 use Rattle.std.specs.Str.{bytes_eq}
 use Rattle.given_plans.specs.Given.{is_version, IsNeither, no_plan, no_brief, no_head}
-use Rattle.text_laws.proofs.FirstKinds.{first_too}
 use Rattle.brief_tokens.specs.declared.symbols.Keyword.TheVariants as keywords
 use Rattle.lexer.specs.Lexemes as lexemes
 use Rattle.plan_text.specs.Tokens as plan_tokens
@@ -155,8 +154,7 @@ second_lacks (lexemes.last stray at) line h = absurd cc
 second_lacks (lexemes.last foreign at) line h = absurd cc
 
 other_keyword : (k : Keyword) (line : ℕ) (rest : Tokens) → (k ≡ keywords.Brief → ⊥) → after_head (next (keyword k) line rest) ≡ Err (errors.Version line)
-other_keyword keywords.Brief line rest differ = absurd (differ refl)
-other_keyword _ line rest differ = refl
+other_keyword k line rest e = grind (arith, common_steps)
 
 head_lacks : (all : Lexemes) → brief_head all ≡ None → is_version (no_version all) ≡ true → LacksHead (tokens_from all)
 head_lacks (lexemes.next (lexemes.word b) line rest) none first = by (bytes_eq b (codes "brief")) refl none
@@ -189,11 +187,7 @@ lacks_read text h = (h.0, ap (λ r. (r >>= λ rest. items_in (length text) no_it
 
 -- a refusal for the version says that what stands first is a lexeme or the end
 plan_first : (all : Lexemes) (e : PlanError) → head_or None all ≡ Err e → is_version e ≡ true → is_version (no_version all) ≡ true
-plan_first (lexemes.next (lexemes.word name) line rest) e h is = refl
-plan_first (lexemes.next (lexemes.sign c) line rest) e h is = refl
-plan_first (lexemes.last text_end line) e h is = refl
-plan_first (lexemes.last stray line) e h is = let same : errors.Unexpected line ≡ e = cc in absurd (true≢false (sym is ∙ ap is_version (sym same)))
-plan_first (lexemes.last foreign line) e h is = let same : errors.NotAscii line ≡ e = cc in absurd (true≢false (sym is ∙ ap is_version (sym same)))
+plan_first all e_ e f = grind (arith, common_steps)
 
 -- ---- heads of briefs
 
@@ -208,16 +202,10 @@ brief_begins (lexemes.last ending line) r h = absurd cc
 
 -- what a brief is refused for in this way is no version
 stranger_second : (rest : Lexemes) (e : PlanError) → brief_letters rest ≡ Some (bad e) → is_version e ≡ false
-stranger_second (lexemes.next (lexemes.word b) at more) e h = grind (arith, common_steps)
-stranger_second (lexemes.next (lexemes.sign c) at more) e h = absurd cc
-stranger_second (lexemes.last text_end at) e h = absurd cc
-stranger_second (lexemes.last stray at) e h = let same : bad (errors.Unexpected at) ≡ bad e = cc in let is : errors.Unexpected at ≡ e = cc in ap is_version (sym is)
-stranger_second (lexemes.last foreign at) e h = let same : bad (errors.NotAscii at) ≡ bad e = cc in let is : errors.NotAscii at ≡ e = cc in ap is_version (sym is)
+stranger_second rest e_ e = grind (arith, common_steps)
 
 stranger_no_version : (all : Lexemes) (e : PlanError) → brief_head all ≡ Some (bad e) → is_version e ≡ false
-stranger_no_version (lexemes.next (lexemes.word b) line rest) e h = grind (arith, common_steps, stranger_second)
-stranger_no_version (lexemes.next (lexemes.sign c) line rest) e h = absurd cc
-stranger_no_version (lexemes.last ending line) e h = absurd cc
+stranger_no_version all e_ e = grind (arith, common_steps, stranger_second)
 
 -- as a plan it is refused for its version
 no_plan_head : (all : Lexemes) → FirstIs all → (line : ℕ) × (version_at (plan_tokens.tokens_from all) ≡ Err (errors.Version line))

@@ -1,5 +1,5 @@
 -- What a message adds to a sound draft.
-use Rattle.std.proofs.Common.{◌≡◌, ℕ, zero, suc, ◌+◌, ◌-◌, ◌<◌, ◌≤◌, ◌⊎◌, inl, inr, ◌||◌, ◌&&◌, true, false, not, List, [], ◌∷◌, ◌++◌, map, length, codes, Option, Some, None, is_some, refl, ap, sym, ◌∙◌, subst, arith, true≢false}
+use Rattle.std.proofs.Common.{◌≡◌, ℕ, zero, suc, ◌+◌, ◌-◌, ◌<◌, ◌≤◌, ◌⊎◌, inl, inr, ◌||◌, ◌&&◌, false, not, List, [], ◌∷◌, ◌++◌, map, length, codes, Option, Some, None, is_some, refl, ap, sym, ◌∙◌, subst, arith}
 use Rattle.std.specs.Prelude.{nat_lt, All, Ok, Result}
 use Rattle.std.specs.Fmt.{decimal}
 use Rattle.std.specs.List.{list_any, filter, flat_map, range_with_len}

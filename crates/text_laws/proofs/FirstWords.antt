@@ -7,6 +7,8 @@ use Rattle.lexer.specs.declared.lexemes.Letters.{Letters}
 use Rattle.lexer.specs.declared.lexemes.Letters.TheVariants.{Plain, Dots, Brief}
 use Rattle.lexer.specs.Lexemes.{Lexemes, next, word, Alphabet, no_dots, briefs, letters, Class, line_feed, blank, number_sign, sign_byte, word_part, foreign_byte, stray_byte, class_of, begins_with_part, put_before, raw_lexemes, in_comment, lexemes_of}
 use Rattle.lexer.proofs.LexemeLemmas.{by_class, lexemes_at, comment_at, part_at, class_part}
+use Rattle.given_plans.specs.Given.{is_version}
+use Rattle.layout.specs.Refusals.{no_version}
 
 -- the first lexeme is a word that begins with `b`
 abbrev pub FirstIs : Lexemes → Type 0
@@ -105,3 +107,50 @@ both (byte ∷ bytes) line = (
 pub first_same : (text : List ℕ) → FirstIs (lexemes_of briefs 1 text) → FirstIs (lexemes_of no_dots 1 text)
 unfolding lexemes_of
 first_same text f = (both text 1).0 f
+
+-- What is a lexeme by the letters of plans is one by those of briefs.
+
+-- what stands first is a lexeme, or the end of the text
+abbrev IsFirst : Lexemes → Type 0
+IsFirst all = is_version (no_version all) ≡ true
+
+feed_too : (byte : ℕ) → class_of Plain byte ≡ line_feed → class_of Brief byte ≡ line_feed
+feed_too byte h = grind (arith, nat_tests)
+
+blank_too : (byte : ℕ) → class_of Plain byte ≡ blank → class_of Brief byte ≡ blank
+blank_too byte h = grind (arith, nat_tests)
+
+number_too : (byte : ℕ) → class_of Plain byte ≡ number_sign → class_of Brief byte ≡ number_sign
+number_too byte h = grind (arith, nat_tests)
+
+sign_too : (byte : ℕ) → class_of Plain byte ≡ sign_byte → class_of Brief byte ≡ sign_byte
+sign_too byte h = grind (arith, nat_tests)
+
+part_too : (byte : ℕ) → class_of Plain byte ≡ word_part → class_of Brief byte ≡ word_part
+part_too byte h = grind (arith, nat_tests)
+
+abbrev BothToo : List ℕ → ℕ → Type 0
+BothToo bytes line = (IsFirst (raw_lexemes no_dots line bytes) → IsFirst (raw_lexemes briefs line bytes)) × (IsFirst (in_comment no_dots line bytes) → IsFirst (in_comment briefs line bytes))
+
+module _ (line byte : ℕ) (bytes : List ℕ) (below : (at : ℕ) → BothToo bytes at) where
+  outside_too : (k : Class) → class_of Plain byte ≡ k → IsFirst (lexemes_at k no_dots line byte bytes) → IsFirst (raw_lexemes briefs line (byte ∷ bytes))
+  outside_too line_feed e f = subst IsFirst (sym (by_class line_feed briefs line byte bytes (feed_too byte e))) ((below (line + 1)).0 f)
+  outside_too blank e f = subst IsFirst (sym (by_class blank briefs line byte bytes (blank_too byte e))) ((below line).0 f)
+  outside_too number_sign e f = subst IsFirst (sym (by_class number_sign briefs line byte bytes (number_too byte e))) ((below line).1 f)
+  outside_too sign_byte e f = subst IsFirst (sym (by_class sign_byte briefs line byte bytes (sign_too byte e))) refl
+  outside_too word_part e f = let b = word_begins briefs line byte bytes (part_too byte e) in ap (λ (all : Lexemes). is_version (no_version all)) b.3
+  outside_too foreign_byte e f = absurd (true≢false (sym f))
+  outside_too stray_byte e f = absurd (true≢false (sym f))
+
+  inside_too : (feed ascii : Bool) → (byte == 10) ≡ feed → nat_lt byte 128 ≡ ascii → IsFirst (in_comment no_dots line (byte ∷ bytes)) → IsFirst (in_comment briefs line (byte ∷ bytes))
+  inside_too true ascii e g f = subst IsFirst (sym (comment_ends briefs line byte bytes e)) ((below (line + 1)).0 (subst IsFirst (comment_ends no_dots line byte bytes e) f))
+  inside_too false true e g f = subst IsFirst (sym (comment_goes briefs line byte bytes e g)) ((below line).1 (subst IsFirst (comment_goes no_dots line byte bytes e g) f))
+  inside_too false false e g f = absurd (true≢false (sym f ∙ ap (λ (all : Lexemes). is_version (no_version all)) (comment_breaks no_dots line byte bytes g)))
+
+both_too : (bytes : List ℕ) (line : ℕ) → BothToo bytes line
+both_too [] line = grind (arith, common_steps)
+both_too (byte ∷ bytes) line = grind (arith, common_steps, outside_too, by_class, inside_too, (both_too bytes))
+
+pub first_too : (text : List ℕ) → is_version (no_version (lexemes_of no_dots 1 text)) ≡ true → is_version (no_version (lexemes_of briefs 1 text)) ≡ true
+unfolding lexemes_of
+first_too text f = (both_too text 1).0 f

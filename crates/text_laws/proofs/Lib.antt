@@ -8,15 +8,12 @@ pub mod SameMeanings
 pub mod SeveralLemmas
 pub mod SoundDrafts
 pub mod PartLemmas
-pub mod MeantLimits
 pub mod Families
 pub mod SoundItems
 pub mod MeantLemmas
 pub mod MeantPlans
 pub mod ApartLemmas
-pub mod SenderLemmas
 pub mod FirstWords
 pub mod Heads
 pub mod BriefHeads
-pub mod FirstKinds
 pub mod DumpSamples

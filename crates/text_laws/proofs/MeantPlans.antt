@@ -1,23 +1,32 @@
 -- The controllers of a plan that is meant, and its `never` items.
-use Rattle.std.proofs.Common.{◌≡◌, ℕ, suc, ◌+◌, ◌⊎◌, inl, inr, ◌||◌, ◌&&◌, ◌==◌, Bool, true, false, List, [], ◌∷◌, ◌++◌, map, length, Option, Some, None, is_some, slice_get, refl, ap, sym, ◌∙◌, subst, arith}
+use Rattle.std.proofs.Common.{◌≡◌, ℕ, suc, ◌+◌, ◌⊎◌, inl, inr, ◌||◌, ◌&&◌, ◌==◌, Bool, true, false, List, [], ◌∷◌, ◌++◌, map, length, Option, Some, None, is_some, slice_get, refl, ap, sym, ◌∙◌, subst, arith, ◌<◌, ◌≤◌}
 use Rattle.std.specs.Prelude.{if◌then◌else◌, unwrap_or}
-use Rattle.std.specs.List.{list_any, filter_map, range_with_len}
+use Rattle.std.specs.List.{list_any, filter_map, range_with_len, sum_by}
 use Rattle.std.specs.Str.{bytes_eq}
-use Rattle.std.proofs.lemmas.Bool.{and_parts, eqb-true, eq-eqb}
-use Rattle.std.proofs.lemmas.List.{append_assoc, append-nil}
+use Rattle.std.proofs.lemmas.Bool.{and_parts, eqb-true, eq-eqb, lt-leb}
+use Rattle.std.proofs.lemmas.List.{append_assoc, append-nil, length_push}
 use Rattle.std.proofs.lemmas.List.Folds.{list_any-append}
 use Rattle.std.proofs.lemmas.Grind.{common_steps}
 use Rattle.message_tree.specs.Trees.{FrameTree}
-use Rattle.plan_core.specs.Building.{number_of, with_sender, with_controller, two_refusal, never_refusal, controller_number, with_never}
+use Rattle.plan_core.specs.Building.{number_of, with_sender, with_controller, two_refusal, never_refusal, controller_number, with_never, numbers_of, controller_name_refusal, list_refusal}
 use Rattle.plan_core.specs.Contents.{Contents}
 use Rattle.plan_core.specs.Participants.{sendings_from, participants_of, names_both, is_never}
 use Rattle.plan_core.specs.declared.builder.BuildError.{BuildError}
 use Rattle.plan_core.specs.declared.builder.BuildError.TheVariants.{Twice}
 use Rattle.plan_core.specs.declared.plans.Participant.TheVariants.{Sending, Interrupt}
-use Rattle.plan_core.proofs.BuildingLemmas.{same-bytes_eq, NeverAllowed, never_allowed}
-use Rattle.brief_text.specs.Splitting.{Part, part_name, with_parts, with_pair, with_pairs}
-use Rattle.text_laws.proofs.Membership.{In, in_either, from_map, or_either, or_first, or_second, is_false}
-use Rattle.text_laws.proofs.EntryNames.{two, slice_in}
+use Rattle.plan_core.proofs.BuildingLemmas.{same-bytes_eq, NeverAllowed, never_allowed, controller_fits, limits-controller, limits-never, length-numbers_of}
+use Rattle.brief_text.specs.Splitting.{Part, part_name, with_parts, with_pair, with_pairs, parts, pairs_apart, plan_meant}
+use Rattle.text_laws.proofs.Membership.{In, in_either, from_map, or_either, or_first, or_second, is_false, Distinct, holds, holds_in}
+use Rattle.text_laws.proofs.EntryNames.{two, slice_in, in_has_name, number_none, in_keys_either}
+use Rattle.std.specs.Map.{keys_of}
+use Rattle.std.proofs.lemmas.List.Sums.{sum_by-cons, sum_by_push}
+use Rattle.plan_core.specs.Limits.{IsWithinLimits, sending_count}
+use Rattle.plan_core.specs.Names.{IsName}
+use Rattle.plan_core.specs.declared.limits.TheConstants.{MOST_CONTROLLERS, MOST_SENDINGS}
+use Rattle.brief_text.specs.Drafts.{Draft}
+use Rattle.text_laws.specs.Adding.{NoneIsRefused}
+use Rattle.text_laws.proofs.PartLemmas.{part_names_once, part_named, part_listed, part_sums}
+use Rattle.text_laws.proofs.SoundDrafts.{Sound, ListSound}
 
 -- ---- controllers
 
@@ -178,3 +187,76 @@ sending_at plan p c k at = by (in_either (Sending c k) (sendings_from 0 plan.con
 pub from_numbers : (messages : List (List ℕ × FrameTree)) (names : List (List ℕ)) (k : ℕ) → In k (filter_map (λ name. number_of name messages) names) → (name : List ℕ) × In name names × (number_of name messages ≡ Some k)
 from_numbers messages [] k h = absurd h
 from_numbers messages (n ∷ names) k h = grind (arith, common_steps, (from_numbers messages names k))
+
+-- The plan that a sound draft means is within the limits, and a builder refuses none of its controllers.
+
+controller_free : (plan : Contents) (name : List ℕ) → number_of name plan.controllers ≡ None → length plan.controllers < MOST_CONTROLLERS → controller_name_refusal plan name ≡ None
+unfolding controller_name_refusal
+controller_free plan name new few = rw (new, lt-leb MOST_CONTROLLERS (length plan.controllers) few) refl
+
+list_free : (plan : Contents) (before names : List (List ℕ)) → ((m : List ℕ) → In m names → In m (keys_of plan.messages)) → Distinct names → ((m : List ℕ) → In m before → In m names → ⊥)
+    → sending_count plan.controllers + length before + length names ≤ MOST_SENDINGS → list_refusal plan before names ≡ None
+list_free plan before [] known once apart room = refl
+list_free plan before (n ∷ names) known once apart room =
+    let has = in_has_name n plan.messages (known n (inl refl)) in
+    let new = is_false (holds n before) (λ h. apart n (holds_in n before h) (inl refl)) in
+    let few = lt-leb MOST_SENDINGS (sending_count plan.controllers + length before) (omega (arith, room)) in
+    let size = length_push before n in
+    rw (has, new, few) (list_free plan (before ++ n ∷ []) names (λ m h. known m (inr h)) once.1 still (omega (arith, size, room)))
+  where
+    still : (m : List ℕ) → In m (before ++ n ∷ []) → In m names → ⊥
+    still m h g = by (in_either m before (n ∷ []) h)
+      where
+        by : In m before ⊎ In m (n ∷ []) → ⊥
+        by e = grind (arith, common_steps)
+
+parts_fit : (ps : List Part) (plan : Contents) → IsWithinLimits plan → Distinct (map part_name ps) → ((p : Part) → In p ps → IsName (part_name p)) → ((p : Part) → In p ps → ListSound plan.messages p.messages)
+    → ((p : Part) → In p ps → In (part_name p) (keys_of plan.controllers) → ⊥) → length plan.controllers + length ps ≤ MOST_CONTROLLERS
+    → sending_count plan.controllers + sum_by (λ (p : Part). length p.messages) ps ≤ MOST_SENDINGS → NoneIsRefused plan ps × IsWithinLimits (with_parts plan ps)
+unfolding with_sender
+parts_fit [] plan limits once named listed new few room = (tt, limits)
+parts_fit (p ∷ ps) plan limits once named listed new few room =
+    let n = part_name p in
+    let numbers = numbers_of plan p.messages in
+    let one = listed p (inl refl) in
+    let total = sum_by-cons (λ (q : Part). length q.messages) p ps in
+    let names = list_free plan [] p.messages one.known one.once (λ m h g. h) (omega (arith, room, total)) in
+    let fits = controller_fits plan n p.messages (controller_free plan n (number_none n plan.controllers (new p (inl refl))) (omega (arith, few))) names in
+    let next = limits-controller plan n p.messages limits (named p (inl refl)) fits in
+    let size = length_push plan.controllers (n, numbers) in
+    let sent = sum_by_push (λ (c : List ℕ × List ℕ). length c.1) plan.controllers (n, numbers) in
+    let less = length-numbers_of plan p.messages in
+    let rest = parts_fit ps (with_controller plan n p.messages) next once.1 (λ q h. named q (inr h)) (λ q h. record { once = (listed q (inr h)).once; known = (listed q (inr h)).known }) later (omega (arith, size, few)) (omega (arith, sent, less, room, total)) in
+    ((fits, rest.0), rest.1)
+  where
+    later : (q : Part) → In q ps → In (part_name q) (keys_of (with_controller plan (part_name p) p.messages).controllers) → ⊥
+    later q h g = by (in_keys_either (part_name q) plan.controllers ((part_name p, numbers_of plan p.messages) ∷ []) g)
+      where
+        by : In (part_name q) (keys_of plan.controllers) ⊎ In (part_name q) (part_name p ∷ []) → ⊥
+        by (inl a) = new q (inr h) a
+        by (inr (inl e)) = once.0 (subst (λ (x : List ℕ). In x (map part_name ps)) e (there ps h))
+          where
+            there : (qs : List Part) → In q qs → In (part_name q) (map part_name qs)
+            there [] k = k
+            there (r ∷ qs) (inl same) = inl (ap part_name same)
+            there (r ∷ qs) (inr k) = inr (there qs k)
+        by (inr (inr b)) = b
+
+pub pairs_fit : (pairs : List (List ℕ × List ℕ)) (plan : Contents) → IsWithinLimits plan → IsWithinLimits (with_pairs plan pairs)
+pairs_fit [] plan limits = limits
+pairs_fit (p ∷ pairs) plan limits = grind (arith, common_steps, limits-never, (pairs_fit pairs (with_pair plan p)))
+
+module _ (draft : Draft) (sound : Sound draft) where
+  pub parts_added : NoneIsRefused draft.plan (parts draft) × IsWithinLimits (with_parts draft.plan (parts draft))
+  parts_added =
+      let none = sound.no_controllers in
+      let size = ap length none in
+      let sent = ap sending_count none in
+      let sums = part_sums draft sound in
+      parts_fit (parts draft) draft.plan sound.limits (part_names_once draft sound) (part_named draft sound) (part_listed draft sound)
+      (λ p h g. subst (λ (cs : List (List ℕ × List ℕ)). In (part_name p) (keys_of cs)) none g)
+      (omega (arith, size, sound.few_parts)) (omega (arith, sent, sums, sound.controllers.few))
+
+  pub meant_within : IsWithinLimits (plan_meant draft)
+  unfolding plan_meant
+  meant_within = pairs_fit (pairs_apart draft) (with_parts draft.plan (parts draft)) parts_added.1

@@ -24,7 +24,7 @@ use Rattle.brief_text.specs.Drafts.{Draft, members_or, stands_for, address_said,
 use Rattle.brief_text.specs.Fitting.{ListFits, Fits, MakeUp, frame_ranges, bytes_ranges, tail_ranges, often_ranges}
 use Rattle.brief_text.specs.Judging.{is_family, is_message, taken_names, is_taken, controller_refusal_of, all_of, have_one_of, sendings, listing_refusal, is_side, part_refusal, first_refusal, second_refusal}
 use Rattle.brief_text.specs.Splitting.{side_name, labels_of, parts}
-use Rattle.brief_text.specs.Trees.{Side, device, byte, controller, interrupt, never_both, Said, Times, times, ranged, BriefFrame, write_to, read_from, BriefBytes, data_byte, no_more, BriefTail, stop_here, go_on, BriefItem, message}
+use Rattle.brief_text.specs.Trees.{Side, device, byte, controller, interrupt, never_both, Said, Times, BriefFrame, write_to, read_from, BriefBytes, data_byte, no_more, BriefTail, stop_here, go_on, BriefItem, message}
 use Rattle.brief_text.specs.Words.{known_number, is_range, is_brief_name, is_no_slash, halves_at, around_slash, whole_side, label_side, side_from, side_by}
 use Rattle.text_laws.proofs.EntryNames.{has_name_in, keys_both, in_keys_left, in_keys_either, lookup_in}
 use Rattle.text_laws.proofs.Membership.{In, Distinct, in_left, in_right, in_either, in_last, distinct_both, distinct_push, in_map, any_in, in_any, is_false, not_both, true_or_false, or_either, in_among, holds, holds_in, in_holds}
@@ -274,12 +274,10 @@ module _ (draft : Draft) (sound : Sound draft) where
               }
             where
               label_of : (o : Option (List ℕ)) → side.label ≡ o → is_some o ≡ true → (label : List ℕ) × (side.label ≡ Some label)
-              label_of None f g = absurd (true≢false (sym g))
-              label_of (Some label) f g = (label, f)
+              label_of o e f = grind (arith, common_steps)
 
               kept : (s : Side) → (s.label ≡ None) ⊎ In s draft.labels → (s.label ≡ None) ⊎ In s (draft.labels ++ side ∷ [])
-              kept s (inl none) = inl none
-              kept s (inr g) = inr (in_left s draft.labels (side ∷ []) g)
+              kept s e = grind (arith, common_steps, in_left)
 
               each : (s : Side) → In s draft.labels ⊎ In s (side ∷ []) → ((label : List ℕ) × (side.label ≡ Some label)) → (In (side_name side) (keys_of draft.controllers) → ⊥) → LabelSound draft.plan.messages draft.families (keys_of draft.controllers) s
               each s (inl g) is new = sound.labels.each s g
