@@ -97,9 +97,6 @@ brief_laid_out text draft after is = let said = text_takes text draft after is i
 
 -- ---- heads that are refused
 
-abbrev good : Letters → Result Letters PlanError
-good l = Ok l
-
 abbrev bad : PlanError → Result Letters PlanError
 bad e = Err e
 

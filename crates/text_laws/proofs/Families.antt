@@ -113,9 +113,6 @@ record NewNames (draft : Draft) (name : List ℕ) (range : Option Lengths) : Typ
 none_is : {X : Type 0} (o : Option X) → is_some o ≡ false → o ≡ None
 none_is o e = grind (arith, common_steps)
 
-abbrev good : {A : Type 0} → A → Result A PlanError
-good x = Ok x
-
 -- the range that is refused nowhere
 range_free : (draft : Draft) (name : List ℕ) (range : Lengths) → range_refusal draft name range 0 range ≡ Ok range
     → (nat_lt 32 (length (member_name name range.greatest)) ≡ false) × (list_any (is_message draft) (members name range) ≡ false) × (nat_lt MOST_MESSAGES (length draft.plan.messages + length (members name range)) ≡ false)

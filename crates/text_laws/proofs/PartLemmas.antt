@@ -124,9 +124,6 @@ module _ (draft : Draft) (labels : List Side) (m : List ℕ) (several : Several 
     pub all_parts : count_by (sends m) (rest_part draft labels listed controller ∷ map (label_part draft labels listed) labels) ≡ 1
     all_parts = grind (arith, common_steps, count-cons, sends_rest, each_label, count_there)
 
-abbrev one_if : Bool → ℕ
-one_if b = cond b 1 0
-
 -- what has no message is left out, and nothing is lost
 pub kept : (m : List ℕ) (all : List Part) → count_by (sends m) (filter sends_any all) ≡ count_by (sends m) all
 kept m [] = refl

@@ -373,9 +373,6 @@ sound_never draft first second sound formed also fits =
 abbrev some_side : Side → Option Side
 some_side side = Some side
 
-abbrev some_halves : List ℕ × List ℕ → Option (List ℕ × List ℕ)
-some_halves halves = Some halves
-
 -- the halves of a word
 halves_are : (slash : ℕ) (word : List ℕ) (halves : List ℕ × List ℕ) → halves_at slash word ≡ Some halves → (slash < length word) × (take slash word ≡ halves.0) × (drop (slash + 1) word ≡ halves.1)
 halves_are slash word halves e = grind (arith, common_steps, ltb-true)
