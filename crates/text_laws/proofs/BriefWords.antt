@@ -3,7 +3,7 @@ use Rattle.std.proofs.Common.{◌≡◌, ℕ, List, [], ◌∷◌, Option, Some,
 use Rattle.brief_text.specs.declared.syntax.Lengths.{Lengths}
 use Rattle.brief_text.specs.Drafts.{Draft}
 use Rattle.brief_text.specs.Fitting.{Says}
-use Rattle.brief_text.specs.Grammar.{Phrase, one, ◌▸◌, ◌or◌, SpellsName, SpellsAs, SpellsTo, SpellsData, SpellsOften, SpellsFrame, SpellsBytes, SpellsNext, SpellsRefused, SpellsNames, SpellsItem, SpellsItems, Spells, end}
+use Rattle.brief_text.specs.Grammar.{Phrase, one, ◌▸◌, SpellsName, SpellsAs, SpellsTo, SpellsData, SpellsOften, SpellsFrame, SpellsBytes, SpellsNext, SpellsRefused, SpellsNames, SpellsItem, SpellsItems, Spells}
 use Rattle.brief_text.specs.Trees.{Said, spelled, named, Times, times, ranged, BriefFrame, write_to, read_from, BriefBytes, data_byte, no_more, BriefTail, stop_here, go_on, BriefItem, device, byte, message, controller, interrupt, never_both}
 use Rattle.brief_text.specs.Words.{address_by, data_by, repetition_by, so_often, from_to, side_by}
 use Rattle.brief_tokens.specs.declared.symbols.Keyword.TheVariants as keywords

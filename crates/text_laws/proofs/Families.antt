@@ -1,6 +1,6 @@
 -- What a message adds to a sound draft.
 use Rattle.std.proofs.Common.{◌≡◌, ℕ, zero, suc, ◌+◌, ◌-◌, ◌<◌, ◌≤◌, ◌⊎◌, inl, inr, ◌||◌, ◌&&◌, false, not, List, [], ◌∷◌, ◌++◌, map, length, codes, Option, Some, None, is_some, refl, ap, sym, ◌∙◌, subst, arith}
-use Rattle.std.specs.Prelude.{nat_lt, All, Ok, Result}
+use Rattle.std.specs.Prelude.{nat_lt, All, Ok}
 use Rattle.std.specs.Fmt.{decimal}
 use Rattle.std.specs.List.{list_any, filter, flat_map, range_with_len}
 use Rattle.std.specs.Map.{keys_of}
@@ -17,7 +17,6 @@ use Rattle.plan_core.specs.Limits.{IsWithinLimits}
 use Rattle.plan_core.specs.Names.{IsName}
 use Rattle.plan_core.specs.declared.limits.TheConstants.{MOST_MESSAGES}
 use Rattle.plan_core.proofs.BuildingLemmas.{passes, message_name_allowed, size_allowed, message_fits, limits-message}
-use Rattle.plan_text.specs.declared.errors.PlanError.{PlanError}
 use Rattle.brief_text.specs.declared.syntax.Lengths.{Lengths}
 use Rattle.brief_text.specs.Drafts.{Draft, member_name, members, members_or, lengths, stands_for, member_meant, messages_meant, with_messages, with_family, with_item}
 use Rattle.brief_text.specs.Fitting.{IsWithin, MessageFits}
