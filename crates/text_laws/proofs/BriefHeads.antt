@@ -1,8 +1,8 @@
 -- What the reader of briefs takes has a layout, and how heads of briefs are refused.
-use Rattle.std.proofs.Common.{◌≡◌, ℕ, Bool, true, false, List, length, Option, Some, None, codes, refl, ap, sym, ◌∙◌}
+use Rattle.std.proofs.Common.{◌≡◌, ℕ, List, length, Some, None, codes, refl, ap, sym, ◌∙◌, arith, Bool, true, false, ◌∷◌, Option, subst, true≢false}
+use Rattle.std.proofs.lemmas.Grind.{common_steps}
 use Rattle.std.specs.Prelude.{Result, Ok, Err, if◌then◌else◌}
-use Rattle.std.specs.Str.{bytes_eq}
-use Rattle.plan_core.proofs.BuildingLemmas.{same-bytes_eq}
+use Rattle.plan_core.proofs.BuildingLemmas.{same-bytes_eq, bytes_eq-same}
 use Rattle.brief_text.specs.Briefs.{text_read, brief_read, items_in, IsRefused}
 use Rattle.brief_text.specs.Drafts.{Draft, no_items}
 use Rattle.brief_text.specs.Grammar.{Spells}
@@ -10,22 +10,25 @@ use Rattle.brief_text.specs.Splitting.{plan_meant}
 use Rattle.brief_text.specs.Trees.{BriefItem}
 use Rattle.brief_text.proofs.SaysLemmas.{text_takes, start}
 use Rattle.brief_tokens.specs.declared.symbols.Keyword.{Keyword}
-use Rattle.brief_tokens.specs.declared.symbols.Keyword.TheVariants as keywords
-use Rattle.brief_tokens.specs.Heads.{after_head}
+use Rattle.brief_tokens.specs.Heads.{after_head, after_version}
 use Rattle.brief_tokens.specs.Tokens.{Tokens, next, keyword, word, keyword_of, token_of_word, tokens_from, tokens_of}
-use Rattle.layout.specs.Refusals.{no_version, brief_letters, brief_head, head_or, letters_in, stranger, refusal_by, refusal_of}
+use Rattle.layout.specs.Refusals.{brief_letters, brief_head, head_or, letters_in, stranger, refusal_by, refusal_of, no_version}
 use Rattle.lexer.specs.declared.lexemes.Letters.{Letters}
 use Rattle.lexer.specs.declared.lexemes.Letters.TheVariants.{Brief}
 use Rattle.lexer.specs.Lexemes.{Lexemes, text_end, stray, foreign, no_dots, briefs, lexemes_of}
-use Rattle.lexer.specs.Lexemes as lexemes
 use Rattle.plan_text.specs.declared.errors.PlanError.{PlanError}
-use Rattle.plan_text.specs.Reader.{◌>>=◌}
+use Rattle.plan_text.specs.Reader.{◌>>=◌, version_at}
 use Rattle.plan_text.specs.Refusals.{First}
-use Rattle.plan_text.specs.Tokens as plan_tokens
 use Rattle.plan_text.proofs.TextLemmas.{text_refused}
 use Rattle.text_laws.proofs.BriefWords.{end_of, brief_ends}
-use Rattle.text_laws.proofs.FirstWords.{FirstIs, first_same}
-use Rattle.text_laws.proofs.Heads.{first_refused}
+use Rattle.text_laws.proofs.FirstWords.{FirstIs, first_same, first_too}
+use Rattle.text_laws.proofs.Heads.{first_refused, no_head as not_plan}
+use Rattle.std.specs.Str.{bytes_eq}
+use Rattle.given_plans.specs.Given.{is_version, IsNeither, no_plan, no_brief, no_head}
+use Rattle.brief_tokens.specs.declared.symbols.Keyword.TheVariants as keywords
+use Rattle.lexer.specs.Lexemes as lexemes
+use Rattle.plan_text.specs.Tokens as plan_tokens
+use Rattle.plan_text.specs.declared.errors.PlanError.TheVariants as errors
 
 -- ---- tokens end as their lexemes do
 
@@ -47,40 +50,11 @@ some_keyword bytes k e = rw e refl
 
 -- a word that is told as a word
 word_is : (bytes others : List ℕ) → token_of_word bytes ≡ word others → bytes ≡ others
-word_is bytes others h = by (keyword_of bytes) refl
-  where
-    by : (o : Option Keyword) → keyword_of bytes ≡ o → bytes ≡ others
-    by None e = let same : word bytes ≡ word others = sym (no_keyword bytes e) ∙ h in cc
-    by (Some k) e = let none : keyword k ≡ word others = sym (some_keyword bytes k e) ∙ h in absurd cc
-
--- no other word is the keyword `brief`
-no_other : (a b c d e f g h i j k : Bool)
-    → (if a then Some keywords.Device else if b then Some keywords.Byte else if c then Some keywords.Any else if d then Some keywords.Message else if e then Some keywords.Controller
-    else if f then Some keywords.Interrupt else if g then Some keywords.Never else if h then Some keywords.Write else if i then Some keywords.Read else if j then Some keywords.Else
-    else if k then Some keywords.Stop else None) ≡ Some keywords.Brief → ⊥
-no_other true b c d e f g h i j k is = cc
-no_other false true c d e f g h i j k is = cc
-no_other false false true d e f g h i j k is = cc
-no_other false false false true e f g h i j k is = cc
-no_other false false false false true f g h i j k is = cc
-no_other false false false false false true g h i j k is = cc
-no_other false false false false false false true h i j k is = cc
-no_other false false false false false false false true i j k is = cc
-no_other false false false false false false false false true j k is = cc
-no_other false false false false false false false false false true k is = cc
-no_other false false false false false false false false false false true is = cc
-no_other false false false false false false false false false false false is = cc
+word_is bytes others h = grind (arith, common_steps, no_keyword, some_keyword)
 
 pub brief_word : (bytes : List ℕ) → token_of_word bytes ≡ keyword keywords.Brief → bytes ≡ codes "brief"
-brief_word bytes h = by (bytes_eq bytes (codes "brief")) refl
-  where
-    found : (o : Option Keyword) → keyword_of bytes ≡ o → keyword_of bytes ≡ Some keywords.Brief
-    found None e = let none : word bytes ≡ keyword keywords.Brief = sym (no_keyword bytes e) ∙ h in absurd cc
-    found (Some k) e = let same : keyword k ≡ keyword keywords.Brief = sym (some_keyword bytes k e) ∙ h in e ∙ (let is : k ≡ keywords.Brief = cc in ap (λ (x : Keyword). Some x) is)
-
-    by : (t : Bool) → bytes_eq bytes (codes "brief") ≡ t → bytes ≡ codes "brief"
-    by true e = same-bytes_eq bytes (codes "brief") e
-    by false e = let rest = rw e at (found (keyword_of bytes) refl) in absurd (no_other _ _ _ _ _ _ _ _ _ _ _ rest)
+unfolding token_of_word
+brief_word bytes h = same-bytes_eq bytes (codes "brief") (grind arith)
 
 -- ---- what is read
 
@@ -99,16 +73,7 @@ second_is (lexemes.next (lexemes.sign c) at more) line rest h = absurd cc
 second_is (lexemes.last ending at) line rest h = absurd cc
 
 front_is : (all : Lexemes) (line at : ℕ) (rest : Tokens) → tokens_from all ≡ next (keyword keywords.Brief) line (next (word (codes "1")) at rest) → BriefFront all
-front_is (lexemes.next (lexemes.word b) here more) line at rest h =
-    let token : token_of_word b ≡ keyword keywords.Brief = cc in
-    let second : tokens_from more ≡ next (word (codes "1")) at rest = cc in
-    let s = second_is more at rest second in
-    record {
-      line = here;
-      at = s.0;
-      more = s.1;
-      is = ap (λ (n : List ℕ). lexemes.next (lexemes.word n) here more) (brief_word b token) ∙ ap (lexemes.next (lexemes.word (codes "brief")) here) s.2;
-    }
+front_is (lexemes.next (lexemes.word b) here more) line at rest h = grind (arith, common_steps, second_is, brief_word)
 front_is (lexemes.next (lexemes.sign c) here more) line at rest h = absurd cc
 front_is (lexemes.last ending here) line at rest h = absurd cc
 
@@ -132,34 +97,15 @@ brief_laid_out text draft after is = let said = text_takes text draft after is i
 
 -- ---- heads that are refused
 
-abbrev good : Letters → Result Letters PlanError
-good l = Ok l
-
 abbrev bad : PlanError → Result Letters PlanError
 bad e = Err e
 
 second_stranger : (rest : Lexemes) (e : PlanError) → brief_letters rest ≡ Some (bad e) → (line : ℕ) → after_head (next (keyword keywords.Brief) line (tokens_from rest)) ≡ Err e
-second_stranger (lexemes.next (lexemes.word b) at more) e h line = by (bytes_eq b (codes "1")) h
-  where
-    by : (t : Bool) → (if t then Some (good Brief) else None) ≡ Some (bad e) → after_head (next (keyword keywords.Brief) line (next (token_of_word b) at (tokens_from more))) ≡ Err e
-    by true g = let none : good Brief ≡ bad e = cc in absurd cc
-    by false g = absurd cc
-second_stranger (lexemes.next (lexemes.sign c) at more) e h line = absurd cc
-second_stranger (lexemes.last text_end at) e h line = absurd cc
-second_stranger (lexemes.last stray at) e h line = let same : bad (no_version (lexemes.last stray at)) ≡ bad e = cc in let is : no_version (lexemes.last stray at) ≡ e = cc in ap (λ (d : PlanError). Err d) is
-second_stranger (lexemes.last foreign at) e h line = let same : bad (no_version (lexemes.last foreign at)) ≡ bad e = cc in let is : no_version (lexemes.last foreign at) ≡ e = cc in ap (λ (d : PlanError). Err d) is
+second_stranger rest e_ e line = grind (arith, common_steps)
 
 head_stranger : (all : Lexemes) (e : PlanError) → brief_head all ≡ Some (bad e) → after_head (tokens_from all) ≡ Err e
 unfolding token_of_word
-head_stranger (lexemes.next (lexemes.word b) line rest) e h = by (bytes_eq b (codes "brief")) refl h
-  where
-    by : (t : Bool) → bytes_eq b (codes "brief") ≡ t → (if t then brief_letters rest else None) ≡ Some (bad e) → after_head (next (token_of_word b) line (tokens_from rest)) ≡ Err e
-    by true is g =
-        let name = same-bytes_eq b (codes "brief") is in
-        ap (λ (n : List ℕ). after_head (next (token_of_word n) line (tokens_from rest))) name ∙ second_stranger rest e g line
-    by false is g = absurd cc
-head_stranger (lexemes.next (lexemes.sign c) line rest) e h = absurd cc
-head_stranger (lexemes.last ending line) e h = absurd cc
+head_stranger all e_ e = grind (arith, common_steps, same-bytes_eq, second_stranger)
 
 pub brief_refused : (text : List ℕ) (e : PlanError) → brief_head (lexemes_of briefs 1 text) ≡ Some (bad e) → IsRefused text e
 unfolding brief_read text_read tokens_of
@@ -169,3 +115,122 @@ brief_refused text e h =
 pub plan_refused : (text : List ℕ) (e : PlanError) → head_or None (lexemes_of no_dots 1 text) ≡ Err e → First text e
 unfolding plan_tokens.tokens_of
 plan_refused text e h = text_refused text e (first_refused (lexemes_of no_dots 1 text) e h)
+
+-- Heads are refused exactly as those who read either a plan or a brief refuse them.
+
+abbrev some_letters : Result Letters PlanError
+some_letters = Ok Brief
+
+-- `brief` is told as its keyword
+brief_token : token_of_word (codes "brief") ≡ keyword keywords.Brief
+unfolding token_of_word
+brief_token = refl
+
+-- ---- a brief whose head is refused for its version
+
+-- the head of a brief is refused so
+abbrev LacksHead : Tokens → Type 0
+LacksHead from = (e : PlanError) × (after_head from ≡ Err e) × (is_version e ≡ true)
+
+second_lacks : (rest : Lexemes) (line : ℕ) → brief_letters rest ≡ None → LacksHead (next (keyword keywords.Brief) line (tokens_from rest))
+second_lacks (lexemes.next (lexemes.word b) at more) line h = by (keyword_of b) refl
+  where
+    other : bytes_eq b (codes "1") ≡ false
+    other = test (bytes_eq b (codes "1")) h
+      where
+        test : (t : Bool) → (if t then Some (some_letters) else None) ≡ None → t ≡ false
+        test true g = absurd cc
+        test false g = refl
+
+    by : (o : Option Keyword) → keyword_of b ≡ o → LacksHead (next (keyword keywords.Brief) line (next (token_of_word b) at (tokens_from more)))
+    by None e = (errors.Version at, ap (λ t. after_version (next t at (tokens_from more))) (no_keyword b e) ∙ rw other refl, refl)
+    by (Some k) e = (errors.Version at, ap (λ t. after_version (next t at (tokens_from more))) (some_keyword b k e), refl)
+second_lacks (lexemes.next (lexemes.sign c) at more) line h = (errors.Version at, refl, refl)
+second_lacks (lexemes.last text_end at) line h = (errors.Version at, refl, refl)
+second_lacks (lexemes.last stray at) line h = absurd cc
+second_lacks (lexemes.last foreign at) line h = absurd cc
+
+other_keyword : (k : Keyword) (line : ℕ) (rest : Tokens) → (k ≡ keywords.Brief → ⊥) → after_head (next (keyword k) line rest) ≡ Err (errors.Version line)
+other_keyword k line rest e = grind (arith, common_steps)
+
+head_lacks : (all : Lexemes) → brief_head all ≡ None → is_version (no_version all) ≡ true → LacksHead (tokens_from all)
+head_lacks (lexemes.next (lexemes.word b) line rest) none first = by (bytes_eq b (codes "brief")) refl none
+  where
+    by : (t : Bool) → bytes_eq b (codes "brief") ≡ t → (if t then brief_letters rest else None) ≡ None → LacksHead (next (token_of_word b) line (tokens_from rest))
+    by true is h = subst (λ (n : List ℕ). LacksHead (next (token_of_word n) line (tokens_from rest))) (sym (same-bytes_eq b (codes "brief") is)) (brief_first h)
+      where
+        brief_first : brief_letters rest ≡ None → LacksHead (next (token_of_word (codes "brief")) line (tokens_from rest))
+        brief_first g = subst (λ t. LacksHead (next t line (tokens_from rest))) (sym brief_token) (second_lacks rest line g)
+    by false is h = told (keyword_of b) refl
+      where
+        told : (o : Option Keyword) → keyword_of b ≡ o → LacksHead (next (token_of_word b) line (tokens_from rest))
+        told None e = (errors.Version line, ap (λ t. after_head (next t line (tokens_from rest))) (no_keyword b e), refl)
+        told (Some k) e = (
+          errors.Version line,
+          ap (λ t. after_head (next t line (tokens_from rest))) (some_keyword b k e)
+              ∙ other_keyword k line (tokens_from rest) (λ same. true≢false (sym (bytes_eq-same b (codes "brief") (brief_word b (some_keyword b k e ∙ ap keyword same))) ∙ is)),
+          refl,
+        )
+head_lacks (lexemes.next (lexemes.sign c) line rest) none first = (errors.Version line, refl, refl)
+head_lacks (lexemes.last text_end line) none first = (errors.Version line, refl, refl)
+head_lacks (lexemes.last stray line) none first = absurd (true≢false (sym first))
+head_lacks (lexemes.last foreign line) none first = absurd (true≢false (sym first))
+
+lacks_read : (text : List ℕ) → LacksHead (tokens_of 1 text) → (e : PlanError) × IsRefused text e × (is_version e ≡ true)
+unfolding brief_read text_read
+lacks_read text h = (h.0, ap (λ r. (r >>= λ rest. items_in (length text) no_items (start rest)) >>= λ draft. Ok (plan_meant draft)) h.1, h.2)
+
+-- ---- heads of plans
+
+-- a refusal for the version says that what stands first is a lexeme or the end
+plan_first : (all : Lexemes) (e : PlanError) → head_or None all ≡ Err e → is_version e ≡ true → is_version (no_version all) ≡ true
+plan_first all e_ e f = grind (arith, common_steps)
+
+-- ---- heads of briefs
+
+brief_begins : (all : Lexemes) (r : Result Letters PlanError) → brief_head all ≡ Some r → FirstIs all
+brief_begins (lexemes.next (lexemes.word b) line rest) r h = by (bytes_eq b (codes "brief")) refl h
+  where
+    by : (t : Bool) → bytes_eq b (codes "brief") ≡ t → (if t then brief_letters rest else None) ≡ Some r → FirstIs (lexemes.next (lexemes.word b) line rest)
+    by true is g = (codes "rief", line, rest, ap (λ (n : List ℕ). lexemes.next (lexemes.word n) line rest) (same-bytes_eq b (codes "brief") is))
+    by false is g = absurd cc
+brief_begins (lexemes.next (lexemes.sign c) line rest) r h = absurd cc
+brief_begins (lexemes.last ending line) r h = absurd cc
+
+-- what a brief is refused for in this way is no version
+stranger_second : (rest : Lexemes) (e : PlanError) → brief_letters rest ≡ Some (bad e) → is_version e ≡ false
+stranger_second rest e_ e = grind (arith, common_steps)
+
+stranger_no_version : (all : Lexemes) (e : PlanError) → brief_head all ≡ Some (bad e) → is_version e ≡ false
+stranger_no_version all e_ e = grind (arith, common_steps, stranger_second)
+
+-- as a plan it is refused for its version
+no_plan_head : (all : Lexemes) → FirstIs all → (line : ℕ) × (version_at (plan_tokens.tokens_from all) ≡ Err (errors.Version line))
+no_plan_head all first =
+    (first.1, ap (λ (ls : Lexemes). version_at (plan_tokens.tokens_from ls)) first.3 ∙ not_plan (98 ∷ first.0) first.1 (plan_tokens.tokens_from first.2) refl)
+
+refused_as_plan : (text : List ℕ) → FirstIs (lexemes_of no_dots 1 text) → (line : ℕ) × First text (errors.Version line)
+unfolding plan_tokens.tokens_of
+refused_as_plan text first = let h = no_plan_head (lexemes_of no_dots 1 text) first in (h.0, text_refused text (errors.Version h.0) h.1)
+
+pub head_exact : (text : List ℕ) (e : PlanError) → letters_in text ≡ Err e → IsNeither text e
+unfolding letters_in tokens_of
+head_exact text e h = by (brief_head (lexemes_of briefs 1 text)) refl h
+  where
+    by_version : brief_head (lexemes_of briefs 1 text) ≡ None → head_or None (lexemes_of no_dots 1 text) ≡ Err e → (t : Bool) → is_version e ≡ t → IsNeither text e
+    by_version none g false is = no_plan (plan_refused text e g) is
+    by_version none g true is =
+        let brief = lacks_read text (head_lacks (lexemes_of briefs 1 text) none (first_too text (plan_first (lexemes_of no_dots 1 text) e g is))) in
+        no_head (plan_refused text e g) is brief.1 brief.2
+
+    by_brief : (r : Result Letters PlanError) → brief_head (lexemes_of briefs 1 text) ≡ Some r → head_or (Some r) (lexemes_of no_dots 1 text) ≡ Err e → IsNeither text e
+    by_brief r is g =
+        let first = first_same text (brief_begins (lexemes_of briefs 1 text) r is) in
+        let own : r ≡ Err e = sym (ap (head_or (Some r)) first.3) ∙ g in
+        let refused = is ∙ ap (λ (x : Result Letters PlanError). Some x) own in
+        let plan = refused_as_plan text first in
+        no_brief plan.1 refl (brief_refused text e refused) (stranger_no_version (lexemes_of briefs 1 text) e refused)
+
+    by : (o : Option (Result Letters PlanError)) → brief_head (lexemes_of briefs 1 text) ≡ o → head_or o (lexemes_of no_dots 1 text) ≡ Err e → IsNeither text e
+    by None is g = by_version is g (is_version e) refl
+    by (Some r) is g = by_brief r is g

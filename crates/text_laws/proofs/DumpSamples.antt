@@ -1,5 +1,6 @@
 -- The samples of a dump, stamp by stamp: none is earlier than its stamp, and each has a change.
-use Rattle.std.proofs.Common.{◌≡◌, ℕ, ◌<◌, ◌≤◌, inl, inr, Bool, true, false, ◌&&◌, List, [], ◌∷◌, ◌++◌, Ok, refl, sym, subst, arith}
+use Rattle.std.proofs.Common.{◌≡◌, ℕ, ◌≤◌, inl, inr, Bool, true, false, ◌&&◌, List, [], ◌∷◌, ◌++◌, Ok, refl, sym, subst, arith}
+use Rattle.std.proofs.lemmas.Grind.{common_steps}
 use Rattle.std.specs.Prelude.{if◌then◌else◌}
 use Rattle.pulses.specs.Laws.{AreInOrder, AreChanges}
 use Rattle.pulses.proofs.LevelLemmas.{same, alike}
@@ -27,10 +28,7 @@ ChangeFrom scl sda (s ∷ more) = ((same_level scl s.scl && same_level sda s.sda
 
 sooner : (time later : ℕ) (samples : List Sample) → time ≤ later → ComeFrom later samples → ComeFrom time samples
 sooner time later [] le h = tt
-sooner time later (s ∷ more) le h =
-    let first : later ≤ s.time = h.0 in
-    let begins : time ≤ s.time = omega arith in
-    (begins, h.1)
+sooner time later (s ∷ more) le h = grind (arith, common_steps)
 
 next_in_order : (front rest : List Sample) (a b : Sample) (time : ℕ) → ComeFrom time (front ++ (a ∷ (b ∷ rest))) → a.time ≤ b.time
 next_in_order [] rest a b time h = h.1.0
@@ -40,17 +38,11 @@ in_order : (samples : List Sample) (time : ℕ) → ComeFrom time samples → Ar
 in_order samples time h front rest a b is = next_in_order front rest a b time (subst (ComeFrom time) is h)
 
 no_change : (scl sda scl_now sda_now : Level) → scl ≡ scl_now → sda ≡ sda_now → (same_level scl scl_now && same_level sda sda_now) ≡ true
-no_change scl sda scl_now sda_now one other =
-    let at_one : same_level scl scl_now ≡ true = subst (λ (l : Level). same_level scl l ≡ true) one (same scl) in
-    let at_other : same_level sda sda_now ≡ true = subst (λ (l : Level). same_level sda l ≡ true) other (same sda) in
-    rw (at_one, at_other) refl
+no_change scl sda scl_now sda_now one other = grind (arith, common_steps, same)
 
 next_changes : (front rest : List Sample) (a b : Sample) (scl sda : Level) → ChangeFrom scl sda (front ++ (a ∷ (b ∷ rest))) → a.scl ≡ b.scl → a.sda ≡ b.sda → ⊥
-next_changes [] rest a b scl sda h one other =
-    let differs : (same_level a.scl b.scl && same_level a.sda b.sda) ≡ false = h.1.0 in
-    let alike_now = no_change a.scl a.sda b.scl b.sda one other in
-    cc
-next_changes (s ∷ front) rest a b scl sda h one other = next_changes front rest a b s.scl s.sda h.1 one other
+next_changes [] rest a b scl sda h one other = grind (arith, common_steps, no_change)
+next_changes (s ∷ front) rest a b scl sda h one other = grind (arith, common_steps, (next_changes front rest a b s.scl s.sda h.1 one other))
 
 are_changes : (samples : List Sample) (scl sda : Level) → ChangeFrom scl sda samples → AreChanges samples
 are_changes samples scl sda h front rest a b is one other = next_changes front rest a b scl sda (subst (ChangeFrom scl sda) is h) one other
@@ -59,21 +51,15 @@ are_changes samples scl sda h front rest a b is one other = next_changes front r
 
 stamp_in_order : (test : Bool) (time now : ℕ) (scl sda : Level) (more : List Sample) → time ≤ now → ComeFrom now more →
     ComeFrom time ((if test then [] else record { time = now; scl = scl; sda = sda } ∷ []) ++ more)
-stamp_in_order true time now scl sda more le h = sooner time now more le h
-stamp_in_order false time now scl sda more le h = (le, h)
+stamp_in_order test time now scl sda more e f = grind (arith, common_steps, sooner)
 
 both_true : (a b : Bool) → (a && b) ≡ true → (a ≡ true) × (b ≡ true)
-both_true true b h = (refl, h)
-both_true false b h = absurd cc
+both_true a b e = grind (arith, common_steps)
 
 stamp_changes_by : (test : Bool) (time : ℕ) (scl sda scl_now sda_now : Level) (more : List Sample) → (same_level scl scl_now && same_level sda sda_now) ≡ test →
     ChangeFrom scl_now sda_now more →
     ChangeFrom scl sda ((if test then [] else record { time = time; scl = scl_now; sda = sda_now } ∷ []) ++ more)
-stamp_changes_by true time scl sda scl_now sda_now more e h =
-    let both = both_true (same_level scl scl_now) (same_level sda sda_now) e in
-    subst (λ (l : Level). ChangeFrom l sda more) (sym (alike scl scl_now both.0))
-    (subst (λ (l : Level). ChangeFrom scl_now l more) (sym (alike sda sda_now both.1)) h)
-stamp_changes_by false time scl sda scl_now sda_now more e h = (e, h)
+stamp_changes_by test time scl sda scl_now sda_now more e f = grind (arith, common_steps, both_true, alike)
 
 stamp_changes : (time : ℕ) (scl sda scl_now sda_now : Level) (more : List Sample) → ChangeFrom scl_now sda_now more → ChangeFrom scl sda (sample_at time scl sda scl_now sda_now ++ more)
 stamp_changes time scl sda scl_now sda_now more h =
@@ -83,34 +69,16 @@ stamp_changes time scl sda scl_now sda_now more h =
 
 stamps_in_order : (stamps : List Stamp) (scl_line sda_line : Named) (scl sda : Level) (time : ℕ) → AreStamps time stamps → ComeFrom time (stamp_samples scl_line sda_line scl sda stamps)
 stamps_in_order [] scl_line sda_line scl sda time are = tt
-stamps_in_order (stamp ∷ stamps) scl_line sda_line scl sda time are =
-    let scl_now = level_after scl_line scl stamp.entries in
-    let sda_now = level_after sda_line sda stamp.entries in
-    let after : time < stamp.time = are.2 in
-    let le : time ≤ stamp.time = omega arith in
-    stamp_in_order (same_level scl scl_now && same_level sda sda_now) time stamp.time scl_now sda_now (stamp_samples scl_line sda_line scl_now sda_now stamps) le
-    (stamps_in_order stamps scl_line sda_line scl_now sda_now stamp.time are.4)
+stamps_in_order (stamp ∷ stamps) scl_line sda_line scl sda time are = grind (arith, common_steps, stamp_in_order, (stamps_in_order stamps scl_line sda_line))
 
 stamps_change : (stamps : List Stamp) (scl_line sda_line : Named) (scl sda : Level) → ChangeFrom scl sda (stamp_samples scl_line sda_line scl sda stamps)
 stamps_change [] scl_line sda_line scl sda = tt
-stamps_change (stamp ∷ stamps) scl_line sda_line scl sda =
-    let scl_now = level_after scl_line scl stamp.entries in
-    let sda_now = level_after sda_line sda stamp.entries in
-    stamp_changes stamp.time scl sda scl_now sda_now (stamp_samples scl_line sda_line scl_now sda_now stamps) (stamps_change stamps scl_line sda_line scl_now sda_now)
+stamps_change (stamp ∷ stamps) scl_line sda_line scl sda = grind (arith, common_steps, stamp_changes, (stamps_change stamps scl_line sda_line))
 
 -- ---- a whole dump
 
 spelled_in_order : (scl sda : Finder) (text : List ℕ) (samples : List Sample) → Spells scl sda (tokens_of 1 text) samples → ComeFrom 0 samples
-spelled_in_order scl sda text samples (inl (d, is, tokens, these)) =
-    let scl_line = line_for scl d.declarations in
-    let sda_line = line_for sda d.declarations in
-    let scl_first = level_after scl_line Unknown d.first in
-    let sda_first = level_after sda_line Unknown d.first in
-    let le : 0 ≤ 0 = omega arith in
-    subst (ComeFrom 0) (sym these)
-    (stamp_in_order (same_level Unknown scl_first && same_level Unknown sda_first) 0 0 scl_first sda_first (stamp_samples scl_line sda_line scl_first sda_first d.stamps) le
-    (stamps_in_order d.stamps scl_line sda_line scl_first sda_first 0 is.stamps))
-spelled_in_order scl sda text samples (inr (declarations, is, tokens, none)) = subst (ComeFrom 0) (sym none) tt
+spelled_in_order scl sda text samples e = grind (arith, common_steps, stamp_in_order, stamps_in_order)
 
 spelled_changes : (scl sda : Finder) (text : List ℕ) (samples : List Sample) → Spells scl sda (tokens_of 1 text) samples → ChangeFrom Unknown Unknown samples
 spelled_changes scl sda text samples (inl (d, is, tokens, these)) =

@@ -1,6 +1,6 @@
 -- What a message adds to a sound draft.
-use Rattle.std.proofs.Common.{◌≡◌, ℕ, zero, suc, ◌+◌, ◌-◌, ◌<◌, ◌≤◌, ◌⊎◌, inl, inr, ◌||◌, ◌&&◌, Bool, true, false, not, List, [], ◌∷◌, ◌++◌, map, length, codes, Option, Some, None, is_some, refl, ap, sym, ◌∙◌, subst, arith, true≢false}
-use Rattle.std.specs.Prelude.{if◌then◌else◌, nat_lt, All, Ok, Err, Result}
+use Rattle.std.proofs.Common.{◌≡◌, ℕ, zero, suc, ◌+◌, ◌-◌, ◌<◌, ◌≤◌, ◌⊎◌, inl, inr, ◌||◌, ◌&&◌, false, not, List, [], ◌∷◌, ◌++◌, map, length, codes, Option, Some, None, is_some, refl, ap, sym, ◌∙◌, subst, arith}
+use Rattle.std.specs.Prelude.{nat_lt, All, Ok}
 use Rattle.std.specs.Fmt.{decimal}
 use Rattle.std.specs.List.{list_any, filter, flat_map, range_with_len}
 use Rattle.std.specs.Map.{keys_of}
@@ -9,21 +9,19 @@ use Rattle.std.proofs.lemmas.Bool.{lt-leb, ltb-false}
 use Rattle.std.proofs.lemmas.Fmt.{decimal_injective}
 use Rattle.std.proofs.lemmas.List.{append_assoc, length-append, append-nil, append_cancel_left, length_push, length-map}
 use Rattle.std.proofs.lemmas.List.Elements.{All-head, All-tail}
+use Rattle.std.proofs.lemmas.Grind.{common_steps}
 use Rattle.message_tree.specs.Trees.{FrameTree}
-use Rattle.plan_core.specs.Building.{number_of, has_name, message_name_refusal, with_message}
+use Rattle.plan_core.specs.Building.{number_of, message_name_refusal, with_message}
 use Rattle.plan_core.specs.Contents.{Contents}
 use Rattle.plan_core.specs.Limits.{IsWithinLimits}
 use Rattle.plan_core.specs.Names.{IsName}
-use Rattle.plan_core.specs.declared.builder.BuildError.TheVariants.{Twice}
 use Rattle.plan_core.specs.declared.limits.TheConstants.{MOST_MESSAGES}
 use Rattle.plan_core.proofs.BuildingLemmas.{passes, message_name_allowed, size_allowed, message_fits, limits-message}
-use Rattle.plan_text.specs.declared.errors.PlanError.{PlanError}
-use Rattle.plan_text.specs.declared.errors.PlanError.TheVariants as errors
 use Rattle.brief_text.specs.declared.syntax.Lengths.{Lengths}
 use Rattle.brief_text.specs.Drafts.{Draft, member_name, members, members_or, lengths, stands_for, member_meant, messages_meant, with_messages, with_family, with_item}
-use Rattle.brief_text.specs.Fitting.{IsWithin, IsAllowed, MessageFits}
-use Rattle.brief_text.specs.Judging.{is_family, is_message, message_refusal_of, range_refusal}
-use Rattle.brief_text.specs.Splitting.{Part, label_messages, is_label, label_part, rest_part, split_by, labels_of, parts_of, parts, sends_any}
+use Rattle.brief_text.specs.Fitting.{IsWithin, MessageFits}
+use Rattle.brief_text.specs.Judging.{is_message, message_refusal_of, range_refusal}
+use Rattle.brief_text.specs.Splitting.{Part, label_messages, is_label, label_part, rest_part, split_by, parts, sends_any}
 use Rattle.brief_text.specs.Trees.{Side, BriefFrame, message}
 use Rattle.text_laws.proofs.EntryNames.{number_none, none_number, in_has_name, in_keys_either, in_keys_left, in_keys_right, lookup_kept, lookup_last, lookup_other}
 use Rattle.text_laws.proofs.JoinedNames.{is_joined, decimal_bytes, decimal_shorter}
@@ -42,10 +40,7 @@ range_once a zero = tt
 range_once a (suc n) = ((λ h. absurd (let r = range_bound (a + 1) n a h in omega (arith, r.0))), range_once (a + 1) n)
 
 longer : (name : List ℕ) (n : ℕ) → length (member_name name n) ≡ length name + 1 + length (decimal n)
-longer name n =
-    let first = length-append (name ++ codes "_") (decimal n) in
-    let second = length-append name (codes "_") in
-    omega (arith, first, second)
+longer name n = grind (arith, common_steps, length-append)
 
 module _ (name : List ℕ) (range : Lengths) (bound : range.greatest ≤ 255) where
   within : (n : ℕ) → In n (lengths range) → n ≤ range.greatest
@@ -59,29 +54,17 @@ module _ (name : List ℕ) (range : Lengths) (bound : range.greatest ≤ 255) wh
 
   -- a member is longer than its family
   pub no_member : In name (members name range) → ⊥
-  no_member h =
-      let f = from_map (member_name name) (lengths range) name h in
-      let size = longer name f.0 in
-      let same = ap length f.2 in
-      absurd (omega (arith, size, same))
+  no_member h = grind (arith, common_steps, from_map, longer)
 
   pub members_named : IsName name → length (member_name name range.greatest) ≤ 32 → (m : List ℕ) → In m (members name range) → IsName m
-  members_named is short m h =
-      let f = from_map (member_name name) (lengths range) m h in
-      let less = within f.0 f.1 in
-      let digits = decimal_shorter f.0 range.greatest (omega (arith, bound)) less in
-      let here = longer name f.0 in
-      let most = longer name range.greatest in
-      subst IsName (sym f.2) (is_joined name (decimal f.0) is (decimal_bytes f.0 (omega (arith, less, bound))) (omega (arith, here, most, digits, short)))
+  members_named is short m h = grind (arith, common_steps, from_map, within, decimal_shorter, longer, is_joined, decimal_bytes)
 
 -- ---- messages one after another
 
 messages_are : (made : Messages) (plan : Contents) → with_messages plan made ≡ record plan { messages = plan.messages ++ made }
 unfolding with_message
-messages_are [] plan = ap (λ (ms : Messages). record plan { messages = ms }) (sym (append-nil plan.messages))
-messages_are (m ∷ made) plan =
-    messages_are made (with_message plan m.0 m.1)
-    ∙ ap (λ (ms : Messages). record plan { messages = ms }) (append_assoc plan.messages ((m.0, m.1) ∷ []) made)
+messages_are [] plan = grind (arith, common_steps, append-nil)
+messages_are (m ∷ made) plan = grind (arith, common_steps, append_assoc, (messages_are made (with_message plan m.0 m.1)))
 
 name_free : (plan : Contents) (name : List ℕ) → number_of name plan.messages ≡ None → length plan.messages < MOST_MESSAGES → message_name_refusal plan name ≡ None
 unfolding message_name_refusal
@@ -127,52 +110,16 @@ record NewNames (draft : Draft) (name : List ℕ) (range : Option Lengths) : Typ
   room : length draft.plan.messages + length (members_or name range) ≤ MOST_MESSAGES
 
 none_is : {X : Type 0} (o : Option X) → is_some o ≡ false → o ≡ None
-none_is None e = refl
-none_is (Some x) e = absurd (true≢false e)
-
-abbrev good : {A : Type 0} → A → Result A PlanError
-good x = Ok x
+none_is o e = grind (arith, common_steps)
 
 -- the range that is refused nowhere
 range_free : (draft : Draft) (name : List ℕ) (range : Lengths) → range_refusal draft name range 0 range ≡ Ok range
     → (nat_lt 32 (length (member_name name range.greatest)) ≡ false) × (list_any (is_message draft) (members name range) ≡ false) × (nat_lt MOST_MESSAGES (length draft.plan.messages + length (members name range)) ≡ false)
-range_free draft name range e = by _ _ _ refl refl refl e
-  where
-    by : (a b c : Bool) → nat_lt 32 (length (member_name name range.greatest)) ≡ a → list_any (is_message draft) (members name range) ≡ b → nat_lt MOST_MESSAGES (length draft.plan.messages + length (members name range)) ≡ c
-        → (if a then Err (errors.Unexpected 0) else if b then Err (errors.Twice 0) else if c then Err (errors.TooMany 0) else Ok range) ≡ good range
-        → (nat_lt 32 (length (member_name name range.greatest)) ≡ false) × (list_any (is_message draft) (members name range) ≡ false) × (nat_lt MOST_MESSAGES (length draft.plan.messages + length (members name range)) ≡ false)
-    by false false false p q r h = (p, q, r)
-    by true b c p q r h = absurd cc
-    by false true c p q r h = absurd cc
-    by false false true p q r h = absurd cc
+range_free draft name range e = grind (arith, common_steps)
 
 new_names : (draft : Draft) (name : List ℕ) (range : Option Lengths) (frame : BriefFrame) → IsName name → ((r : Lengths) → range ≡ Some r → r.greatest ≤ 255) → MessageFits draft name range frame → NewNames draft name range
 unfolding message_refusal_of
-new_names draft name range frame is bound fits = by range bound fits.members
-  where
-    by : (r : Option Lengths) → ((s : Lengths) → r ≡ Some s → s.greatest ≤ 255) → IsAllowed draft name r → NewNames draft name r
-    by None small allowed = record {
-      family = none_is (family_of name draft.families) (passes (is_family draft name) Twice (message_name_refusal draft.plan name) fits.new).0;
-      apart = none_number name draft.plan.messages (message_name_allowed draft.plan name (passes (is_family draft name) Twice (message_name_refusal draft.plan name) fits.new).1).0;
-      named = λ m h. elim h [ inl e ↦ subst IsName (sym e) is | inr k ↦ absurd k ];
-      once = ((λ k. k), tt);
-      no_family = λ m h. elim h [ inl e ↦ ap (λ (n : List ℕ). family_of n draft.families) e ∙ none_is (family_of name draft.families) (passes (is_family draft name) Twice (message_name_refusal draft.plan name) fits.new).0 | inr k ↦ absurd k ];
-      no_message = λ m h g. elim h [ inl e ↦ none_number name draft.plan.messages (message_name_allowed draft.plan name (passes (is_family draft name) Twice (message_name_refusal draft.plan name) fits.new).1).0 (subst (λ (n : List ℕ). In n (keys_of draft.plan.messages)) e g) | inr k ↦ absurd k ];
-      room = let few = (message_name_allowed draft.plan name (passes (is_family draft name) Twice (message_name_refusal draft.plan name) fits.new).1).1 in omega (arith, few);
-    }
-    by (Some r) small allowed =
-        let free = range_free draft name r allowed in
-        let none : (m : List ℕ) → In m (members name r) → (is_family draft m ≡ false) × (has_name m draft.plan.messages ≡ false) = λ m h.
-        or_neither (is_family draft m) (has_name m draft.plan.messages) (is_false (is_message draft m) (λ g. not_both (list_any (is_message draft) (members name r)) (in_any (is_message draft) (members name r) m h g) free.1)) in
-        record {
-          family = none_is (family_of name draft.families) (passes (is_family draft name) Twice (message_name_refusal draft.plan name) fits.new).0;
-          apart = none_number name draft.plan.messages (message_name_allowed draft.plan name (passes (is_family draft name) Twice (message_name_refusal draft.plan name) fits.new).1).0;
-          named = members_named name r (small r refl) is (ltb-false 32 (length (member_name name r.greatest)) free.0);
-          once = members_once name r (small r refl);
-          no_family = λ m h. none_is (family_of m draft.families) (none m h).0;
-          no_message = λ m h g. not_both (has_name m draft.plan.messages) (in_has_name m draft.plan.messages g) (none m h).1;
-          room = ltb-false MOST_MESSAGES (length draft.plan.messages + length (members name r)) free.2;
-        }
+new_names draft name range frame is bound fits = grind (arith, common_steps, none_is, passes, none_number, message_name_allowed, range_free, or_neither, is_false, not_both, in_any, members_named, ltb-false, members_once, in_has_name)
 
 -- ---- what has grown
 
@@ -200,11 +147,7 @@ module _ (draft : Draft) (sound : Sound draft) (name : List ℕ) (range : Option
   Either a r = (family_of a draft.families ≡ Some r) ⊎ ((a ≡ name) × (range ≡ Some r))
 
   either : (a : List ℕ) (r : Lengths) → family_of a families ≡ Some r → Either a r
-  either a r e = by range refl e
-    where
-      by : (o : Option Lengths) → range ≡ o → family_of a (with_family draft name o) ≡ Some r → Either a r
-      by None is h = inl h
-      by (Some new) is h = elim (lookup_last a draft.families name new r h) [ inl old ↦ inl old | inr last ↦ inr (last.0, is ∙ ap (λ (l : Lengths). Some l) last.1) ]
+  either a r e = grind (arith, common_steps, lookup_last)
 
   -- the members of the new one
   members_are : (a : List ℕ) (r : Lengths) (m : List ℕ) → a ≡ name → range ≡ Some r → In m (members a r) → In m (members_or name range)
@@ -247,11 +190,7 @@ module _ (draft : Draft) (sound : Sound draft) (name : List ℕ) (range : Option
   }
 
   family_kept : (a : List ℕ) (r : Lengths) → family_of a draft.families ≡ Some r → family_of a families ≡ Some r
-  family_kept a r e = by range
-    where
-      by : (o : Option Lengths) → family_of a (with_family draft name o) ≡ Some r
-      by None = e
-      by (Some last) = lookup_kept a draft.families ((name, last) ∷ []) r e
+  family_kept a r e = grind (arith, common_steps, lookup_kept)
 
   labels_grown : LabelsSound messages families (keys_of draft.controllers) draft.labels
   labels_grown = record {
@@ -264,12 +203,7 @@ module _ (draft : Draft) (sound : Sound draft) (name : List ℕ) (range : Option
   -- ---- a label stands for what it stood for
 
   same_family : (label : List ℕ) → ((r : Lengths) × (family_of label draft.families ≡ Some r)) ⊎ In label (keys_of draft.plan.messages) → family_of label families ≡ family_of label draft.families
-  same_family label (inl f) = family_kept label f.0 f.1 ∙ sym f.1
-  same_family label (inr m) = by range
-    where
-      by : (o : Option Lengths) → family_of label (with_family draft name o) ≡ family_of label draft.families
-      by None = refl
-      by (Some last) = lookup_other label draft.families name last (λ e. new.apart (subst (λ (x : List ℕ). In x (keys_of draft.plan.messages)) e m))
+  same_family label e = grind (arith, common_steps, family_kept, lookup_other)
 
   same_messages : (s : Side) → In s draft.labels → label_messages grown s ≡ label_messages draft s
   same_messages s h =
@@ -311,25 +245,10 @@ module _ (draft : Draft) (sound : Sound draft) (name : List ℕ) (range : Option
 
   same_parts : parts grown ≡ parts draft
   unfolding parts
-  same_parts = by draft.controllers
-    where
-      by : (cs : List (List ℕ × List (List ℕ))) → flat_map (parts_of grown) cs ≡ flat_map (parts_of draft) cs
-      by [] = refl
-      by (c ∷ cs) =
-          ap (λ (ps : List Part). ps ++ flat_map (parts_of grown) cs) (same_split (labels_of draft c.0) c.0 c.1 (λ s h. (from_filter (λ (side : Side). bytes_eq side.controller c.0) draft.labels s h).0))
-          ∙ ap (λ (ps : List Part). parts_of draft c ++ ps) (by cs)
+  same_parts = grind (arith, common_steps, same_split, from_filter)
 
   sound_grown : IsWithinLimits (record draft.plan { messages = messages }) → Sound grown
-  sound_grown limits = record {
-    limits = limits;
-    no_controllers = sound.no_controllers;
-    no_nevers = sound.no_nevers;
-    families = families_grown;
-    controllers = controllers_grown;
-    labels = labels_grown;
-    few_parts = let same = ap length same_parts in omega (arith, same, sound.few_parts);
-    nevers = sound.nevers;
-  }
+  sound_grown limits = grind (arith, common_steps, sound.no_controllers, sound.no_nevers, families_grown, controllers_grown, labels_grown, same_parts, sound.few_parts, sound.nevers)
 
 pub sound_message : (draft : Draft) (name : List ℕ) (range : Option Lengths) (frame : BriefFrame) → Sound draft → IsName name → ((r : Lengths) → range ≡ Some r → r.greatest ≤ 255) → MessageFits draft name range frame → Sound (with_item draft (message name range frame))
 unfolding with_item

@@ -2,10 +2,13 @@
 use Rattle.std.proofs.Common.{◌≡◌, ℕ, ◌+◌, ◌==◌, Bool, true, false, List, [], ◌∷◌, refl, ap, sym, ◌∙◌, subst, arith, true≢false}
 use Rattle.std.specs.Prelude.{nat_lt}
 use Rattle.std.proofs.lemmas.Bool.Decides.{nat_tests}
+use Rattle.std.proofs.lemmas.Grind.{common_steps}
 use Rattle.lexer.specs.declared.lexemes.Letters.{Letters}
 use Rattle.lexer.specs.declared.lexemes.Letters.TheVariants.{Plain, Dots, Brief}
-use Rattle.lexer.specs.Lexemes.{Lexemes, next, last, word, sign, Alphabet, no_dots, briefs, letters, Class, line_feed, blank, number_sign, sign_byte, word_part, foreign_byte, stray_byte, class_of, begins_with_part, put_before, raw_lexemes, in_comment, lexemes_of}
+use Rattle.lexer.specs.Lexemes.{Lexemes, next, word, Alphabet, no_dots, briefs, letters, Class, line_feed, blank, number_sign, sign_byte, word_part, foreign_byte, stray_byte, class_of, begins_with_part, put_before, raw_lexemes, in_comment, lexemes_of}
 use Rattle.lexer.proofs.LexemeLemmas.{by_class, lexemes_at, comment_at, part_at, class_part}
+use Rattle.given_plans.specs.Given.{is_version}
+use Rattle.layout.specs.Refusals.{no_version}
 
 -- the first lexeme is a word that begins with `b`
 abbrev pub FirstIs : Lexemes → Type 0
@@ -31,9 +34,7 @@ feed_byte Dots byte h = grind (arith, nat_tests)
 feed_byte Brief byte h = grind (arith, nat_tests)
 
 foreign_class : (l : Letters) (byte : ℕ) → nat_lt byte 128 ≡ false → class_of l byte ≡ foreign_byte
-foreign_class Plain byte h = grind (arith, nat_tests)
-foreign_class Dots byte h = grind (arith, nat_tests)
-foreign_class Brief byte h = grind (arith, nat_tests)
+foreign_class l byte e = grind (arith, common_steps, nat_tests)
 
 foreign_above : (l : Letters) (byte : ℕ) → class_of l byte ≡ foreign_byte → nat_lt byte 128 ≡ false
 foreign_above Plain byte h = grind (arith, nat_tests)
@@ -41,13 +42,7 @@ foreign_above Dots byte h = grind (arith, nat_tests)
 foreign_above Brief byte h = grind (arith, nat_tests)
 
 comment_over : (k : Class) (a : Alphabet) (line : ℕ) (bytes : List ℕ) → (k ≡ line_feed → ⊥) → (k ≡ foreign_byte → ⊥) → comment_at k a line bytes ≡ in_comment a line bytes
-comment_over line_feed a line bytes f g = absurd (f refl)
-comment_over foreign_byte a line bytes f g = absurd (g refl)
-comment_over blank a line bytes f g = refl
-comment_over number_sign a line bytes f g = refl
-comment_over sign_byte a line bytes f g = refl
-comment_over word_part a line bytes f g = refl
-comment_over stray_byte a line bytes f g = refl
+comment_over k a line bytes e f = grind (arith, common_steps)
 
 module _ (a : Alphabet) (line byte : ℕ) (bytes : List ℕ) where
   pub comment_ends : (byte == 10) ≡ true → in_comment a line (byte ∷ bytes) ≡ raw_lexemes a (line + 1) bytes
@@ -64,42 +59,20 @@ module _ (a : Alphabet) (line byte : ℕ) (bytes : List ℕ) where
 
 -- ---- words
 
--- parts of words are a word
-word_begins : (bytes : List ℕ) (line : ℕ) → begins_with_part Plain bytes ≡ true → (w : List ℕ) × (at : ℕ) × (rest : Lexemes) × (raw_lexemes no_dots line bytes ≡ next (word w) at rest)
-word_begins [] line h = absurd (true≢false (sym h))
-word_begins (byte ∷ bytes) line h = by (begins_with_part Plain bytes) refl (word_begins bytes line)
+-- parts of words are a word that begins with the first of them
+pub word_begins : (a : Alphabet) (line byte : ℕ) (bytes : List ℕ) → class_of (letters a) byte ≡ word_part → (w : List ℕ) × (at : ℕ) × (rest : Lexemes) × (raw_lexemes a line (byte ∷ bytes) ≡ next (word (byte ∷ w)) at rest)
+word_begins a line byte [] h = ([], line, _, by_class word_part a line byte [] h)
+word_begins a line byte (c ∷ bytes) h = by (begins_with_part (letters a) (c ∷ bytes)) refl (word_begins a line c bytes)
   where
-    is : raw_lexemes no_dots line (byte ∷ bytes) ≡ part_at (begins_with_part Plain bytes) no_dots line byte bytes
-    is = by_class word_part no_dots line byte bytes (class_part Plain byte h)
+    is : raw_lexemes a line (byte ∷ (c ∷ bytes)) ≡ part_at (begins_with_part (letters a) (c ∷ bytes)) a line byte (c ∷ bytes)
+    is = by_class word_part a line byte (c ∷ bytes) h
 
-    by : (t : Bool) → begins_with_part Plain bytes ≡ t → (begins_with_part Plain bytes ≡ true → (w : List ℕ) × (at : ℕ) × (rest : Lexemes) × (raw_lexemes no_dots line bytes ≡ next (word w) at rest))
-        → (w : List ℕ) × (at : ℕ) × (rest : Lexemes) × (raw_lexemes no_dots line (byte ∷ bytes) ≡ next (word w) at rest)
+    by : (t : Bool) → begins_with_part (letters a) (c ∷ bytes) ≡ t → (class_of (letters a) c ≡ word_part → (w : List ℕ) × (at : ℕ) × (rest : Lexemes) × (raw_lexemes a line (c ∷ bytes) ≡ next (word (c ∷ w)) at rest))
+        → (w : List ℕ) × (at : ℕ) × (rest : Lexemes) × (raw_lexemes a line (byte ∷ (c ∷ bytes)) ≡ next (word (byte ∷ w)) at rest)
     by true e more =
-        let f = more e in
-        (byte ∷ f.0, f.1, f.2, is ∙ ap (λ (t : Bool). part_at t no_dots line byte bytes) e ∙ ap (put_before byte) f.3)
-    by false e more = (byte ∷ [], line, raw_lexemes no_dots line bytes, is ∙ ap (λ (t : Bool). part_at t no_dots line byte bytes) e)
-
--- the first byte of a word is the part that goes onto it
-put_first : (byte : ℕ) (all : Lexemes) → FirstIs (put_before byte all) → byte ≡ 98
-put_first byte (next (word b) line rest) f = let e : next (word (byte ∷ b)) line rest ≡ next (word (98 ∷ f.0)) f.1 f.2 = f.3 in cc
-put_first byte (next (sign c) line rest) f = let e : next (sign c) line rest ≡ next (word (98 ∷ f.0)) f.1 f.2 = f.3 in absurd cc
-put_first byte (last ending line) f = let e : last ending line ≡ next (word (98 ∷ f.0)) f.1 f.2 = f.3 in absurd cc
-
-first_byte : (t : Bool) (line byte : ℕ) (bytes : List ℕ) → FirstIs (part_at t briefs line byte bytes) → byte ≡ 98
-first_byte true line byte bytes f = put_first byte (raw_lexemes briefs line bytes) f
-first_byte false line byte bytes f = let e : next (word (byte ∷ [])) line (raw_lexemes briefs line bytes) ≡ next (word (98 ∷ f.0)) f.1 f.2 = f.3 in cc
-
-plain_first : (line : ℕ) (bytes : List ℕ) → FirstIs (raw_lexemes no_dots line (98 ∷ bytes))
-plain_first line bytes = let f = word_begins (98 ∷ bytes) line refl in by (begins_with_part Plain bytes) refl
-  where
-    is : raw_lexemes no_dots line (98 ∷ bytes) ≡ part_at (begins_with_part Plain bytes) no_dots line 98 bytes
-    is = by_class word_part no_dots line 98 bytes refl
-
-    by : (t : Bool) → begins_with_part Plain bytes ≡ t → FirstIs (raw_lexemes no_dots line (98 ∷ bytes))
-    by true e =
-        let f = word_begins bytes line e in
-        (f.0, f.1, f.2, is ∙ ap (λ (t : Bool). part_at t no_dots line 98 bytes) e ∙ ap (put_before 98) f.3)
-    by false e = ([], line, raw_lexemes no_dots line bytes, is ∙ ap (λ (t : Bool). part_at t no_dots line 98 bytes) e)
+        let f = more (class_part (letters a) c e) in
+        (c ∷ f.0, f.1, f.2, is ∙ ap (λ (t : Bool). part_at t a line byte (c ∷ bytes)) e ∙ ap (put_before byte) f.3)
+    by false e more = ([], line, _, is ∙ ap (λ (t : Bool). part_at t a line byte (c ∷ bytes)) e)
 
 abbrev Both : List ℕ → ℕ → Type 0
 Both bytes line = (FirstIs (raw_lexemes briefs line bytes) → FirstIs (raw_lexemes no_dots line bytes)) × (FirstIs (in_comment briefs line bytes) → FirstIs (in_comment no_dots line bytes))
@@ -111,8 +84,11 @@ module _ (line byte : ℕ) (bytes : List ℕ) (below : (at : ℕ) → Both bytes
   outside number_sign e f = subst FirstIs (sym (by_class number_sign no_dots line byte bytes (number_same byte e))) ((below line).1 f)
   outside sign_byte e f = absurd (let g = f.3 in cc)
   outside word_part e f =
-      let same = first_byte (begins_with_part Brief bytes) line byte bytes f in
-      subst (λ (c : ℕ). FirstIs (raw_lexemes no_dots line (c ∷ bytes))) (sym same) (plain_first line bytes)
+      let b = word_begins briefs line byte bytes e in
+      let both : next (word (byte ∷ b.0)) b.1 b.2 ≡ next (word (98 ∷ f.0)) f.1 f.2 = sym b.3 ∙ by_class word_part briefs line byte bytes e ∙ f.3 in
+      let same : byte ≡ 98 = cc in
+      let p = word_begins no_dots line byte bytes (subst (λ (c : ℕ). class_of Plain c ≡ word_part) (sym same) refl) in
+      (p.0, p.1, p.2, p.3 ∙ ap (λ (c : ℕ). next (word (c ∷ p.0)) p.1 p.2) same)
   outside foreign_byte e f = absurd (let g = f.3 in cc)
   outside stray_byte e f = absurd (let g = f.3 in cc)
 
@@ -131,3 +107,50 @@ both (byte ∷ bytes) line = (
 pub first_same : (text : List ℕ) → FirstIs (lexemes_of briefs 1 text) → FirstIs (lexemes_of no_dots 1 text)
 unfolding lexemes_of
 first_same text f = (both text 1).0 f
+
+-- What is a lexeme by the letters of plans is one by those of briefs.
+
+-- what stands first is a lexeme, or the end of the text
+abbrev IsFirst : Lexemes → Type 0
+IsFirst all = is_version (no_version all) ≡ true
+
+feed_too : (byte : ℕ) → class_of Plain byte ≡ line_feed → class_of Brief byte ≡ line_feed
+feed_too byte h = grind (arith, nat_tests)
+
+blank_too : (byte : ℕ) → class_of Plain byte ≡ blank → class_of Brief byte ≡ blank
+blank_too byte h = grind (arith, nat_tests)
+
+number_too : (byte : ℕ) → class_of Plain byte ≡ number_sign → class_of Brief byte ≡ number_sign
+number_too byte h = grind (arith, nat_tests)
+
+sign_too : (byte : ℕ) → class_of Plain byte ≡ sign_byte → class_of Brief byte ≡ sign_byte
+sign_too byte h = grind (arith, nat_tests)
+
+part_too : (byte : ℕ) → class_of Plain byte ≡ word_part → class_of Brief byte ≡ word_part
+part_too byte h = grind (arith, nat_tests)
+
+abbrev BothToo : List ℕ → ℕ → Type 0
+BothToo bytes line = (IsFirst (raw_lexemes no_dots line bytes) → IsFirst (raw_lexemes briefs line bytes)) × (IsFirst (in_comment no_dots line bytes) → IsFirst (in_comment briefs line bytes))
+
+module _ (line byte : ℕ) (bytes : List ℕ) (below : (at : ℕ) → BothToo bytes at) where
+  outside_too : (k : Class) → class_of Plain byte ≡ k → IsFirst (lexemes_at k no_dots line byte bytes) → IsFirst (raw_lexemes briefs line (byte ∷ bytes))
+  outside_too line_feed e f = subst IsFirst (sym (by_class line_feed briefs line byte bytes (feed_too byte e))) ((below (line + 1)).0 f)
+  outside_too blank e f = subst IsFirst (sym (by_class blank briefs line byte bytes (blank_too byte e))) ((below line).0 f)
+  outside_too number_sign e f = subst IsFirst (sym (by_class number_sign briefs line byte bytes (number_too byte e))) ((below line).1 f)
+  outside_too sign_byte e f = subst IsFirst (sym (by_class sign_byte briefs line byte bytes (sign_too byte e))) refl
+  outside_too word_part e f = let b = word_begins briefs line byte bytes (part_too byte e) in ap (λ (all : Lexemes). is_version (no_version all)) b.3
+  outside_too foreign_byte e f = absurd (true≢false (sym f))
+  outside_too stray_byte e f = absurd (true≢false (sym f))
+
+  inside_too : (feed ascii : Bool) → (byte == 10) ≡ feed → nat_lt byte 128 ≡ ascii → IsFirst (in_comment no_dots line (byte ∷ bytes)) → IsFirst (in_comment briefs line (byte ∷ bytes))
+  inside_too true ascii e g f = subst IsFirst (sym (comment_ends briefs line byte bytes e)) ((below (line + 1)).0 (subst IsFirst (comment_ends no_dots line byte bytes e) f))
+  inside_too false true e g f = subst IsFirst (sym (comment_goes briefs line byte bytes e g)) ((below line).1 (subst IsFirst (comment_goes no_dots line byte bytes e g) f))
+  inside_too false false e g f = absurd (true≢false (sym f ∙ ap (λ (all : Lexemes). is_version (no_version all)) (comment_breaks no_dots line byte bytes g)))
+
+both_too : (bytes : List ℕ) (line : ℕ) → BothToo bytes line
+both_too [] line = grind (arith, common_steps)
+both_too (byte ∷ bytes) line = grind (arith, common_steps, outside_too, by_class, inside_too, (both_too bytes))
+
+pub first_too : (text : List ℕ) → is_version (no_version (lexemes_of no_dots 1 text)) ≡ true → is_version (no_version (lexemes_of briefs 1 text)) ≡ true
+unfolding lexemes_of
+first_too text f = (both_too text 1).0 f

@@ -1,13 +1,13 @@
 -- Two names, or a name and a number, joined by `_` are a name if they are short enough.
-use Rattle.std.proofs.Common.{◌≡◌, ℕ, zero, suc, ◌+◌, ◌/◌, ◌%◌, ◌^◌, ◌<◌, ◌≤◌, ◌==◌, ◌&&◌, Bool, true, false, ◌⊎◌, inl, inr, not, List, [], ◌∷◌, ◌++◌, length, codes, refl, ap, sym, ◌∙◌, arith, true≢false}
-use Rattle.std.specs.Prelude.{nat_le}
+use Rattle.std.proofs.Common.{◌≡◌, ℕ, zero, suc, ◌+◌, ◌/◌, ◌%◌, ◌^◌, ◌<◌, ◌≤◌, ◌==◌, Bool, true, false, ◌⊎◌, inl, inr, List, [], ◌∷◌, ◌++◌, length, codes, refl, ap, sym, ◌∙◌, arith, true≢false}
 use Rattle.std.specs.Fmt.{decimal}
 use Rattle.std.specs.List.{list_all, list_any}
-use Rattle.std.specs.Str.{bytes_eq}
 use Rattle.std.proofs.lemmas.Bool.{and_parts, leb-true, le-leb}
+use Rattle.std.proofs.lemmas.Bool.Decides.{nat_tests}
 use Rattle.std.proofs.lemmas.Fmt.{decimal_digit, decimal_step, decimal_by_steps}
 use Rattle.std.proofs.lemmas.List.{length-append}
 use Rattle.std.proofs.lemmas.List.Folds.{list_all-append}
+use Rattle.std.proofs.lemmas.Grind.{common_steps}
 use Rattle.plan_core.specs.Names.{IsName, is_name, is_name_byte, is_reserved, reserved_words, begins_with_letter}
 use Rattle.plan_core.proofs.BuildingLemmas.{same-bytes_eq}
 use Rattle.text_laws.proofs.Membership.{In, any_in, in_any, in_left, in_right, is_false}
@@ -17,22 +17,10 @@ strokes name = list_any (λ c. c == 95) name
 
 -- none of the words of plans has a `_`
 no_stroke : (w : List ℕ) → In w reserved_words → strokes w ≡ false
-no_stroke w (inl e) = ap strokes e
-no_stroke w (inr (inl e)) = ap strokes e
-no_stroke w (inr (inr (inl e))) = ap strokes e
-no_stroke w (inr (inr (inr (inl e)))) = ap strokes e
-no_stroke w (inr (inr (inr (inr (inl e))))) = ap strokes e
-no_stroke w (inr (inr (inr (inr (inr (inl e)))))) = ap strokes e
-no_stroke w (inr (inr (inr (inr (inr (inr (inl e))))))) = ap strokes e
-no_stroke w (inr (inr (inr (inr (inr (inr (inr (inl e)))))))) = ap strokes e
-no_stroke w (inr (inr (inr (inr (inr (inr (inr (inr (inl e))))))))) = ap strokes e
-no_stroke w (inr (inr (inr (inr (inr (inr (inr (inr (inr (inl e)))))))))) = ap strokes e
-no_stroke w (inr (inr (inr (inr (inr (inr (inr (inr (inr (inr h)))))))))) = absurd h
+no_stroke w h = grind arith
 
 not_reserved : (name : List ℕ) → strokes name ≡ true → is_reserved name ≡ false
-not_reserved name some = is_false (is_reserved name) (λ h.
-    let f = any_in (bytes_eq name) reserved_words h in
-    true≢false (sym some ∙ ap strokes (same-bytes_eq name f.0 f.2) ∙ no_stroke f.0 f.1))
+not_reserved name some = grind (arith, common_steps, is_false, any_in, same-bytes_eq, no_stroke)
 
 -- what a name is made of
 pub record NameParts (name : List ℕ) : Type 0 where
@@ -42,11 +30,7 @@ pub record NameParts (name : List ℕ) : Type 0 where
 
 pub name_parts : (name : List ℕ) → IsName name → NameParts name
 unfolding is_name
-name_parts name is =
-    let a = and_parts (begins_with_letter name && list_all is_name_byte name && nat_le (length name) 32) (not (is_reserved name)) is in
-    let b = and_parts (begins_with_letter name && list_all is_name_byte name) (nat_le (length name) 32) a.0 in
-    let c = and_parts (begins_with_letter name) (list_all is_name_byte name) b.0 in
-    record { first = c.0; all = c.1; short = leb-true (length name) 32 b.1 }
+name_parts name is = grind (arith, common_steps, and_parts, leb-true)
 
 pub is_joined : (first second : List ℕ) → IsName first → list_all is_name_byte second ≡ true → length (first ++ codes "_" ++ second) ≤ 32 → IsName (first ++ codes "_" ++ second)
 unfolding is_name
@@ -61,17 +45,7 @@ is_joined (c ∷ first) second is all short =
 -- ---- numbers
 
 digit_is : (n : ℕ) → n < 10 → is_name_byte (48 + n) ≡ true
-digit_is zero h = refl
-digit_is (suc zero) h = refl
-digit_is (suc (suc zero)) h = refl
-digit_is (suc (suc (suc zero))) h = refl
-digit_is (suc (suc (suc (suc zero)))) h = refl
-digit_is (suc (suc (suc (suc (suc zero))))) h = refl
-digit_is (suc (suc (suc (suc (suc (suc zero)))))) h = refl
-digit_is (suc (suc (suc (suc (suc (suc (suc zero))))))) h = refl
-digit_is (suc (suc (suc (suc (suc (suc (suc (suc zero)))))))) h = refl
-digit_is (suc (suc (suc (suc (suc (suc (suc (suc (suc zero))))))))) h = refl
-digit_is (suc (suc (suc (suc (suc (suc (suc (suc (suc (suc n)))))))))) h = absurd (omega arith)
+digit_is n h = grind (arith, nat_tests)
 
 pub decimal_bytes : (n : ℕ) → n < 2 ^ 64 → list_all is_name_byte (decimal n) ≡ true
 decimal_bytes n h =
@@ -97,13 +71,4 @@ decimal_shorter m n h below = decimal_by_steps Longest one more n h h m below
     cases (suc a) (suc b) = elim (cases a b) [ inl l ↦ inl (omega arith) | inr g ↦ inr (omega arith) ]
 
     more : (k : ℕ) (ds : List ℕ) → 10 ≤ k → Longest (k / 10) ds → Longest k (ds ++ ((48 + k % 10) ∷ []))
-    more k ds large before bound j less = by (cases j 10)
-      where
-        by : (j < 10) ⊎ (10 ≤ j) → length (decimal j) ≤ length (ds ++ ((48 + k % 10) ∷ []))
-        by (inl small) = let is = ap length (decimal_digit j small) in let size = length-append ds ((48 + k % 10) ∷ []) in omega (arith, is, size)
-        by (inr big) =
-            let is = ap length (decimal_step j big (omega arith)) in
-            let last = length-append (decimal (j / 10)) ((48 + j % 10) ∷ []) in
-            let rest = before (omega arith) (j / 10) (omega arith) in
-            let size = length-append ds ((48 + k % 10) ∷ []) in
-            omega (arith, is, last, rest, size)
+    more k ds large before bound j less = grind (arith, common_steps, decimal_digit, length-append, decimal_step)

@@ -1,3 +1,4 @@
+pub mod Phrases
 pub mod Membership
 pub mod JoinedNames
 pub mod EntryNames
@@ -7,19 +8,12 @@ pub mod SameMeanings
 pub mod SeveralLemmas
 pub mod SoundDrafts
 pub mod PartLemmas
-pub mod DraftParts
-pub mod MeantLimits
 pub mod Families
 pub mod SoundItems
-pub mod SoundReading
 pub mod MeantLemmas
-pub mod Places
 pub mod MeantPlans
 pub mod ApartLemmas
-pub mod SenderLemmas
 pub mod FirstWords
 pub mod Heads
 pub mod BriefHeads
-pub mod FirstKinds
-pub mod ExactHeads
 pub mod DumpSamples

@@ -16,13 +16,12 @@ use Rattle.text_laws.specs.Adding.{NoneIsRefused}
 use Rattle.text_laws.specs.Covering.{Sent, sent_by, told_apart, SendsFor}
 use Rattle.text_laws.specs.Sendings.{sends, lists}
 use Rattle.text_laws.specs.Several.{WasRead}
-use Rattle.text_laws.proofs.ApartLemmas.{apart_told, plan_keys}
-use Rattle.text_laws.proofs.DraftParts.{parts_once, parts_only}
-use Rattle.text_laws.proofs.MeantLimits.{parts_added, meant_within}
+use Rattle.text_laws.proofs.ApartLemmas.{apart_told, plan_keys, somebody, listed_by, each_sending, one_participant}
+use Rattle.text_laws.proofs.PartLemmas.{parts_once, parts_only}
+use Rattle.text_laws.proofs.MeantPlans.{parts_added, meant_within}
 use Rattle.text_laws.proofs.Membership.{in_contained, holds_in, not_holds, contained_in, in_holds}
-use Rattle.text_laws.proofs.SenderLemmas.{somebody, listed_by, each_sending, one_participant}
 use Rattle.text_laws.proofs.SeveralLemmas.{all_read}
-use Rattle.text_laws.proofs.SoundReading.{read_sound}
+use Rattle.text_laws.proofs.SoundItems.{read_sound}
 
 pub one_within : (text : List ℕ) (plan : Contents) → Means text plan → IsWithinLimits plan
 one_within text plan means =

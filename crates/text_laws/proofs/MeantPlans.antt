@@ -1,22 +1,32 @@
 -- The controllers of a plan that is meant, and its `never` items.
-use Rattle.std.proofs.Common.{◌≡◌, ℕ, suc, ◌+◌, ◌⊎◌, inl, inr, ◌||◌, ◌&&◌, ◌==◌, Bool, true, false, List, [], ◌∷◌, ◌++◌, map, length, Option, Some, None, is_some, slice_get, refl, ap, sym, ◌∙◌, subst, arith}
+use Rattle.std.proofs.Common.{◌≡◌, ℕ, suc, ◌+◌, ◌⊎◌, inl, inr, ◌||◌, ◌&&◌, ◌==◌, Bool, true, false, List, [], ◌∷◌, ◌++◌, map, length, Option, Some, None, is_some, slice_get, refl, ap, sym, ◌∙◌, subst, arith, ◌<◌, ◌≤◌}
 use Rattle.std.specs.Prelude.{if◌then◌else◌, unwrap_or}
-use Rattle.std.specs.List.{list_any, filter_map, cons_option, range_with_len}
+use Rattle.std.specs.List.{list_any, filter_map, range_with_len, sum_by}
 use Rattle.std.specs.Str.{bytes_eq}
-use Rattle.std.proofs.lemmas.Bool.{and_parts, eqb-true, eq-eqb}
-use Rattle.std.proofs.lemmas.List.{append_assoc, append-nil}
+use Rattle.std.proofs.lemmas.Bool.{and_parts, eqb-true, eq-eqb, lt-leb}
+use Rattle.std.proofs.lemmas.List.{append_assoc, append-nil, length_push}
 use Rattle.std.proofs.lemmas.List.Folds.{list_any-append}
+use Rattle.std.proofs.lemmas.Grind.{common_steps}
 use Rattle.message_tree.specs.Trees.{FrameTree}
-use Rattle.plan_core.specs.Building.{number_of, with_sender, with_controller, two_refusal, never_refusal, controller_number, with_never}
+use Rattle.plan_core.specs.Building.{number_of, with_sender, with_controller, two_refusal, never_refusal, controller_number, with_never, numbers_of, controller_name_refusal, list_refusal}
 use Rattle.plan_core.specs.Contents.{Contents}
 use Rattle.plan_core.specs.Participants.{sendings_from, participants_of, names_both, is_never}
 use Rattle.plan_core.specs.declared.builder.BuildError.{BuildError}
 use Rattle.plan_core.specs.declared.builder.BuildError.TheVariants.{Twice}
 use Rattle.plan_core.specs.declared.plans.Participant.TheVariants.{Sending, Interrupt}
-use Rattle.plan_core.proofs.BuildingLemmas.{same-bytes_eq, NeverAllowed, never_allowed}
-use Rattle.brief_text.specs.Splitting.{Part, part_name, with_parts, with_pair, with_pairs}
-use Rattle.text_laws.proofs.Membership.{In, in_either, from_map, or_either, or_first, or_second, is_false}
-use Rattle.text_laws.proofs.Places.{two, slice_in}
+use Rattle.plan_core.proofs.BuildingLemmas.{same-bytes_eq, NeverAllowed, never_allowed, controller_fits, limits-controller, limits-never, length-numbers_of}
+use Rattle.brief_text.specs.Splitting.{Part, part_name, with_parts, with_pair, with_pairs, parts, pairs_apart, plan_meant}
+use Rattle.text_laws.proofs.Membership.{In, in_either, from_map, or_either, or_first, or_second, is_false, Distinct, holds, holds_in}
+use Rattle.text_laws.proofs.EntryNames.{two, slice_in, in_has_name, number_none, in_keys_either}
+use Rattle.std.specs.Map.{keys_of}
+use Rattle.std.proofs.lemmas.List.Sums.{sum_by-cons, sum_by_push}
+use Rattle.plan_core.specs.Limits.{IsWithinLimits, sending_count}
+use Rattle.plan_core.specs.Names.{IsName}
+use Rattle.plan_core.specs.declared.limits.TheConstants.{MOST_CONTROLLERS, MOST_SENDINGS}
+use Rattle.brief_text.specs.Drafts.{Draft}
+use Rattle.text_laws.specs.Adding.{NoneIsRefused}
+use Rattle.text_laws.proofs.PartLemmas.{part_names_once, part_named, part_listed, part_sums}
+use Rattle.text_laws.proofs.SoundDrafts.{Sound, ListSound}
 
 -- ---- controllers
 
@@ -26,37 +36,23 @@ entry messages part = (part_name part, filter_map (λ name. number_of name messa
 
 pub parts_are : (ps : List Part) (plan : Contents) → with_parts plan ps ≡ record plan { controllers = plan.controllers ++ map (entry plan.messages) ps }
 unfolding with_sender
-parts_are [] plan = ap (λ (cs : List (List ℕ × List ℕ)). record plan { controllers = cs }) (sym (append-nil plan.controllers))
-parts_are (p ∷ ps) plan =
-    parts_are ps (with_controller plan (part_name p) p.messages)
-    ∙ ap (λ (cs : List (List ℕ × List ℕ)). record plan { controllers = cs }) (append_assoc plan.controllers (entry plan.messages p ∷ []) (map (entry plan.messages) ps))
+parts_are [] plan = grind (arith, common_steps, append-nil)
+parts_are (p ∷ ps) plan = grind (arith, common_steps, append_assoc, (parts_are ps (with_controller plan (part_name p) p.messages)))
 
 -- ---- `never` items
 
 module _ (plan : Contents) (pair : List ℕ × List ℕ) where
   pub pair_controllers : (with_pair plan pair).controllers ≡ plan.controllers
   unfolding with_never
-  pair_controllers = by (never_refusal plan pair.0 pair.1)
-    where
-      by : (o : Option BuildError) → (if is_some o then plan else with_never plan pair.0 pair.1).controllers ≡ plan.controllers
-      by None = refl
-      by (Some cause) = refl
+  pair_controllers = grind (arith, common_steps)
 
   pub pair_messages : (with_pair plan pair).messages ≡ plan.messages
   unfolding with_never
-  pair_messages = by (never_refusal plan pair.0 pair.1)
-    where
-      by : (o : Option BuildError) → (if is_some o then plan else with_never plan pair.0 pair.1).messages ≡ plan.messages
-      by None = refl
-      by (Some cause) = refl
+  pair_messages = grind (arith, common_steps)
 
   pair_kept : (i j : ℕ) → is_never plan i j ≡ true → is_never (with_pair plan pair) i j ≡ true
   unfolding with_never
-  pair_kept i j h = by (never_refusal plan pair.0 pair.1)
-    where
-      by : (o : Option BuildError) → is_never (if is_some o then plan else with_never plan pair.0 pair.1) i j ≡ true
-      by None = list_any-append (names_both i j) plan.nevers ((controller_number plan pair.0, controller_number plan pair.1) ∷ []) ∙ or_first (list_any (names_both i j) plan.nevers) _ h
-      by (Some cause) = h
+  pair_kept i j h = grind (arith, common_steps, list_any-append, or_first)
 
   -- the plan keeps these two apart from now on
   pair_added : (i j : ℕ) → number_of pair.0 plan.controllers ≡ Some i → number_of pair.1 plan.controllers ≡ Some j → (i ≡ j → ⊥) → is_never (with_pair plan pair) i j ≡ true
@@ -119,16 +115,13 @@ module _ (plan : Contents) (pair : List ℕ × List ℕ) where
               (allowed.at_first ∙ ap (λ (n : ℕ). Some n) (sym c_is ∙ eqb-true _ a parts.0), allowed.at_second ∙ ap (λ (n : ℕ). Some n) (sym d_is ∙ eqb-true _ b parts.1))
 
           last : (controller_number plan pair.0 == i && controller_number plan pair.1 == j) ≡ true ⊎ (controller_number plan pair.0 == j && controller_number plan pair.1 == i) ≡ true → Named i j ⊎ Named j i
-          last (inl k) = inl (named i j k)
-          last (inr k) = inr (named j i k)
+          last e = grind (arith, common_steps, named)
 
           drop_false : (b : Bool) → (b || false) ≡ true → b ≡ true
-          drop_false true k = refl
-          drop_false false k = k
+          drop_false b e = grind (arith, common_steps)
 
           cases : (list_any (names_both i j) plan.nevers ≡ true) ⊎ ((names_both i j (controller_number plan pair.0, controller_number plan pair.1) || false) ≡ true) → (is_never plan i j ≡ true) ⊎ (Named i j ⊎ Named j i)
-          cases (inl k) = inl k
-          cases (inr k) = inr (last (or_either _ _ (drop_false (names_both i j (controller_number plan pair.0, controller_number plan pair.1)) k)))
+          cases e = grind (arith, common_steps, last, or_either, drop_false)
 
 pub pairs_controllers : (pairs : List (List ℕ × List ℕ)) (plan : Contents) → (with_pairs plan pairs).controllers ≡ plan.controllers
 pairs_controllers [] plan = refl
@@ -145,12 +138,8 @@ pairs_kept (p ∷ pairs) plan i j h = pairs_kept pairs (with_pair plan p) i j (p
 pub pairs_added : (pairs : List (List ℕ × List ℕ)) (plan : Contents) (a b : List ℕ) (i j : ℕ) → In (two a b) pairs → number_of a plan.controllers ≡ Some i → number_of b plan.controllers ≡ Some j → (i ≡ j → ⊥)
     → is_never (with_pairs plan pairs) i j ≡ true
 pairs_added [] plan a b i j h first second differ = absurd h
-pairs_added (p ∷ pairs) plan a b i j (inl e) first second differ =
-    pairs_kept pairs (with_pair plan p) i j
-    (pair_added plan p i j (ap (λ (q : List ℕ × List ℕ). number_of q.0 plan.controllers) (sym e) ∙ first) (ap (λ (q : List ℕ × List ℕ). number_of q.1 plan.controllers) (sym e) ∙ second) differ)
-pairs_added (p ∷ pairs) plan a b i j (inr h) first second differ =
-    pairs_added pairs (with_pair plan p) a b i j h
-    (ap (λ (cs : List (List ℕ × List ℕ)). number_of a cs) (pair_controllers plan p) ∙ first) (ap (λ (cs : List (List ℕ × List ℕ)). number_of b cs) (pair_controllers plan p) ∙ second) differ
+pairs_added (p ∷ pairs) plan a b i j (inl e) first second differ = grind (arith, common_steps, pairs_kept, pair_added)
+pairs_added (p ∷ pairs) plan a b i j (inr h) first second differ = grind (arith, common_steps, pair_controllers, (pairs_added pairs (with_pair plan p) a b i j h))
 
 -- a pair with these names
 abbrev pub Asked : Contents → List (List ℕ × List ℕ) → ℕ → ℕ → Type 0
@@ -158,33 +147,10 @@ Asked plan pairs i j = (pair : List ℕ × List ℕ) × In pair pairs × (Named 
 
 pub pairs_from : (pairs : List (List ℕ × List ℕ)) (plan : Contents) (i j : ℕ) → is_never (with_pairs plan pairs) i j ≡ true → (is_never plan i j ≡ true) ⊎ Asked plan pairs i j
 pairs_from [] plan i j h = inl h
-pairs_from (p ∷ pairs) plan i j h = by (pairs_from pairs (with_pair plan p) i j h)
-  where
-    here : (is_never plan i j ≡ true) ⊎ (Named plan p i j ⊎ Named plan p j i) → (is_never plan i j ≡ true) ⊎ Asked plan (p ∷ pairs) i j
-    here (inl k) = inl k
-    here (inr k) = inr (p, inl refl, k)
-
-    moved : (q : List ℕ × List ℕ) (a b : ℕ) → Named (with_pair plan p) q a b → Named plan q a b
-    moved q a b k = (subst (λ (cs : List (List ℕ × List ℕ)). number_of q.0 cs ≡ Some a) (pair_controllers plan p) k.0, subst (λ (cs : List (List ℕ × List ℕ)). number_of q.1 cs ≡ Some b) (pair_controllers plan p) k.1)
-
-    by : (is_never (with_pair plan p) i j ≡ true) ⊎ Asked (with_pair plan p) pairs i j → (is_never plan i j ≡ true) ⊎ Asked plan (p ∷ pairs) i j
-    by (inl k) = here (pair_from plan p i j k)
-    by (inr k) = inr (k.0, inr k.1, elim k.2 [ inl a ↦ inl (moved k.0 i j a) | inr b ↦ inr (moved k.0 j i b) ])
+pairs_from (p ∷ pairs) plan i j h = grind (arith, common_steps, pair_controllers, pair_from, (pairs_from pairs (with_pair plan p) i j h))
 
 pub never_turned : (plan : Contents) (i j : ℕ) → is_never plan i j ≡ is_never plan j i
-never_turned plan i j = by plan.nevers
-  where
-    either : (a b : Bool) → (a || b) ≡ (b || a)
-    either true true = refl
-    either true false = refl
-    either false true = refl
-    either false false = refl
-
-    by : (nevers : List (ℕ × ℕ)) → list_any (names_both i j) nevers ≡ list_any (names_both j i) nevers
-    by [] = refl
-    by (n ∷ nevers) =
-        ap (λ (b : Bool). b || list_any (names_both i j) nevers) (either ((n.0 == i) && (n.1 == j)) ((n.0 == j) && (n.1 == i)))
-        ∙ ap (λ (b : Bool). names_both j i n || b) (by nevers)
+never_turned plan i j = grind (arith, common_steps)
 
 -- ---- participants
 
@@ -220,10 +186,77 @@ sending_at plan p c k at = by (in_either (Sending c k) (sendings_from 0 plan.con
 
 pub from_numbers : (messages : List (List ℕ × FrameTree)) (names : List (List ℕ)) (k : ℕ) → In k (filter_map (λ name. number_of name messages) names) → (name : List ℕ) × In name names × (number_of name messages ≡ Some k)
 from_numbers messages [] k h = absurd h
-from_numbers messages (n ∷ names) k h = by (number_of n messages) refl h (from_numbers messages names k)
+from_numbers messages (n ∷ names) k h = grind (arith, common_steps, (from_numbers messages names k))
+
+-- The plan that a sound draft means is within the limits, and a builder refuses none of its controllers.
+
+controller_free : (plan : Contents) (name : List ℕ) → number_of name plan.controllers ≡ None → length plan.controllers < MOST_CONTROLLERS → controller_name_refusal plan name ≡ None
+unfolding controller_name_refusal
+controller_free plan name new few = rw (new, lt-leb MOST_CONTROLLERS (length plan.controllers) few) refl
+
+list_free : (plan : Contents) (before names : List (List ℕ)) → ((m : List ℕ) → In m names → In m (keys_of plan.messages)) → Distinct names → ((m : List ℕ) → In m before → In m names → ⊥)
+    → sending_count plan.controllers + length before + length names ≤ MOST_SENDINGS → list_refusal plan before names ≡ None
+list_free plan before [] known once apart room = refl
+list_free plan before (n ∷ names) known once apart room =
+    let has = in_has_name n plan.messages (known n (inl refl)) in
+    let new = is_false (holds n before) (λ h. apart n (holds_in n before h) (inl refl)) in
+    let few = lt-leb MOST_SENDINGS (sending_count plan.controllers + length before) (omega (arith, room)) in
+    let size = length_push before n in
+    rw (has, new, few) (list_free plan (before ++ n ∷ []) names (λ m h. known m (inr h)) once.1 still (omega (arith, size, room)))
   where
-    by : (o : Option ℕ) → number_of n messages ≡ o → In k (cons_option o (filter_map (λ name. number_of name messages) names)) → (In k (filter_map (λ name. number_of name messages) names) → (name : List ℕ) × In name names × (number_of name messages ≡ Some k))
-        → (name : List ℕ) × In name (n ∷ names) × (number_of name messages ≡ Some k)
-    by None e g later = let r = later g in (r.0, inr r.1, r.2)
-    by (Some j) e (inl same) later = (n, inl refl, e ∙ ap (λ (i : ℕ). Some i) (sym same))
-    by (Some j) e (inr g) later = let r = later g in (r.0, inr r.1, r.2)
+    still : (m : List ℕ) → In m (before ++ n ∷ []) → In m names → ⊥
+    still m h g = by (in_either m before (n ∷ []) h)
+      where
+        by : In m before ⊎ In m (n ∷ []) → ⊥
+        by e = grind (arith, common_steps)
+
+parts_fit : (ps : List Part) (plan : Contents) → IsWithinLimits plan → Distinct (map part_name ps) → ((p : Part) → In p ps → IsName (part_name p)) → ((p : Part) → In p ps → ListSound plan.messages p.messages)
+    → ((p : Part) → In p ps → In (part_name p) (keys_of plan.controllers) → ⊥) → length plan.controllers + length ps ≤ MOST_CONTROLLERS
+    → sending_count plan.controllers + sum_by (λ (p : Part). length p.messages) ps ≤ MOST_SENDINGS → NoneIsRefused plan ps × IsWithinLimits (with_parts plan ps)
+unfolding with_sender
+parts_fit [] plan limits once named listed new few room = (tt, limits)
+parts_fit (p ∷ ps) plan limits once named listed new few room =
+    let n = part_name p in
+    let numbers = numbers_of plan p.messages in
+    let one = listed p (inl refl) in
+    let total = sum_by-cons (λ (q : Part). length q.messages) p ps in
+    let names = list_free plan [] p.messages one.known one.once (λ m h g. h) (omega (arith, room, total)) in
+    let fits = controller_fits plan n p.messages (controller_free plan n (number_none n plan.controllers (new p (inl refl))) (omega (arith, few))) names in
+    let next = limits-controller plan n p.messages limits (named p (inl refl)) fits in
+    let size = length_push plan.controllers (n, numbers) in
+    let sent = sum_by_push (λ (c : List ℕ × List ℕ). length c.1) plan.controllers (n, numbers) in
+    let less = length-numbers_of plan p.messages in
+    let rest = parts_fit ps (with_controller plan n p.messages) next once.1 (λ q h. named q (inr h)) (λ q h. record { once = (listed q (inr h)).once; known = (listed q (inr h)).known }) later (omega (arith, size, few)) (omega (arith, sent, less, room, total)) in
+    ((fits, rest.0), rest.1)
+  where
+    later : (q : Part) → In q ps → In (part_name q) (keys_of (with_controller plan (part_name p) p.messages).controllers) → ⊥
+    later q h g = by (in_keys_either (part_name q) plan.controllers ((part_name p, numbers_of plan p.messages) ∷ []) g)
+      where
+        by : In (part_name q) (keys_of plan.controllers) ⊎ In (part_name q) (part_name p ∷ []) → ⊥
+        by (inl a) = new q (inr h) a
+        by (inr (inl e)) = once.0 (subst (λ (x : List ℕ). In x (map part_name ps)) e (there ps h))
+          where
+            there : (qs : List Part) → In q qs → In (part_name q) (map part_name qs)
+            there [] k = k
+            there (r ∷ qs) (inl same) = inl (ap part_name same)
+            there (r ∷ qs) (inr k) = inr (there qs k)
+        by (inr (inr b)) = b
+
+pub pairs_fit : (pairs : List (List ℕ × List ℕ)) (plan : Contents) → IsWithinLimits plan → IsWithinLimits (with_pairs plan pairs)
+pairs_fit [] plan limits = limits
+pairs_fit (p ∷ pairs) plan limits = grind (arith, common_steps, limits-never, (pairs_fit pairs (with_pair plan p)))
+
+module _ (draft : Draft) (sound : Sound draft) where
+  pub parts_added : NoneIsRefused draft.plan (parts draft) × IsWithinLimits (with_parts draft.plan (parts draft))
+  parts_added =
+      let none = sound.no_controllers in
+      let size = ap length none in
+      let sent = ap sending_count none in
+      let sums = part_sums draft sound in
+      parts_fit (parts draft) draft.plan sound.limits (part_names_once draft sound) (part_named draft sound) (part_listed draft sound)
+      (λ p h g. subst (λ (cs : List (List ℕ × List ℕ)). In (part_name p) (keys_of cs)) none g)
+      (omega (arith, size, sound.few_parts)) (omega (arith, sent, sums, sound.controllers.few))
+
+  pub meant_within : IsWithinLimits (plan_meant draft)
+  unfolding plan_meant
+  meant_within = pairs_fit (pairs_apart draft) (with_parts draft.plan (parts draft)) parts_added.1

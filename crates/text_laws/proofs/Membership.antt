@@ -3,6 +3,7 @@ use Rattle.std.proofs.Common.{◌≡◌, ℕ, zero, suc, ◌+◌, ◌<◌, Bool,
 use Rattle.std.specs.List.{list_any, filter, flat_map, Contains, slice_index_or, count_by}
 use Rattle.std.specs.Str.{bytes_eq}
 use Rattle.std.proofs.lemmas.List.Sums.{sum_by-cons}
+use Rattle.std.proofs.lemmas.Grind.{common_steps}
 use Rattle.plan_core.proofs.BuildingLemmas.{bytes_eq-same, same-bytes_eq}
 
 abbrev pub In : {A : Type 0} → A → List A → Type 0
@@ -16,30 +17,25 @@ Distinct (x ∷ xs) = (In x xs → ⊥) × Distinct xs
 -- ---- booleans
 
 pub or_either : (a b : Bool) → (a || b) ≡ true → (a ≡ true) ⊎ (b ≡ true)
-or_either true b h = inl refl
-or_either false b h = inr h
+or_either a b e = grind (arith, common_steps)
 
 pub or_first : (a b : Bool) → a ≡ true → (a || b) ≡ true
 or_first a b h = rw h refl
 
 pub or_second : (a b : Bool) → b ≡ true → (a || b) ≡ true
-or_second true b h = refl
-or_second false b h = h
+or_second a b e = grind (arith, common_steps)
 
 pub or_neither : (a b : Bool) → (a || b) ≡ false → (a ≡ false) × (b ≡ false)
-or_neither true b h = absurd (true≢false h)
-or_neither false b h = (refl, h)
+or_neither a b e = grind (arith, common_steps)
 
 pub is_false : (t : Bool) → (t ≡ true → ⊥) → t ≡ false
-is_false true none = absurd (none refl)
-is_false false none = refl
+is_false t e = grind (arith, common_steps)
 
 pub not_both : (t : Bool) → t ≡ true → t ≡ false → ⊥
 not_both t is isnt = true≢false (sym is ∙ isnt)
 
 pub true_or_false : (t : Bool) → (t ≡ true) ⊎ (t ≡ false)
-true_or_false true = inl refl
-true_or_false false = inr refl
+true_or_false t = grind (arith, common_steps)
 
 -- ---- elements
 
@@ -69,19 +65,11 @@ module _ {A : Type 0} where
       new h = elim (in_either x xs ys h) [ inl a ↦ one.0 a | inr b ↦ apart x (inl refl) b ]
 
   pub distinct_push : (xs : List A) (x : A) → Distinct xs → (In x xs → ⊥) → Distinct (xs ++ x ∷ [])
-  distinct_push xs x one new = distinct_both xs (x ∷ []) one ((λ h. h), tt) apart
-    where
-      apart : (y : A) → In y xs → In y (x ∷ []) → ⊥
-      apart y h (inl e) = new (subst (λ (z : A). In z xs) e h)
-      apart y h (inr none) = none
+  distinct_push xs x one new = grind (arith, common_steps, distinct_both)
 
   pub any_in : (p : A → Bool) (xs : List A) → list_any p xs ≡ true → (x : A) × In x xs × (p x ≡ true)
   any_in p [] h = absurd (true≢false (sym h))
-  any_in p (x ∷ xs) h = by (or_either (p x) (list_any p xs) h) (any_in p xs)
-    where
-      by : (p x ≡ true) ⊎ (list_any p xs ≡ true) → (list_any p xs ≡ true → (y : A) × In y xs × (p y ≡ true)) → (y : A) × In y (x ∷ xs) × (p y ≡ true)
-      by (inl here) later = (x, inl refl, here)
-      by (inr there) later = let f = later there in (f.0, inr f.1, f.2)
+  any_in p (x ∷ xs) h = grind (arith, common_steps, or_either, (any_in p xs))
 
   pub in_any : (p : A → Bool) (xs : List A) (x : A) → In x xs → p x ≡ true → list_any p xs ≡ true
   in_any p [] x h is = absurd h
@@ -90,30 +78,15 @@ module _ {A : Type 0} where
 
   pub in_filter : (p : A → Bool) (xs : List A) (x : A) → In x xs → p x ≡ true → In x (filter p xs)
   in_filter p [] x h is = absurd h
-  in_filter p (y ∷ xs) x h is = by (p y) refl h (λ later. in_filter p xs x later is)
-    where
-      by : (t : Bool) → p y ≡ t → In x (y ∷ xs) → (In x xs → In x (filter p xs)) → In x (cond t (y ∷ filter p xs) (filter p xs))
-      by true e (inl here) others = inl here
-      by true e (inr later) others = inr (others later)
-      by false e (inl here) others = absurd (true≢false (sym is ∙ ap p here ∙ e))
-      by false e (inr later) others = others later
+  in_filter p (y ∷ xs) x h is = grind (arith, common_steps, (in_filter p xs x))
 
   pub from_filter : (p : A → Bool) (xs : List A) (x : A) → In x (filter p xs) → In x xs × (p x ≡ true)
   from_filter p [] x h = absurd h
-  from_filter p (y ∷ xs) x h = by (p y) refl h (from_filter p xs x)
-    where
-      by : (t : Bool) → p y ≡ t → In x (cond t (y ∷ filter p xs) (filter p xs)) → (In x (filter p xs) → In x xs × (p x ≡ true)) → In x (y ∷ xs) × (p x ≡ true)
-      by true e (inl here) others = (inl here, ap p here ∙ e)
-      by true e (inr later) others = let o = others later in (inr o.0, o.1)
-      by false e later others = let o = others later in (inr o.0, o.1)
+  from_filter p (y ∷ xs) x h = grind (arith, common_steps, (from_filter p xs x))
 
   pub distinct_filter : (p : A → Bool) (xs : List A) → Distinct xs → Distinct (filter p xs)
   distinct_filter p [] one = tt
-  distinct_filter p (x ∷ xs) one = by (p x) (distinct_filter p xs one.1)
-    where
-      by : (t : Bool) → Distinct (filter p xs) → Distinct (cond t (x ∷ filter p xs) (filter p xs))
-      by true rest = ((λ h. one.0 (from_filter p xs x h).0), rest)
-      by false rest = rest
+  distinct_filter p (x ∷ xs) one = grind (arith, common_steps, from_filter, (distinct_filter p xs one.1))
 
   pub in_contained : (xs : List A) (x : A) → Contains xs x → In x xs
   in_contained xs x c = at xs c.0 c.1 c.2
@@ -149,8 +122,7 @@ module _ {A B : Type 0} where
   from_flat f (x ∷ xs) y h = by (in_either y (f x) (flat_map f xs) h) (from_flat f xs y)
     where
       by : In y (f x) ⊎ In y (flat_map f xs) → (In y (flat_map f xs) → (z : A) × In z xs × In y (f z)) → (z : A) × In z (x ∷ xs) × In y (f z)
-      by (inl here) later = (x, inl refl, here)
-      by (inr there) later = let r = later there in (r.0, inr r.1, r.2)
+      by e f = grind (arith, common_steps)
 
   -- equal images come of equal elements alone
   pub distinct_from_map : (f : A → B) (xs : List A) → Distinct (map f xs) → Distinct xs
@@ -172,8 +144,7 @@ module _ {A B : Type 0} where
       new h = let r = from_map f (filter p xs) (f x) h in one.0 (subst (λ (y : B). In y (map f xs)) (sym r.2) (in_map f xs r.0 (from_filter p xs r.0 r.1).0))
 
       by : (t : Bool) → Distinct (map f (filter p xs)) → Distinct (map f (cond t (x ∷ filter p xs) (filter p xs)))
-      by true rest = (new, rest)
-      by false rest = rest
+      by t e = grind (arith, common_steps, new)
 
   -- of different images
   pub distinct_one : (f : A → B) (xs : List A) → Distinct (map f xs) → (x y : A) → In x xs → In y xs → f x ≡ f y → x ≡ y
@@ -217,14 +188,8 @@ module _ {A : Type 0} (p : A → Bool) where
 
   pub count_none : (xs : List A) → list_any p xs ≡ false → count_by p xs ≡ 0
   count_none [] none = refl
-  count_none (x ∷ xs) none =
-      let parts = or_neither (p x) (list_any p xs) none in
-      count-cons x xs ∙ ap (λ (t : Bool). cond t 1 0 + count_by p xs) parts.0 ∙ omega (arith, count_none xs parts.1)
+  count_none (x ∷ xs) none = grind (arith, common_steps, or_neither, count-cons, (count_none xs))
 
   pub count_one : (xs : List A) → AtMostOne xs → list_any p xs ≡ true → count_by p xs ≡ 1
   count_one [] few h = absurd (true≢false (sym h))
-  count_one (x ∷ xs) few h = count-cons x xs ∙ by (p x) refl h (count_one xs few.1)
-    where
-      by : (t : Bool) → p x ≡ t → (t || list_any p xs) ≡ true → (list_any p xs ≡ true → count_by p xs ≡ 1) → cond t 1 0 + count_by p xs ≡ 1
-      by true is some later = omega (arith, count_none xs (few.0 is))
-      by false is some later = omega (arith, later some)
+  count_one (x ∷ xs) few h = grind (arith, common_steps, count-cons, count_none, (count_one xs few.1))

@@ -1,8 +1,9 @@
 -- Texts with the same words mean the same.
-use Rattle.std.proofs.Common.{◌≡◌, ℕ, ◌⊎◌, inl, inr, List, refl, sym, ◌∙◌, subst}
-use Rattle.std.specs.Prelude.{Result, Ok, Err}
+use Rattle.std.proofs.Common.{◌≡◌, ℕ, ◌⊎◌, inl, inr, List, sym, arith}
+use Rattle.std.proofs.lemmas.Grind.{common_steps}
+use Rattle.std.specs.Prelude.{Ok, Err}
 use Rattle.brief_text.specs.Briefs.{text_read, Means}
-use Rattle.brief_text.specs.Drafts.{Draft, no_items}
+use Rattle.brief_text.specs.Drafts.{Draft}
 use Rattle.brief_text.proofs.SaidLemmas.{text_again, said_meant, meant_said}
 use Rattle.brief_text.proofs.SaysLemmas.{text_takes}
 use Rattle.layout.specs.SameWords.{SameWords}
@@ -22,9 +23,7 @@ pub same_read : (text other : List ℕ) (draft after : Draft) → SameWords text
 same_read text other draft after same is = text_again other draft after (same_says text other draft after same (text_takes text draft after is))
 
 pub same_means : (text other : List ℕ) (plan : Contents) → SameWords text other → Means text plan → Means other plan
-same_means text other plan same means =
-    let said = meant_said text plan means in
-    subst (Means other) (sym said.2) (said_meant other said.0 (same_says text other no_items said.0 same said.1))
+same_means text other plan same means = grind (arith, common_steps, meant_said, said_meant, same_says)
 
 -- ---- refusals
 
@@ -36,8 +35,4 @@ same_first text other e same refused = by (answered other)
     by (inr first) = first
 
 pub same_refused : (text other : List ℕ) (draft : Draft) (e : PlanError) → SameWords text other → text_read draft text ≡ Err e → (f : PlanError) × (text_read draft other ≡ Err f)
-same_refused text other draft e same refused = by (text_read draft other) refl
-  where
-    by : (r : Result Draft PlanError) → text_read draft other ≡ r → (f : PlanError) × (text_read draft other ≡ Err f)
-    by (Ok after) is = let none = sym (same_read other text draft after (turned text other same) is) ∙ refused in absurd cc
-    by (Err f) is = (f, is)
+same_refused text other draft e same refused = grind (arith, common_steps, same_read, turned)

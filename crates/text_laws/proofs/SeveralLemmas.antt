@@ -1,5 +1,6 @@
 -- Several briefs are the one text of their items.
-use Rattle.std.proofs.Common.{◌≡◌, ℕ, ◌+◌, List, [], ◌∷◌, ◌++◌, refl, ap, sym, ◌∙◌}
+use Rattle.std.proofs.Common.{◌≡◌, ℕ, ◌+◌, List, [], ◌∷◌, ◌++◌, refl, ap, sym, ◌∙◌, arith}
+use Rattle.std.proofs.lemmas.Grind.{common_steps}
 use Rattle.std.specs.Prelude.{Result, Ok, Err}
 use Rattle.plan_core.specs.Contents.{Contents}
 use Rattle.plan_text.specs.declared.errors.PlanError.{PlanError}
@@ -19,17 +20,12 @@ good x = Ok x
 -- ---- items one after another
 
 pub make_up_both : (items more : List BriefItem) (draft middle after : Draft) → MakeUp draft items middle → MakeUp middle more after → MakeUp draft (items ++ more) after
-make_up_both [] more draft middle after made also = subst_made
-  where
-    subst_made : MakeUp draft more after
-    subst_made = rw (sym made) also
-make_up_both (item ∷ items) more draft middle after made also = (made.0, make_up_both items more (with_item draft item) middle after made.1 also)
+make_up_both [] more draft middle after made also = grind (arith, common_steps)
+make_up_both (item ∷ items) more draft middle after made also = grind (arith, common_steps, (make_up_both items more (with_item draft item) middle after made.1 also))
 
 pub make_up_split : (items more : List BriefItem) (draft after : Draft) → MakeUp draft (items ++ more) after → (middle : Draft) × MakeUp draft items middle × MakeUp middle more after
 make_up_split [] more draft after made = (draft, refl, made)
-make_up_split (item ∷ items) more draft after made =
-    let rest = make_up_split items more (with_item draft item) after made.1 in
-    (rest.0, (made.0, rest.1), rest.2)
+make_up_split (item ∷ items) more draft after made = grind (arith, common_steps, (make_up_split items more (with_item draft item) after made.1))
 
 -- ---- texts one after another
 
@@ -64,9 +60,7 @@ texts_again (text ∷ texts) [] k draft after spelled made = absurd spelled
 -- ---- plans
 
 pub one_says : (text : List ℕ) (plan : Contents) → Means text plan → (items : List BriefItem) × Spells text items × MakeUpPlan items plan
-one_says text plan means =
-    let said = meant_said text plan means in
-    (said.1.items, said.1.spelled, (said.0, said.1.made, said.2))
+one_says text plan means = grind (arith, common_steps, meant_said)
 
 pub one_means : (text : List ℕ) (plan : Contents) → ((items : List BriefItem) × Spells text items × MakeUpPlan items plan) → Means text plan
 one_means text plan s =
@@ -75,21 +69,10 @@ one_means text plan s =
 -- a draft that was read has this plan
 pub all_read : (texts : List (List ℕ)) (plan : Contents) → AllMean texts plan → (draft : Draft) × (texts_read 0 no_items texts ≡ Ok draft) × (plan ≡ plan_meant draft)
 unfolding briefs_read
-all_read texts plan means = by (texts_read 0 no_items texts) refl means
-  where
-    same : (x y : Contents) → good x ≡ good y → x ≡ y
-    same x y e = cc
-
-    by : (r : Result Draft (ℕ × PlanError)) → texts_read 0 no_items texts ≡ r → then_read r (λ draft. Ok (plan_meant draft)) ≡ Ok plan
-        → (draft : Draft) × (texts_read 0 no_items texts ≡ Ok draft) × (plan ≡ plan_meant draft)
-    by (Err e) read h = absurd cc
-    by (Ok draft) read h = (draft, read, sym (same (plan_meant draft) plan h))
+all_read texts plan means = grind (arith, common_steps)
 
 pub all_say : (texts : List (List ℕ)) (plan : Contents) → AllMean texts plan → (lists : List (List BriefItem)) × EachSpells texts lists × MakeUpPlan (all_items lists) plan
-all_say texts plan means =
-    let read = all_read texts plan means in
-    let found = texts_take texts 0 no_items read.0 read.1 in
-    (found.0, found.1, (read.0, found.2, read.2))
+all_say texts plan means = grind (arith, common_steps, all_read, texts_take)
 
 pub all_mean : (texts : List (List ℕ)) (plan : Contents) → ((lists : List (List BriefItem)) × EachSpells texts lists × MakeUpPlan (all_items lists) plan) → AllMean texts plan
 unfolding briefs_read

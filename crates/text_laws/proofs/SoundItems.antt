@@ -1,34 +1,44 @@
 -- Each item that fits leaves a sound draft sound.
-use Rattle.std.proofs.Common.{◌≡◌, ℕ, suc, ◌+◌, ◌*◌, ◌^◌, ◌<◌, ◌≤◌, ◌⊎◌, inl, inr, ◌&&◌, Bool, true, false, not, cond, List, [], ◌∷◌, ◌++◌, map, length, Option, Some, None, is_some, refl, ap, sym, ◌∙◌, subst, arith, true≢false}
-use Rattle.std.specs.Prelude.{if◌then◌else◌, nat_lt, nat_le, unwrap_or}
-use Rattle.std.specs.List.{list_any, filter, flat_map}
+use Rattle.std.proofs.Common.{◌≡◌, ℕ, suc, ◌+◌, ◌*◌, ◌^◌, ◌<◌, ◌≤◌, ◌⊎◌, inl, inr, ◌&&◌, Bool, true, false, not, cond, List, [], ◌∷◌, ◌++◌, map, length, Option, Some, None, is_some, refl, ap, sym, ◌∙◌, subst, arith, true≢false, take, drop, codes}
+use Rattle.std.specs.Prelude.{if◌then◌else◌, nat_lt, nat_le}
+use Rattle.std.specs.List.{list_any, filter, flat_map, prefix_len}
 use Rattle.std.specs.Map.{lookup, keys_of}
 use Rattle.std.specs.Str.{bytes_eq}
-use Rattle.std.proofs.lemmas.Bool.{and_parts, leb-false, ltb-false}
-use Rattle.std.proofs.lemmas.List.{append_assoc, length-append, append-nil, map-append}
+use Rattle.std.proofs.lemmas.Bool.{and_parts, leb-false, ltb-false, ltb-true}
+use Rattle.std.proofs.lemmas.List.{append_assoc, length-append, append-nil, map-append, length-take, length-drop}
 use Rattle.std.proofs.lemmas.List.Concat.{flat_map-append}
 use Rattle.std.proofs.lemmas.List.Sums.{sum_by_push}
+use Rattle.std.proofs.lemmas.Grind.{common_steps}
 use Rattle.message_tree.specs.Patterns.{address_bits}
 use Rattle.message_tree.specs.declared.bits.Address.{Address}
 use Rattle.message_tree.specs.declared.bits.Bit.{Bit}
 use Rattle.message_tree.specs.declared.bits.Bit.TheVariants.{Zero, One, Either}
 use Rattle.message_tree.specs.declared.bits.Pattern.{Pattern}
 use Rattle.plan_core.specs.Building.{has_name, with_interrupt}
-use Rattle.plan_core.specs.Names.{IsName}
+use Rattle.plan_core.specs.Names.{IsName, is_name}
 use Rattle.plan_core.specs.declared.builder.BuildError.TheVariants.{Twice, Unknown, TooMany}
 use Rattle.plan_core.specs.declared.limits.TheConstants.{MOST_CONTROLLERS, MOST_SENDINGS}
 use Rattle.plan_core.proofs.BuildingLemmas.{passes, same-bytes_eq, limits-interrupt}
 use Rattle.brief_text.specs.declared.syntax.Lengths.{Lengths}
-use Rattle.brief_text.specs.Drafts.{Draft, members_or, stands_for, address_said, number_said, same_label, same_side, is_new_label, with_label, with_item}
-use Rattle.brief_text.specs.Fitting.{ListFits, Fits}
-use Rattle.brief_text.specs.Judging.{is_family, is_message, taken_names, is_taken, controller_refusal_of, all_of, have_one_of, sendings, listing_refusal, lists_one, is_side, part_refusal, first_refusal, second_refusal, are_sides}
-use Rattle.brief_text.specs.Splitting.{side_name, labels_of, split_by, parts_of, parts}
-use Rattle.brief_text.specs.Trees.{Side, device, byte, controller, interrupt, never_both, Said}
-use Rattle.brief_text.specs.Words.{known_number}
+use Rattle.brief_text.specs.Drafts.{Draft, members_or, stands_for, address_said, number_said, same_label, same_side, is_new_label, with_label, with_item, no_items}
+use Rattle.brief_text.specs.Fitting.{ListFits, Fits, MakeUp, frame_ranges, bytes_ranges, tail_ranges, often_ranges}
+use Rattle.brief_text.specs.Judging.{is_family, is_message, taken_names, is_taken, controller_refusal_of, all_of, have_one_of, sendings, listing_refusal, is_side, part_refusal, first_refusal, second_refusal}
+use Rattle.brief_text.specs.Splitting.{side_name, labels_of, parts}
+use Rattle.brief_text.specs.Trees.{Side, device, byte, controller, interrupt, never_both, Said, Times, BriefFrame, write_to, read_from, BriefBytes, data_byte, no_more, BriefTail, stop_here, go_on, BriefItem, message}
+use Rattle.brief_text.specs.Words.{known_number, is_range, is_brief_name, is_no_slash, halves_at, around_slash, whole_side, label_side, side_from, side_by}
 use Rattle.text_laws.proofs.EntryNames.{has_name_in, keys_both, in_keys_left, in_keys_either, lookup_in}
 use Rattle.text_laws.proofs.Membership.{In, Distinct, in_left, in_right, in_either, in_last, distinct_both, distinct_push, in_map, any_in, in_any, is_false, not_both, true_or_false, or_either, in_among, holds, holds_in, in_holds}
 use Rattle.text_laws.proofs.SoundDrafts.{family_of, ListSound, LabelSound, SideSound, Sound}
-use Rattle.text_laws.proofs.DraftParts.{one_side}
+use Rattle.text_laws.proofs.PartLemmas.{one_side}
+use Rattle.plan_core.proofs.ContentsLemmas.{empty_within}
+use Rattle.brief_text.specs.Grammar.{SpellsFrame, SpellsBytes, SpellsNext, SpellsRefused, SpellsOften, SpellsItem, SpellsItems}
+use Rattle.brief_text.proofs.TakesLemmas.{le_from}
+use Rattle.brief_tokens.specs.Names.{is_brief_word}
+use Rattle.brief_tokens.specs.Tokens.{Tokens}
+use Rattle.text_laws.specs.Several.{EachSpells, all_items, WasRead}
+use Rattle.text_laws.proofs.Families.{sound_message}
+use Rattle.text_laws.proofs.JoinedNames.{name_parts, is_joined}
+use Rattle.text_laws.proofs.SeveralLemmas.{texts_take, make_up_split}
 
 -- ---- interrupts
 
@@ -52,65 +62,28 @@ unfolding address_bits
 seven a = refl
 
 number_small : (draft : Draft) (to : Said Address) → is_some (known_number 0 (address_bits (address_said draft to))) ≡ true → number_said draft to < 128
-number_small draft to some = by (known_number 0 (address_bits (address_said draft to))) refl some
-  where
-    by : (o : Option ℕ) → known_number 0 (address_bits (address_said draft to)) ≡ o → is_some o ≡ true → unwrap_or o 0 < 128
-    by None e h = absurd (true≢false (sym h))
-    by (Some k) e h =
-        let below = known_below (address_bits (address_said draft to)) 0 k e in
-        subst (λ (n : ℕ). k < (0 + 1) * 2 ^ n) (seven (address_said draft to)) below
+number_small draft to some = grind (arith, common_steps, known_below, seven)
 
 pub sound_interrupt : (draft : Draft) (name : List ℕ) (to : Said Address) → Sound draft → IsName name → Fits draft (interrupt name to) → Sound (with_item draft (interrupt name to))
 unfolding with_item with_interrupt parts
-sound_interrupt draft name to sound is fits = record {
-  limits = limits-interrupt draft.plan name (number_said draft to) sound.limits is (number_small draft to fits.2) fits.0;
-  no_controllers = sound.no_controllers;
-  no_nevers = sound.no_nevers;
-  families = record { apart = sound.families.apart; one = sound.families.one; known = sound.families.known; once = sound.families.once };
-  controllers = record { keys = sound.controllers.keys; named = sound.controllers.named; listed = λ c h. record { once = (sound.controllers.listed c h).once; known = (sound.controllers.listed c h).known }; few = sound.controllers.few };
-  labels = record { once = sound.labels.once; each = λ s h. let l = sound.labels.each s h in record { named = l.named; new = l.new; label = l.label; is = l.is; known = l.known; owned = l.owned } };
-  few_parts = sound.few_parts;
-  nevers = sound.nevers;
-}
+sound_interrupt draft name to sound is fits = grind (arith, common_steps, limits-interrupt, number_small)
 
 -- ---- devices and bytes
 
 pub sound_device : (draft : Draft) (name : List ℕ) (address : Address) → Sound draft → Sound (with_item draft (device name address))
 unfolding with_item parts
-sound_device draft name address sound = record {
-  limits = sound.limits;
-  no_controllers = sound.no_controllers;
-  no_nevers = sound.no_nevers;
-  families = sound.families;
-  controllers = sound.controllers;
-  labels = sound.labels;
-  few_parts = sound.few_parts;
-  nevers = sound.nevers;
-}
+sound_device draft name address sound = grind (arith, common_steps)
 
 pub sound_byte : (draft : Draft) (name : List ℕ) (bits : Pattern) → Sound draft → Sound (with_item draft (byte name bits))
 unfolding with_item parts
-sound_byte draft name bits sound = record {
-  limits = sound.limits;
-  no_controllers = sound.no_controllers;
-  no_nevers = sound.no_nevers;
-  families = sound.families;
-  controllers = sound.controllers;
-  labels = sound.labels;
-  few_parts = sound.few_parts;
-  nevers = sound.nevers;
-}
+sound_byte draft name bits sound = grind (arith, common_steps)
 
 -- ---- controllers
 
 module _ (draft : Draft) (sound : Sound draft) where
   -- what a name stands for, where it may be listed
   stands_once : (name : List ℕ) → Distinct (stands_for draft name)
-  stands_once name = by (family_of name draft.families) refl
-    where
-      by : (o : Option Lengths) → family_of name draft.families ≡ o → Distinct (members_or name o)
-      by None e = ((λ h. h), tt)
-      by (Some r) e = sound.families.once name r e
+  stands_once name = grind (arith, common_steps, sound.families.once)
 
   stands_known : (name : List ℕ) → is_message draft name ≡ true → (m : List ℕ) → In m (stands_for draft name) → In m (keys_of draft.plan.messages)
   stands_known name known m h = by (family_of name draft.families) refl h
@@ -166,10 +139,7 @@ module _ (draft : Draft) (sound : Sound draft) where
 
     free : (is_taken draft name ≡ false) × (length (parts draft) < MOST_CONTROLLERS)
     unfolding controller_refusal_of
-    free =
-        let first = passes (is_taken draft name) Twice _ fits.0 in
-        let second = passes (nat_le MOST_CONTROLLERS (length (parts draft))) TooMany _ first.1 in
-        (first.0, leb-false MOST_CONTROLLERS (length (parts draft)) second.0)
+    free = grind (arith, common_steps, passes, leb-false)
 
     no_key : In name (keys_of draft.controllers) → ⊥
     no_key h = not_both (is_taken draft name) (in_among name (taken_names draft) (in_left name (keys_of draft.controllers) (map side_name draft.labels) h)) free.0
@@ -193,11 +163,7 @@ module _ (draft : Draft) (sound : Sound draft) where
 
     one_part : length (parts extended) ≡ length (parts draft) + 1
     unfolding parts
-    one_part =
-        let both = flat_map-append (parts_of draft) draft.controllers ((name, listed) ∷ []) in
-        let single = ap (λ (labels : List Side). length (split_by draft labels name listed ++ [])) unlabelled in
-        let sizes = length-append (flat_map (parts_of draft) draft.controllers) (parts_of draft (name, listed) ++ []) in
-        ap length both ∙ omega (arith, single, sizes)
+    one_part = grind (arith, common_steps, flat_map-append, unlabelled, length-append)
 
     keys_are : keys_of extended.controllers ≡ keys_of draft.controllers ++ name ∷ []
     keys_are = keys_both draft.controllers ((name, listed) ∷ [])
@@ -260,13 +226,7 @@ module _ (draft : Draft) (sound : Sound draft) where
   module _ (side : Side) (formed : Formed side) (stands : is_side draft side ≡ true) where
     -- the controller lists one of the messages of the label
     found : (listed : List (List ℕ)) × (lookup (bytes_eq side.controller) draft.controllers ≡ Some listed) × ((label : List ℕ) → side.label ≡ Some label → have_one_of listed (stands_for draft label) ≡ true)
-    found = by (lookup (bytes_eq side.controller) draft.controllers) side.label refl refl stands
-      where
-        by : (o : Option (List (List ℕ))) (l : Option (List ℕ)) → lookup (bytes_eq side.controller) draft.controllers ≡ o → side.label ≡ l → lists_one draft o l ≡ true
-            → (listed : List (List ℕ)) × (lookup (bytes_eq side.controller) draft.controllers ≡ Some listed) × ((label : List ℕ) → side.label ≡ Some label → have_one_of listed (stands_for draft label) ≡ true)
-        by None l e f h = absurd (true≢false (sym h))
-        by (Some listed) None e f h = (listed, e, λ label is. let none = sym f ∙ is in absurd cc)
-        by (Some listed) (Some own) e f h = (listed, e, λ label is. let same : some own ≡ some label = sym f ∙ is in let name : own ≡ label = cc in subst (λ (x : List ℕ). have_one_of listed (stands_for draft x) ≡ true) name h)
+    found = grind (arith, common_steps)
 
     owner : In side.controller (keys_of draft.controllers)
     owner = in_map (λ (c : List ℕ × List (List ℕ)). c.0) draft.controllers (side.controller, found.0) (lookup_in side.controller draft.controllers found.0 found.1)
@@ -314,12 +274,10 @@ module _ (draft : Draft) (sound : Sound draft) where
               }
             where
               label_of : (o : Option (List ℕ)) → side.label ≡ o → is_some o ≡ true → (label : List ℕ) × (side.label ≡ Some label)
-              label_of None f g = absurd (true≢false (sym g))
-              label_of (Some label) f g = (label, f)
+              label_of o e f = grind (arith, common_steps)
 
               kept : (s : Side) → (s.label ≡ None) ⊎ In s draft.labels → (s.label ≡ None) ⊎ In s (draft.labels ++ side ∷ [])
-              kept s (inl none) = inl none
-              kept s (inr g) = inr (in_left s draft.labels (side ∷ []) g)
+              kept s e = grind (arith, common_steps, in_left)
 
               each : (s : Side) → In s draft.labels ⊎ In s (side ∷ []) → ((label : List ℕ) × (side.label ≡ Some label)) → (In (side_name side) (keys_of draft.controllers) → ⊥) → LabelSound draft.plan.messages draft.families (keys_of draft.controllers) s
               each s (inl g) is new = sound.labels.each s g
@@ -360,62 +318,24 @@ module _ (draft : Draft) (sound : Sound draft) where
 
 -- where a side stays known
 labels_more : (draft : Draft) (side other : Side) → SideSound (keys_of draft.controllers) draft.labels other → SideSound (keys_of (with_label draft side).controllers) (with_label draft side).labels other
-labels_more draft side other known = by (is_new_label draft side) known.1
-  where
-    by : (b : Bool) → (other.label ≡ None) ⊎ In other draft.labels
-        → SideSound (keys_of (if b then record draft { labels = draft.labels ++ side ∷ [] } else draft).controllers) (if b then record draft { labels = draft.labels ++ side ∷ [] } else draft).labels other
-    by true (inl none) = (known.0, inl none)
-    by true (inr there) = (known.0, inr (in_left other draft.labels (side ∷ []) there))
-    by false which = (known.0, which)
+labels_more draft side other known = grind (arith, common_steps, in_left)
 
 same_keys : (draft : Draft) (side : Side) → keys_of (with_label draft side).controllers ≡ keys_of draft.controllers
-same_keys draft side = by (is_new_label draft side)
-  where
-    by : (b : Bool) → keys_of (if b then record draft { labels = draft.labels ++ side ∷ [] } else draft).controllers ≡ keys_of draft.controllers
-    by true = refl
-    by false = refl
-
-same_nevers : (draft : Draft) (side : Side) → (with_label draft side).nevers ≡ draft.nevers
-same_nevers draft side = by (is_new_label draft side)
-  where
-    by : (b : Bool) → (if b then record draft { labels = draft.labels ++ side ∷ [] } else draft).nevers ≡ draft.nevers
-    by true = refl
-    by false = refl
+same_keys draft side = grind (arith, common_steps)
 
 sound_nevers : (draft : Draft) (nevers : List (Side × Side)) → Sound draft
     → ((never : Side × Side) → In never nevers → SideSound (keys_of draft.controllers) draft.labels never.0 × SideSound (keys_of draft.controllers) draft.labels never.1) → Sound (record draft { nevers = nevers })
 unfolding parts
-sound_nevers draft nevers sound each = record {
-  limits = sound.limits;
-  no_controllers = sound.no_controllers;
-  no_nevers = sound.no_nevers;
-  families = sound.families;
-  controllers = sound.controllers;
-  labels = sound.labels;
-  few_parts = sound.few_parts;
-  nevers = each;
-}
+sound_nevers draft nevers sound each = grind (arith, common_steps)
 
 -- why a side is not refused
 first_free : (draft : Draft) (first : Side) → first_refusal draft first ≡ None → (is_side draft first ≡ true) × (part_refusal draft first ≡ None)
 unfolding first_refusal
-first_free draft first e = by (is_side draft first) refl e
-  where
-    by : (b : Bool) → is_side draft first ≡ b → (if b then part_refusal draft first else Some Unknown) ≡ None → (is_side draft first ≡ true) × (part_refusal draft first ≡ None)
-    by true f h = (f, h)
-    by false f h = absurd cc
+first_free draft first e = grind (arith, common_steps)
 
 second_free : (draft : Draft) (first second : Side) → second_refusal draft first second ≡ None → (is_side draft second ≡ true) × (part_refusal draft second ≡ None)
 unfolding second_refusal
-second_free draft first second e =
-    let one = passes (bytes_eq first.controller second.controller) Twice _ e in
-    let two = passes (not (is_side draft second)) Unknown _ one.1 in
-    let three = passes (list_any (are_sides first second) draft.nevers) Twice _ two.1 in
-    (is_true (is_side draft second) two.0, three.1)
-  where
-    is_true : (b : Bool) → not b ≡ false → b ≡ true
-    is_true true h = refl
-    is_true false h = absurd (true≢false h)
+second_free draft first second e = grind (arith, common_steps, passes)
 
 pub sound_never : (draft : Draft) (first second : Side) → Sound draft → ((label : List ℕ) → first.label ≡ Some label → IsName (side_name first)) → ((label : List ℕ) → second.label ≡ Some label → IsName (side_name second))
     → Fits draft (never_both first second) → Sound (with_item draft (never_both first second))
@@ -445,3 +365,118 @@ sound_never draft first second sound formed also fits =
             subst (λ (n : Side × Side). SideSound (keys_of (with_label (with_label draft first) second).controllers) (with_label (with_label draft first) second).labels n.0
             × SideSound (keys_of (with_label (with_label draft first) second).controllers) (with_label (with_label draft first) second).labels n.1) (sym e) (here, there)
         by (inr (inr k)) = absurd k
+
+-- Every draft that was read is sound.
+
+-- ---- labels
+
+abbrev some_side : Side → Option Side
+some_side side = Some side
+
+-- the halves of a word
+halves_are : (slash : ℕ) (word : List ℕ) (halves : List ℕ × List ℕ) → halves_at slash word ≡ Some halves → (slash < length word) × (take slash word ≡ halves.0) × (drop (slash + 1) word ≡ halves.1)
+halves_are slash word halves e = grind (arith, common_steps, ltb-true)
+
+label_named : (word first second : List ℕ) → around_slash word ≡ Some (first, second) → length word ≤ 32 → is_brief_name first ≡ true → is_brief_name second ≡ true → IsName (first ++ codes "_" ++ second)
+unfolding around_slash
+label_named word first second e short f g =
+    let at = halves_are (prefix_len is_no_slash word) word (first, second) e in
+    let front = and_parts (is_name first) (not (is_brief_word first)) f in
+    let back = and_parts (is_name second) (not (is_brief_word second)) g in
+    let taken = length-take (prefix_len is_no_slash word) word in
+    let dropped = length-drop (prefix_len is_no_slash word + 1) word in
+    let one = ap length at.1 in
+    let two = ap length at.2 in
+    let whole = length-append (first ++ codes "_") second in
+    let start = length-append first (codes "_") in
+    is_joined first second front.0 (name_parts second back.0).all (omega (arith, taken, dropped, one, two, whole, start, at.0, short))
+
+side_formed : (word : List ℕ) (side : Side) → side_by word ≡ Some side → (label : List ℕ) → side.label ≡ Some label → IsName (side_name side)
+unfolding side_by
+side_formed word side e label is = by_halves (around_slash word) refl e
+  where
+    by_halves : (o : Option (List ℕ × List ℕ)) → around_slash word ≡ o → side_from o word ≡ Some side → IsName (side_name side)
+    by_halves None at h = by_name (is_name word) h
+      where
+        by_name : (t : Bool) → whole_side t word ≡ some_side side → IsName (side_name side)
+        by_name true g =
+            let whole : record { controller = word; label = None } ≡ side = cc in
+            let none : None ≡ Some label = ap (λ (s : Side). s.label) whole ∙ is in
+            absurd cc
+        by_name false g = absurd cc
+    by_halves (Some halves) at h = by_test (nat_le (length word) 32 && is_brief_name halves.0 && is_brief_name halves.1) refl h
+      where
+        by_test : (t : Bool) → (nat_le (length word) 32 && is_brief_name halves.0 && is_brief_name halves.1) ≡ t → label_side t halves ≡ some_side side → IsName (side_name side)
+        by_test true p g =
+            let two = and_parts (nat_le (length word) 32 && is_brief_name halves.0) (is_brief_name halves.1) p in
+            let one = and_parts (nat_le (length word) 32) (is_brief_name halves.0) two.0 in
+            let same : record { controller = halves.0; label = Some halves.1 } ≡ side = cc in
+            subst (λ (s : Side). IsName (side_name s)) same (label_named word halves.0 halves.1 at (le_from (length word) 32 one.0) one.1 two.1)
+        by_test false p g = absurd cc
+
+-- ---- a range that is spelled
+
+-- where it is no range no byte stands in it
+module _ (range : Lengths) (none : is_range range.least range.greatest ≡ false) where
+  abbrev R : Option Lengths
+  R = Some range
+
+  often_range : (often : Times) (from to : Tokens) → SpellsOften R often from to → often_ranges often ≡ 0
+  often_range often from to e = grind (arith, common_steps)
+
+  mutual
+    frame_range : (f : BriefFrame) (from to : Tokens) → SpellsFrame R f from to → frame_ranges f ≡ 0
+    frame_range (write_to target refused acked) from to s = omega (arith, refused_range refused s.2.0 s.2.2.0 s.2.2.1, bytes_range acked s.2.2.0 to s.2.2.2)
+    frame_range (read_from target count refused after) from to s = omega (arith, refused_range refused s.2.2.0 s.2.2.2.0 s.2.2.2.1, next_range after s.2.2.2.0 to s.2.2.2.2)
+
+    bytes_range : (b : BriefBytes) (from to : Tokens) → SpellsBytes R b from to → bytes_ranges b ≡ 0
+    bytes_range (data_byte bits often refused acked) from to s =
+        omega (arith, often_range often s.0 s.2.0 s.2.1, refused_range refused s.2.0 s.2.2.0 s.2.2.1, bytes_range acked s.2.2.0 to s.2.2.2)
+    bytes_range (no_more tail) from to s = next_range tail from to s
+
+    next_range : (t : BriefTail) (from to : Tokens) → SpellsNext R t from to → tail_ranges t ≡ 0
+    next_range stop_here from to s = refl
+    next_range (go_on frame) from to s = frame_range frame from to s
+
+    refused_range : (t : BriefTail) (from to : Tokens) → SpellsRefused R t from to → tail_ranges t ≡ 0
+    refused_range stop_here from to s = refl
+    refused_range (go_on frame) from to s = frame_range frame s.2.0 s.2.2.0 s.2.2.1
+
+range_small : (range : Lengths) (f : BriefFrame) (from to : Tokens) → SpellsFrame (Some range) f from to → frame_ranges f ≡ 1 → range.greatest ≤ 255
+range_small range f from to s one = let none = λ (is : is_range range.least range.greatest ≡ false). frame_range range is f from to s in grind (arith, common_steps, and_parts, le_from, none)
+
+-- ---- items
+
+sound_item : (draft : Draft) (item : BriefItem) (from to : Tokens) → Sound draft → Fits draft item → SpellsItem item from to → Sound (with_item draft item)
+sound_item draft (device name address) from to sound fits s = sound_device draft name address sound
+sound_item draft (byte name bits) from to sound fits s = sound_byte draft name bits sound
+sound_item draft (message name None frame) from to sound fits s = sound_message draft name None frame sound s.2.1.1 (λ r e. absurd cc) fits
+sound_item draft (message name (Some range) frame) from to sound fits s =
+    let small = range_small range frame s.2.0 s.2.2.0 s.2.2.1 fits.ranges in
+    sound_message draft name (Some range) frame sound s.2.1.1 (λ r e. let same : range ≡ r = cc in subst (λ (l : Lengths). l.greatest ≤ 255) same small) fits
+sound_item draft (controller name messages) from to sound fits s = sound_controller draft sound name messages s.2.1.1 fits
+sound_item draft (interrupt name target) from to sound fits s = sound_interrupt draft name target sound s.2.1.1 fits
+sound_item draft (never_both first second) from to sound fits s = sound_never draft first second sound (side_formed s.2.1.0 first s.2.1.2) (side_formed s.2.2.1.0 second s.2.2.1.2) fits
+
+sound_items : (items : List BriefItem) (draft after : Draft) (from to : Tokens) → Sound draft → SpellsItems items from to → MakeUp draft items after → Sound after
+sound_items [] draft after from to sound s made = subst Sound (sym made) sound
+sound_items (item ∷ items) draft after from to sound s made =
+    sound_items items (with_item draft item) after s.0 to (sound_item draft item from s.0 sound made.0 s.1) s.2 made.1
+
+sound_texts : (texts : List (List ℕ)) (lists : List (List BriefItem)) (draft after : Draft) → Sound draft → EachSpells texts lists → MakeUp draft (all_items lists) after → Sound after
+sound_texts [] [] draft after sound spelled made = subst Sound (sym made) sound
+sound_texts (text ∷ texts) (items ∷ lists) draft after sound spelled made =
+    let two = make_up_split items (all_items lists) draft after made in
+    let s = spelled.0.whole in
+    sound_texts texts lists two.0 after (sound_items items draft two.0 s.2.0 _ sound s.2.2 two.1) spelled.1 two.2
+sound_texts [] (items ∷ lists) draft after sound spelled made = absurd spelled
+sound_texts (text ∷ texts) [] draft after sound spelled made = absurd spelled
+
+nothing_sound : Sound no_items
+unfolding parts
+nothing_sound = grind (arith, common_steps, empty_within)
+
+pub read_sound : (draft : Draft) → WasRead draft → Sound draft
+read_sound draft read =
+    let found = texts_take read.0 0 no_items draft read.1 in
+    sound_texts read.0 found.0 no_items draft nothing_sound found.1 found.2

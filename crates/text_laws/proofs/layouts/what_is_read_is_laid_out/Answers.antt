@@ -1,5 +1,4 @@
-use Rattle.text_laws.proofs.BriefHeads.{brief_laid_out}
-use Rattle.text_laws.proofs.ExactHeads.{head_exact}
+use Rattle.text_laws.proofs.BriefHeads.{brief_laid_out, head_exact}
 use Rattle.text_laws.proofs.Heads.{plan_laid_out}
 use Rattle.text_laws.proofs.layouts.what_is_read_is_laid_out.Goals as goal
 
