@@ -575,7 +575,7 @@ same "20,000 transactions in a browser: drawn within ten seconds" yes \
     "$( (($(sed -n 's/.*<html [^>]*data-drawn="\([0-9]*\)".*/\1/p' dom) < 10000)) && echo yes)"
 
 # The largest plan: as many pairs as there may be, shown by what is sent. A trial build takes many times as long.
-if [[ $(<version) != *"trial"* ]]; then
+if [[ $("$twire" --version) != *"trial"* ]]; then
     "$top/tools/fullest_plan" >fullest.plan
     "$twire" page fullest.plan -o page.html
     same "the largest plan: the status" 0 $?
