@@ -1,4 +1,4 @@
--- Two sendings are apart exactly where one controller sends both or a `never` covers them.
+-- Two sendings are apart exactly where one controller sends both or a `never` covers them; who sends each message.
 use Rattle.std.proofs.Common.{◌≡◌, ℕ, ◌⊎◌, inl, inr, ◌||◌, ◌&&◌, ◌==◌, Bool, true, false, not, List, [], ◌∷◌, ◌++◌, map, Option, Some, None, slice_get, refl, ap, sym, ◌∙◌, subst, true≢false, arith, zero, suc, ◌+◌, cond, length}
 use Rattle.std.specs.List.{list_any, filter, flat_map, count_by, filter_map, range_with_len}
 use Rattle.std.specs.Map.{keys_of}
@@ -426,7 +426,7 @@ module _ (draft : Draft) (sound : Sound draft) where
     pub apart_told : apart (plan_meant draft) p q ≡ told_apart draft one other
     apart_told = apart_is ∙ same_test (x.c == y.c || is_never (plan_meant draft) x.c y.c) (told_apart draft one other) from_plan to_plan
 
--- Each message that a controller lists has one participant, and there are no others but interrupts.
+-- ---- each message that a controller lists has one participant, and there are no others but interrupts
 
 module _ {A : Type 0} where
   in_slice : (xs : List A) (x : A) → In x xs → (k : ℕ) × (slice_get xs k ≡ Some x)

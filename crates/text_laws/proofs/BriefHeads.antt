@@ -1,4 +1,4 @@
--- What the reader of briefs takes has a layout, and how heads of briefs are refused.
+-- What the reader of briefs takes has a layout; heads are refused exactly as those who read either a plan or a brief do.
 use Rattle.std.proofs.Common.{◌≡◌, ℕ, List, length, Some, None, codes, refl, ap, sym, ◌∙◌, arith, Bool, true, false, ◌∷◌, Option, subst, true≢false}
 use Rattle.std.proofs.lemmas.Grind.{common_steps}
 use Rattle.std.specs.Prelude.{Result, Ok, Err, if◌then◌else◌}
@@ -116,7 +116,7 @@ pub plan_refused : (text : List ℕ) (e : PlanError) → head_or None (lexemes_o
 unfolding plan_tokens.tokens_of
 plan_refused text e h = text_refused text e (first_refused (lexemes_of no_dots 1 text) e h)
 
--- Heads are refused exactly as those who read either a plan or a brief refuse them.
+-- ---- heads, as those refuse them who read either a plan or a brief
 
 abbrev some_letters : Result Letters PlanError
 some_letters = Ok Brief

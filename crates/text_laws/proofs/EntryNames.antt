@@ -1,4 +1,4 @@
--- Names of entries.
+-- Names of entries, and what stands at which place of a list.
 use Rattle.std.proofs.Common.{◌≡◌, ℕ, zero, suc, ◌<◌, ◌⊎◌, inl, inr, Bool, true, false, cond, List, [], ◌∷◌, ◌++◌, length, get_or, Option, Some, None, refl, ap, sym, subst, arith, map, slice_get, ◌∙◌}
 use Rattle.std.specs.Map.{keys_of, lookup}
 use Rattle.std.specs.Str.{bytes_eq}
@@ -82,7 +82,7 @@ module _ {X : Type 0} where
   lookup_other name [] n y differ = ap (λ (t : Bool). cond t (Some y) None) (is_false (bytes_eq name n) (λ h. differ (same-bytes_eq name n h)))
   lookup_other name (f ∷ entries) n y differ = ap (λ (o : Option X). cond (bytes_eq name f.0) (Some f.1) o) (lookup_other name entries n y differ)
 
--- What stands at which place of a list.
+-- ---- what stands at which place of a list
 
 module _ {A : Type 0} where
   abbrev pub two : A → A → A × A

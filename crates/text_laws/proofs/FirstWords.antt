@@ -1,4 +1,4 @@
--- Where a text begins as a brief does, its first word begins with the same letter by the letters of plans.
+-- The first word of a text, by the letters of briefs and by those of plans.
 use Rattle.std.proofs.Common.{◌≡◌, ℕ, ◌+◌, ◌==◌, Bool, true, false, List, [], ◌∷◌, refl, ap, sym, ◌∙◌, subst, arith, true≢false}
 use Rattle.std.specs.Prelude.{nat_lt}
 use Rattle.std.proofs.lemmas.Bool.Decides.{nat_tests}
@@ -108,7 +108,7 @@ pub first_same : (text : List ℕ) → FirstIs (lexemes_of briefs 1 text) → Fi
 unfolding lexemes_of
 first_same text f = (both text 1).0 f
 
--- What is a lexeme by the letters of plans is one by those of briefs.
+-- ---- what is a lexeme by the letters of plans is one by those of briefs
 
 -- what stands first is a lexeme, or the end of the text
 abbrev IsFirst : Lexemes → Type 0

@@ -1,4 +1,4 @@
--- The controllers of a plan that is meant, and its `never` items.
+-- The controllers of a plan that is meant, its `never` items, and its limits.
 use Rattle.std.proofs.Common.{◌≡◌, ℕ, suc, ◌+◌, ◌⊎◌, inl, inr, ◌||◌, ◌&&◌, ◌==◌, Bool, true, false, List, [], ◌∷◌, ◌++◌, map, length, Option, Some, None, is_some, slice_get, refl, ap, sym, ◌∙◌, subst, arith, ◌<◌, ◌≤◌}
 use Rattle.std.specs.Prelude.{if◌then◌else◌, unwrap_or}
 use Rattle.std.specs.List.{list_any, filter_map, range_with_len, sum_by}
@@ -188,7 +188,7 @@ pub from_numbers : (messages : List (List ℕ × FrameTree)) (names : List (List
 from_numbers messages [] k h = absurd h
 from_numbers messages (n ∷ names) k h = grind (arith, common_steps, (from_numbers messages names k))
 
--- The plan that a sound draft means is within the limits, and a builder refuses none of its controllers.
+-- ---- the plan is within the limits, and a builder refuses none of its controllers
 
 controller_free : (plan : Contents) (name : List ℕ) → number_of name plan.controllers ≡ None → length plan.controllers < MOST_CONTROLLERS → controller_name_refusal plan name ≡ None
 unfolding controller_name_refusal

@@ -1,4 +1,4 @@
--- Each message that a controller lists is in exactly one of its parts.
+-- Each message that a controller lists is in exactly one of its parts; the parts of a sound draft.
 use Rattle.std.proofs.Common.{◌≡◌, ℕ, ◌⊎◌, inl, inr, ◌&&◌, Bool, true, false, not, cond, List, [], ◌∷◌, map, Option, Some, None, refl, ap, sym, ◌∙◌, subst, arith, true≢false, ◌+◌, length}
 use Rattle.std.proofs.lemmas.Grind.{common_steps}
 use Rattle.std.specs.List.{list_any, filter, flat_map, count_by, sum_by}
@@ -129,7 +129,7 @@ pub kept : (m : List ℕ) (all : List Part) → count_by (sends m) (filter sends
 kept m [] = refl
 kept m (p ∷ all) = grind (arith, common_steps, count-cons, (kept m all))
 
--- The parts of a sound draft.
+-- ---- the parts of a sound draft
 
 pub one_side : (s t : Side) → s.controller ≡ t.controller → s.label ≡ t.label → s ≡ t
 one_side s t e f = λ i. record { controller = e i; label = f i }

@@ -1,4 +1,4 @@
--- Each item that fits leaves a sound draft sound.
+-- Each item that fits leaves a sound draft sound, so every draft that was read is.
 use Rattle.std.proofs.Common.{◌≡◌, ℕ, suc, ◌+◌, ◌*◌, ◌^◌, ◌<◌, ◌≤◌, ◌⊎◌, inl, inr, ◌&&◌, Bool, true, false, not, cond, List, [], ◌∷◌, ◌++◌, map, length, Option, Some, None, is_some, refl, ap, sym, ◌∙◌, subst, arith, true≢false, take, drop, codes}
 use Rattle.std.specs.Prelude.{if◌then◌else◌, nat_lt, nat_le}
 use Rattle.std.specs.List.{list_any, filter, flat_map, prefix_len}
@@ -366,7 +366,7 @@ sound_never draft first second sound formed also fits =
             × SideSound (keys_of (with_label (with_label draft first) second).controllers) (with_label (with_label draft first) second).labels n.1) (sym e) (here, there)
         by (inr (inr k)) = absurd k
 
--- Every draft that was read is sound.
+-- ---- every draft that was read is sound
 
 -- ---- labels
 
