@@ -187,7 +187,7 @@ fn push_note(alloc: Global, line: &mut Lines, seen: &Sights<'_>, controller: &Co
         line.word(controller.base.as_str());
         line.word("of");
     } else {
-        line.words("the controllers of");
+        line.tell("the controllers of", &[]);
     }
     line.word_made(plain_word(alloc, before.file));
     line.end();
