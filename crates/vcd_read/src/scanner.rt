@@ -9,6 +9,7 @@ ghost use Rattle.vcd_read.specs.Views.{asked};
 use crate::bytes::{is_white, line_after, whites};
 use crate::dumps::Dump;
 use crate::errors::Refusal;
+use crate::further::Beside;
 use crate::places::{OpenLine, Wrong};
 use crate::probes::Probe;
 use crate::samples::Sample;
@@ -22,7 +23,7 @@ pub(crate) struct Scanner {
     // the line of the next byte
     line: u64,
     // the token that has not ended
-    held: Vec<u8>,
+    pub(crate) held: Vec<u8>,
     pub(crate) samples: Vec<Sample>,
     // where in the piece at hand a token ended that was refused; it is held then
     refused_at: usize,
@@ -62,8 +63,8 @@ impl Scanner {
         self.dump.reserve(self.held.capacity())
     }
 
-    /// Reads a piece for which there is room.
-    pub(crate) fn read(&mut self, piece: &[u8]) -> Result<(), Refusal>
+    /// Reads a piece for which there is room. Another is told of the tokens that are taken.
+    pub(crate) fn read<B: Beside>(&mut self, piece: &[u8], beside: &mut B) -> Result<(), Refusal>
         requires token_room { RoomForToken (length piece.now) self.old }
         requires samples_room { RoomForSamples (length piece.now + 2) self.old }
         ensures kept { Scans result (bytes_read (kept_of self.old) piece.now) (kept_of self.new) }
@@ -76,18 +77,23 @@ impl Scanner {
             let mut rest = whites(u8x64::from_slice(&piece[at..]));
             while rest != 0 {
                 let white = at + rest.trailing_zeros() as usize;
-                self.end_token(&piece[start..white], white)?;
+                self.end_token(&piece[start..white], white, beside)?;
                 self.line = line_after(self.line, piece[white]);
                 start = white + 1;
                 rest &= rest - 1;
             }
             at += 64;
         }
-        self.read_bytes(&piece[start..], start)
+        self.read_bytes(&piece[start..], start, beside)
     }
 
     // The same of what stands from here on in the piece, byte by byte.
-    fn read_bytes(&mut self, piece: &[u8], from: usize) -> Result<(), Refusal>
+    fn read_bytes<B: Beside>(
+        &mut self,
+        piece: &[u8],
+        from: usize,
+        beside: &mut B,
+    ) -> Result<(), Refusal>
         requires token_room { RoomForToken (length piece.now) self.old }
         requires samples_room { RoomForSamples (length piece.now + 2) self.old }
         ensures kept { Scans result (bytes_read (kept_of self.old) piece.now) (kept_of self.new) }
@@ -97,7 +103,7 @@ impl Scanner {
         let mut start = 0;
         for (at, byte) in piece.iter().enumerate() {
             if is_white(*byte) {
-                self.end_token(&piece[start..at], from.saturating_add(at))?;
+                self.end_token(&piece[start..at], from.saturating_add(at), beside)?;
                 self.line = line_after(self.line, *byte);
                 start = at + 1;
             }
@@ -108,7 +114,12 @@ impl Scanner {
 
     // What is held, with this after it, has come to its end, here in the piece.
     #[inline(always)]
-    fn end_token(&mut self, rest: &[u8], at: usize) -> Result<(), Refusal>
+    fn end_token<B: Beside>(
+        &mut self,
+        rest: &[u8],
+        at: usize,
+        beside: &mut B,
+    ) -> Result<(), Refusal>
         requires token_room { RoomForToken (length rest.now) self.old }
         requires samples_room { RoomForSamples 1 self.old }
         ensures kept { Scans result (token_ended (with_held rest.now (kept_of self.old))) (kept_of self.new) }
@@ -117,13 +128,19 @@ impl Scanner {
         ensures samples_room { (n : ℕ) → RoomForSamples (n + 1) self.old → RoomForSamples n self.new }
     {
         if !self.held.is_empty() {
-            return self.end_held(rest, at);
+            return self.end_held(rest, at, beside);
         }
-        if rest.is_empty() || self.dump.change_short(rest) {
+        if rest.is_empty() {
             return Ok(());
         }
+        if self.dump.change_short(rest) {
+            beside.change_short(rest);
+            return Ok(());
+        }
+        let context = self.dump.context;
         match self.dump.read(rest, self.line) {
             Ok(sample) => {
+                beside.token(rest, context, &self.dump);
                 keep(&mut self.samples, sample);
                 Ok(())
             }
@@ -137,7 +154,7 @@ impl Scanner {
 
     // The same where something is held.
     #[inline(never)]
-    fn end_held(&mut self, rest: &[u8], at: usize) -> Result<(), Refusal>
+    fn end_held<B: Beside>(&mut self, rest: &[u8], at: usize, beside: &mut B) -> Result<(), Refusal>
         requires token_room { RoomForToken (length rest.now) self.old }
         requires samples_room { RoomForSamples 1 self.old }
         requires some_held { 0 < vec_len self.old.held }
@@ -148,20 +165,22 @@ impl Scanner {
     {
         let _ = self.held.extend_from_slice(rest);
         self.refused_at = at;
+        let context = self.dump.context;
         let sample = self.dump.read(self.held.as_slice(), self.line)?;
+        beside.token(self.held.as_slice(), context, &self.dump);
         self.held.clear();
         keep(&mut self.samples, sample);
         Ok(())
     }
 
     /// The end of the dump: its last samples.
-    pub(crate) fn end(&mut self) -> Result<(), Refusal>
+    pub(crate) fn end<B: Beside>(&mut self, beside: &mut B) -> Result<(), Refusal>
         requires token_room { RoomForToken 0 self.old }
         requires samples_room { RoomForSamples 2 self.old }
         ensures { MatchResult result (λ _. samples_at_end (kept_of self.old) ≡ Ok self.new.samples.items)
             (λ refusal. samples_at_end (kept_of self.old) ≡ Err refusal) }
     {
-        self.end_token(&[], 0)?;
+        self.end_token(&[], 0, beside)?;
         if let Some(sample) = self.dump.end()? {
             self.samples.push_reserved(sample);
         }

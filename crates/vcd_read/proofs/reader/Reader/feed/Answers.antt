@@ -49,14 +49,14 @@ returns-in-Err-clause-again c = λ scl sda text cleared fed.
 pub returns-in-Ok-clause-fed : goal.returns-in-Ok-clause-fed
 returns-in-Ok-clause-fed c = λ scl sda text cleared fed.
     going_from_scan scl sda _ cleared _ c.in_default.is
-    (scan_more scl sda text c.args.piece.now cleared (kept_of c.args.self.now.scanner) (kept_of c.read.new.self)
+    (scan_more scl sda text c.args.piece.now cleared (kept_of c.args.self.now.scanner) (kept_of c.read.new.scanner)
     (scan_of_going scl sda text cleared (reading_of c.args.self.now) c.in_default.is fed)
     (ap (λ k. bytes_read k c.args.piece.now) (sym c.in_ok-reserve.ensures.kept) ∙ c.in-Ok.ensures.kept))
 
 pub returns-in-Ok-clause-told : goal.returns-in-Ok-clause-told
 returns-in-Ok-clause-told c = λ scl sda text cleared fed.
-    rw (said_going scl sda (text ++ c.args.piece.now) cleared (kept_of c.read.new.self)
-    (scan_more scl sda text c.args.piece.now cleared (kept_of c.args.self.now.scanner) (kept_of c.read.new.self)
+    rw (said_going scl sda (text ++ c.args.piece.now) cleared (kept_of c.read.new.scanner)
+    (scan_more scl sda text c.args.piece.now cleared (kept_of c.args.self.now.scanner) (kept_of c.read.new.scanner)
     (scan_of_going scl sda text cleared (reading_of c.args.self.now) c.in_default.is fed)
     (ap (λ k. bytes_read k c.args.piece.now) (sym c.in_ok-reserve.ensures.kept) ∙ c.in-Ok.ensures.kept))) tt
 

@@ -1,7 +1,7 @@
 use Rattle.vcd_read.specs.Pieces.{kept_of}
 use Rattle.vcd_read.specs.Readers.{reading_of}
 use Rattle.vcd_read.proofs.FedLemmas.{scan_of_going, scan_of_refused, samples_going, samples_refused_at_end, samples_refused, is_refusal}
-use Rattle.vcd_read.proofs.reader.Reader.close.Goals as goal
+use Rattle.vcd_read.proofs.reader.Reader.finish.Goals as goal
 
 pub returns-in-Some : goal.returns-in-Some
 returns-in-Some c = λ scl sda text cleared fed.
