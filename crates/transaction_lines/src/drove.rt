@@ -8,7 +8,7 @@ use std::alloc::{AllocError, Global};
 /// What is said below a transaction of what the controllers did that are followed.
 pub(crate) fn below_drives(
     alloc: Global,
-    judging: &Judging<'_, '_>,
+    judging: &Judging<'_>,
     verdict: &Verdict,
 ) -> Result<String, AllocError> {
     let mut lines = Lines::new(alloc);
@@ -62,7 +62,7 @@ fn push_slot(text: &mut Text, words: &str, slot: usize) {
 }
 
 /// In how many transactions the controllers that are followed did what the rules of the plan give.
-pub(crate) fn drives_line(alloc: Global, judging: &Judging<'_, '_>) -> Result<String, AllocError> {
+pub(crate) fn drives_line(alloc: Global, judging: &Judging<'_>) -> Result<String, AllocError> {
     let mut lines = Lines::new(alloc);
     begin(&mut lines);
     lines.words("who drove: in");

@@ -3,8 +3,8 @@
 ghost use Rattle.std.specs.Prelude.{◌≡◌, ◌+◌, length, Ok, Err, MatchResult, OnOk};
 ghost use Rattle.vcd_read.specs.Pieces.{RoomForToken, RoomForSamples, Scans, bytes_read, kept_of, samples_at_end};
 
+use crate::beside::{Furthers, Nobody, Tokens};
 use crate::errors::Refusal;
-use crate::further::{Furthers, Nobody};
 use crate::places::{OpenLine, Wrong};
 use crate::probes::Probe;
 use crate::samples::{Further, Sample};
@@ -156,11 +156,33 @@ impl Reader {
             MatchResult (said_so_far scl sda text) (λ _. Unit {0}) (λ refusal. result ≡ Err (error_of refusal)) }
         ensures memory { result ≡ Err NoMemory → reading_of self.new ≡ reading_of self.old }
     {
+        self.feed_with(piece, &mut Nobody)
+    }
+
+    /// The same. Another is told of each token that is read and not refused.
+    ///
+    /// # Errors
+    ///
+    /// Those of `feed`.
+    pub fn feed_with<T: Tokens>(&mut self, piece: &[u8], tokens: &mut T) -> Result<(), VcdError>
+        // The text that it was fed grows by the piece, unless an allocation fails.
+        ensures fed { (scl sda : Finder) (text : List ℕ) (cleared : List Sample) →
+            Fed scl sda text cleared (reading_of self.old) →
+            UnlessMemory result (Fed scl sda (text ++ piece.now) cleared (reading_of self.new)) }
+
+        // A refusal comes in the call in which its token is read, and then in every later call.
+        ensures told { (scl sda : Finder) (text : List ℕ) (cleared : List Sample) →
+            Fed scl sda text cleared (reading_of self.old) → Answers result (said_so_far scl sda (text ++ piece.now)) }
+        ensures again { (scl sda : Finder) (text : List ℕ) (cleared : List Sample) →
+            Fed scl sda text cleared (reading_of self.old) →
+            MatchResult (said_so_far scl sda text) (λ _. Unit {0}) (λ refusal. result ≡ Err (error_of refusal)) }
+        ensures memory { result ≡ Err NoMemory → reading_of self.new ≡ reading_of self.old }
+    {
         if let Some(refusal) = self.refused {
             return Err(VcdError::from(refusal));
         }
         reserve(&mut self.scanner, &mut self.further, piece.len())?;
-        match read(&mut self.scanner, &mut self.further, piece) {
+        match read(&mut self.scanner, &mut self.further, piece, tokens) {
             Ok(()) => {
                 self.line.go_on(piece);
                 Ok(())
@@ -238,18 +260,18 @@ impl Reader {
             MatchResult result (λ samples. samples_of scl sda text ≡ Ok (cleared ++ samples.items))
             (λ e. IsRefusal (samples_of scl sda text) e.error) }
     {
-        match self.finish() {
+        match self.finish(&mut Nobody) {
             Ok(Last { samples, .. }) => Ok(samples),
             Err(refused) => Err(refused),
         }
     }
 
-    /// The same, with what the further lines are.
+    /// The same, with what the further lines are. Another is told of the last token.
     ///
     /// # Errors
     ///
     /// V1 to V4.
-    pub fn finish(self) -> Result<Last, EndError>
+    pub fn finish<T: Tokens>(self, tokens: &mut T) -> Result<Last, EndError>
         ensures { (scl sda : Finder) (text : List ℕ) (cleared : List Sample) →
             Fed scl sda text cleared (reading_of self) →
             MatchResult result (λ last. samples_of scl sda text ≡ Ok (cleared ++ last.samples.items))
@@ -267,7 +289,7 @@ impl Reader {
             let left = Left::Known(wrong);
             return Err(EndError { error, left });
         }
-        match end(&mut scanner, &mut further) {
+        match end(&mut scanner, &mut further, tokens) {
             Ok(()) => {
                 let Scanner { samples, .. } = scanner;
                 Ok(Last { samples, further })
@@ -311,7 +333,12 @@ fn reserve(
 }
 
 // Reads a piece for which there is room.
-fn read(scanner: &mut Scanner, further: &mut Option<Furthers>, piece: &[u8]) -> Result<(), Refusal>
+fn read<T: Tokens>(
+    scanner: &mut Scanner,
+    further: &mut Option<Furthers>,
+    piece: &[u8],
+    tokens: &mut T,
+) -> Result<(), Refusal>
     requires token_room { RoomForToken (length piece.now) scanner.old }
     requires samples_room { RoomForSamples (length piece.now + 2) scanner.old }
     ensures kept { Scans result (bytes_read (kept_of scanner.old) piece.now) (kept_of scanner.new) }
@@ -319,13 +346,17 @@ fn read(scanner: &mut Scanner, further: &mut Option<Furthers>, piece: &[u8]) -> 
     ensures samples_room { RoomForSamples 2 scanner.new }
 {
     match further {
-        Some(further) => scanner.read(piece, further),
-        None => scanner.read(piece, &mut Nobody),
+        Some(further) => scanner.read(piece, further, tokens),
+        None => scanner.read(piece, &mut Nobody, tokens),
     }
 }
 
 // The end of the dump: its last samples, and what the further lines are then.
-fn end(scanner: &mut Scanner, further: &mut Option<Furthers>) -> Result<(), Refusal>
+fn end<T: Tokens>(
+    scanner: &mut Scanner,
+    further: &mut Option<Furthers>,
+    tokens: &mut T,
+) -> Result<(), Refusal>
     requires token_room { RoomForToken 0 scanner.old }
     requires samples_room { RoomForSamples 2 scanner.old }
     ensures { MatchResult result (λ _. samples_at_end (kept_of scanner.old) ≡ Ok scanner.new.samples.items)
@@ -333,11 +364,11 @@ fn end(scanner: &mut Scanner, further: &mut Option<Furthers>) -> Result<(), Refu
 {
     match further {
         Some(further) => {
-            let ended = scanner.end(further);
+            let ended = scanner.end(further, tokens);
             further.end();
             ended
         }
-        None => scanner.end(&mut Nobody),
+        None => scanner.end(&mut Nobody, tokens),
     }
 }
 

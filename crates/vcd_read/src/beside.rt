@@ -1,4 +1,5 @@
-// Further lines, followed beside the two of the bus. Nothing is proved of what they are.
+// Who is told what a dump says, beside the two lines of the bus: of its tokens, or what further lines are. Nothing is proved
+// of either but that it is safe.
 
 use crate::dumps::{Context, Dump, Seen};
 use crate::probes::{Probe, Sought};
@@ -9,25 +10,34 @@ use std::alloc::{AllocError, Global};
 // How many lines can be followed: a bit of a mask for each.
 const MOST: u32 = 32;
 
-/// Who is told of the tokens that a dump has taken.
+/// Who is told of the tokens of a dump as they are read, of each that is not refused.
+pub trait Tokens {
+    /// The next token.
+    #[inline(always)]
+    fn token(&mut self, _token: &[u8]) {}
+}
+
+/// Nobody is told.
+#[derive(Drop)]
+pub struct Nobody;
+
+impl Tokens for Nobody {}
+
+/// Who stands beside a dump that takes tokens.
 pub(crate) trait Beside {
     /// A change of one value, `0` or `1`, whose code has at most three characters.
     fn change_short(&mut self, token: &[u8]);
 
     /// Any other token, which stood in this context of the dump.
-    fn token(&mut self, token: &[u8], context: Context, dump: &Dump);
+    fn change_other(&mut self, token: &[u8], context: Context, dump: &Dump);
 }
-
-/// Nobody is told.
-#[derive(Drop)]
-pub(crate) struct Nobody;
 
 impl Beside for Nobody {
     #[inline(always)]
     fn change_short(&mut self, _token: &[u8]) {}
 
     #[inline(always)]
-    fn token(&mut self, _token: &[u8], _context: Context, _dump: &Dump) {}
+    fn change_other(&mut self, _token: &[u8], _context: Context, _dump: &Dump) {}
 }
 
 // One line: how its `$var` is found, the code that this gives it (empty until it has come), the number of that, and its bit.
@@ -232,7 +242,7 @@ impl Beside for Furthers {
     }
 
     #[inline(always)]
-    fn token(&mut self, token: &[u8], context: Context, dump: &Dump) {
+    fn change_other(&mut self, token: &[u8], context: Context, dump: &Dump) {
         match context {
             Context::Nothing if dump.defined => self.change(token, dump.time),
             Context::Var(_, Seen::Code { one_bit }) => {
