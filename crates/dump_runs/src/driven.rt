@@ -2,7 +2,7 @@
 
 use brief_tokens::is_brief_word;
 use decoding::{Ending, TransactionSink};
-use drives::{Drivers, Driving, Judging};
+use drives::{Drivers, Judging};
 use dump_hints::{
     on_denied_line, on_like_line, on_no_controller, on_no_line, on_no_name, on_same_line,
 };
@@ -14,7 +14,6 @@ use run_ends::{Halt, open_dump};
 use run_parts::{Input, RunError};
 use signals::{Dump, Sought};
 use std::alloc::{AllocError, Global};
-use vcd_read::Probe;
 
 /// The dump, with the lines of these controllers. That one has no signal is refused where SCL and SDA have theirs, since else
 /// that comes first.
@@ -50,29 +49,11 @@ fn sought<'a>(alloc: Global, drives: Drives<'a>) -> Result<Vec<Sought<'a>>, Allo
 }
 
 /// The lines of these controllers, before the dump is read on. None where there are none.
-pub(crate) fn driving_of<'a, J: Input>(
-    alloc: Global,
-    dump: &Dump<'_, '_, J>,
-    drives: Drives<'a>,
-) -> Result<Option<Driving<'a>>, AllocError> {
+pub(crate) fn drivers_of(alloc: Global, drives: Drives<'_>) -> Option<Drivers> {
     if drives.is_empty() {
-        return Ok(None);
+        return None;
     }
-    let mut probes = Vec::new(alloc);
-    for line in dump.others() {
-        probes.push(match line {
-            Some(line) => line.probe(),
-            None => Probe::Coded(""),
-        })?;
-    }
-    let drivers = Drivers::new(
-        alloc,
-        dump.scl(),
-        dump.sda(),
-        probes.as_slice(),
-        drives.pulling,
-    )?;
-    Ok(Some(Driving::new(drives, drivers)))
+    Some(Drivers::new(alloc, drives.all.len(), drives.pulling))
 }
 
 /// Hands the transactions of the dump on, beside the lines of controllers.
@@ -80,56 +61,60 @@ pub(crate) fn decode_driven<J: Input, S: TransactionSink>(
     alloc: Global,
     dump: &mut Dump<'_, '_, J>,
     sink: &mut S,
-    driving: Option<&Driving<'_>>,
+    drivers: &mut Option<Drivers>,
 ) -> Result<Ending, RunError>
     requires { S.needs }
 {
-    match driving {
-        Some(mut driving) => dump.decode_with(alloc, sink, &mut driving),
+    match drivers {
+        Some(drivers) => dump.decode_beside(alloc, sink, drivers),
         None => dump.decode(alloc, sink),
     }
 }
 
 /// Refuses a line that is SDA itself, or that pulls it where it is HIGH, once the dump has been read. What to say of one that
 /// cannot be told apart from SDA.
-pub(crate) fn refuse_others(alloc: Global, driving: Option<&Driving<'_>>) -> Result<Hints, Halt> {
-    let Some(driving) = driving else {
+pub(crate) fn refuse_others(
+    alloc: Global,
+    drives: Drives<'_>,
+    drivers: &Option<Drivers>,
+) -> Result<Hints, Halt> {
+    let Some(drivers) = drivers else {
         return Ok(Hints::new(alloc));
     };
     let mut hints = Hints::new(alloc);
-    if let Some(alike) = driving.first_alike()
-        && let Some(drive) = drive_of(driving, Some(alike.number))
+    if let Some(alike) = drivers.first_alike()
+        && let Some(drive) = drive_of(drives, Some(alike.number))
     {
         if alike.is_sda {
             return Err(no_drive(alloc, drive, on_same_line(alloc, drive)));
         }
         hints = on_like_line(alloc, drive)?;
     }
-    match drive_of(driving, driving.first_denied()) {
+    match drive_of(drives, drivers.first_denied()) {
         Some(drive) => Err(no_drive(alloc, drive, on_denied_line(alloc, drive))),
         None => Ok(hints),
     }
 }
 
-fn drive_of<'a>(driving: &Driving<'a>, number: Option<usize>) -> Option<Drive<'a>> {
-    driving.drives().get(number?).copied()
+fn drive_of<'a>(drives: Drives<'a>, number: Option<usize>) -> Option<Drive<'a>> {
+    drives.all.get(number?).copied()
 }
 
 /// Holds what the controllers do against the plan.
-pub(crate) fn judging_of<'d, 'a>(
+pub(crate) fn judging_of<'a>(
     alloc: Global,
-    driving: Option<&'d Driving<'a>>,
+    drives: Drives<'a>,
     plan: &Plan,
     words: PlanWords<'_>,
-) -> Result<Option<Judging<'d, 'a>>, AllocError> {
-    let Some(driving) = driving else {
+) -> Result<Option<Judging<'a>>, AllocError> {
+    if drives.is_empty() {
         return Ok(None);
-    };
+    }
     let mut sendings = Vec::new(alloc);
-    for drive in driving.drives() {
+    for drive in drives.all {
         sendings.push(sendings_of(alloc, plan, words, drive.controller)?)?;
     }
-    Ok(Some(Judging::new(alloc, driving, sendings)))
+    Ok(Some(Judging::new(drives, sendings)))
 }
 
 // The participants of the plan that a controller of this name can be.

@@ -14,14 +14,14 @@ ghost use Rattle.run_parts.specs.declared.runs.Status.TheVariants.{Good};
 ghost use Rattle.vcd_read.specs.Views.{asked};
 
 use crate::driven::{
-    decode_driven, driving_of, judging_of, open_driven, refuse_no_names, refuse_others,
+    decode_driven, drivers_of, judging_of, open_driven, refuse_no_names, refuse_others,
     refuse_unknown,
 };
 use bus_rows::Paint;
-use byte_lines::{ByteCounts, write_decoded};
+use byte_lines::{ByteCounts, write_decoded, write_decoded_beside};
 use capture_check::Rises;
 use decoding::Explaining;
-use drives::Driving;
+use drives::Drivers;
 use dump_findings::{Layout, Seen, Selection, status_of_seen};
 use dump_objects::{CaptureObjects, DecodeObjects, write_signals};
 use dump_tokens::{Bus, BusLines, Drives, Limits, Quiet, Window};
@@ -35,8 +35,8 @@ use report::{CaptureCounts, CaptureReport, live_capture, write_capture};
 use run_ends::{
     Canvas, Ended, Halt, Recorded, Remark, Sources, Style, halted, halted_by, open_dump, write_wave,
 };
-use run_parts::{Input, Output, RunError, Status, Watched, write_lines};
-use signals::{Dump, Listed, OpenDump, Recorder, SignalDump, Tapped, reads_ahead};
+use run_parts::{Input, Output, RunError, Status, write_lines};
+use signals::{Dump, Listed, OpenDump, Recorder, SignalDump, reads_ahead};
 use std::alloc::Global;
 use std::rt::Files;
 use std::thread::Threads;
@@ -232,6 +232,7 @@ fn capture_picked<R: AllocGlobal + Threads + Sync, J: Input, O: Output>(
         vcd,
         scl,
         sda,
+        others: _,
         least,
         wrong,
     } = dump;
@@ -298,9 +299,9 @@ fn capture_open<R: AllocGlobal + Threads + Sync, J: Input, O: Output>(
 ) -> Result<(Result<Told, RunError>, Hints), Halt>
     ensures status { IfOk result (λ it. IfOk it.0 (λ told. IsJudged capture.entry.bus.view.at_least told)) }
 {
-    let driving = driving_of(rt.alloc(), &*dump, capture.drives)?;
-    let told = capture_dump(rt, words, dump, out, capture, style, driving.as_ref());
-    let hints = refuse_others(rt.alloc(), driving.as_ref())?;
+    let mut drivers = drivers_of(rt.alloc(), capture.drives);
+    let told = capture_dump(rt, words, dump, out, capture, style, &mut drivers);
+    let hints = refuse_others(rt.alloc(), capture.drives, &drivers)?;
     Ok((told, hints))
 }
 
@@ -312,13 +313,13 @@ fn capture_dump<R: AllocGlobal + Threads + Sync, J: Input, O: Output>(
     out: &mut O,
     capture: Capture<'_>,
     style: Style,
-    driving: Option<&Driving<'_>>,
+    drivers: &mut Option<Drivers>,
 ) -> Result<Told, RunError>
     ensures status { IfOk result (λ it. IsJudged capture.entry.bus.view.at_least it) }
 {
     let (selection, rises) = match style {
-        Style::Objects => capture_objects(rt, words, dump, out, capture, driving)?,
-        Style::Lines(paint) => capture_lines(rt, words, dump, out, capture, paint, driving)?,
+        Style::Objects => capture_objects(rt, words, dump, out, capture, drivers)?,
+        Style::Lines(paint) => capture_lines(rt, words, dump, out, capture, paint, drivers)?,
     };
     let Selection { seen, departed, .. } = selection;
     Ok(Told {
@@ -336,19 +337,19 @@ fn capture_lines<R: AllocGlobal + Threads + Sync, J: Input, O: Output>(
     out: &mut O,
     capture: Capture<'_>,
     paint: Paint,
-    driving: Option<&Driving<'_>>,
+    drivers: &mut Option<Drivers>,
 ) -> Result<(Selection, Rises), RunError> {
     let alloc = rt.alloc();
     let selection = Selection::new(capture.bus.view, dump.scale());
     let lines = CaptureLines::new(alloc, words, selection, capture.layout(paint), out)?;
-    let judging = judging_of(alloc, driving, words.plan(), words)?;
+    let judging = judging_of(alloc, capture.drives, words.plan(), words)?;
     let mut explaining = Explaining {
         rt,
         alloc,
         plan: words.plan(),
         sink: lines.with_drives(judging),
     };
-    let ended = decode_driven(alloc, dump, &mut explaining, driving);
+    let ended = decode_driven(alloc, dump, &mut explaining, drivers);
     let Explaining { sink, .. } = explaining;
     match ended {
         Ok(ending) => Ok((sink.finish(dump.quiet(), ending)?, ending.rises)),
@@ -362,19 +363,19 @@ fn capture_objects<R: AllocGlobal + Threads + Sync, J: Input, O: Output>(
     dump: &mut Dump<'_, '_, J>,
     out: &mut O,
     capture: Capture<'_>,
-    driving: Option<&Driving<'_>>,
+    drivers: &mut Option<Drivers>,
 ) -> Result<(Selection, Rises), RunError> {
     let alloc = rt.alloc();
     let selection = Selection::new(capture.bus.view, dump.scale());
     let objects = CaptureObjects::new(alloc, words, selection, capture.layout(Paint::Plain), out)?;
-    let judging = judging_of(alloc, driving, words.plan(), words)?;
+    let judging = judging_of(alloc, capture.drives, words.plan(), words)?;
     let mut explaining = Explaining {
         rt,
         alloc,
         plan: words.plan(),
         sink: objects.with_drives(judging),
     };
-    let ended = decode_driven(alloc, dump, &mut explaining, driving);
+    let ended = decode_driven(alloc, dump, &mut explaining, drivers);
     let Explaining { sink, .. } = explaining;
     match ended {
         Ok(ending) => Ok((sink.finish(ending)?, ending.rises)),
@@ -461,16 +462,16 @@ fn decode_in_form<R: Files + Print + Eprint + Clock + AllocGlobal, J: Input, O: 
     let alloc = rt.alloc();
     let mut dump = open_dump(alloc, vcd, bus)?;
     let selection = Selection::new(bus.view, dump.scale());
-    let mut tap = match canvas {
-        Some(_) => Some(Recorder::new(alloc, dump.scl(), dump.sda())?),
+    let mut recorder = match canvas {
+        Some(_) => Some(Recorder::new(alloc)),
         None => None,
     };
     let told = match style {
-        Style::Objects => decode_objects(alloc, &mut dump, out, selection, live, &mut tap),
+        Style::Objects => decode_objects(alloc, &mut dump, out, selection, live, &mut recorder),
         Style::Lines(_) if bus.view.is_whole() => {
-            exact_bytes(alloc, &mut dump, out, selection, live, &mut tap)
+            exact_bytes(alloc, &mut dump, out, selection, live, &mut recorder)
         }
-        Style::Lines(_) => decode_lines(alloc, &mut dump, out, selection, live, &mut tap),
+        Style::Lines(_) => decode_lines(alloc, &mut dump, out, selection, live, &mut recorder),
     };
     let least = dump.quiet().least;
     let (selection, rises) = match told {
@@ -478,7 +479,7 @@ fn decode_in_form<R: Files + Print + Eprint + Clock + AllocGlobal, J: Input, O: 
         Err(error) => return Err(halted(dump, error)),
     };
     let status = status_of_seen(bus.view.at_least, selection.seen, 0);
-    draw_tapped(rt, tap, least, bus.view.window, status, canvas)?;
+    draw_recorded(rt, recorder, least, bus.view.window, status, canvas)?;
     let recorded = Recorded::Bytes(bus.view.window, selection.seen);
     Ok(Ended {
         status,
@@ -487,15 +488,15 @@ fn decode_in_form<R: Files + Print + Eprint + Clock + AllocGlobal, J: Input, O: 
 }
 
 // Draws what was recorded, where that is wanted.
-fn draw_tapped<R: Files + Print + Eprint + Clock + AllocGlobal>(
+fn draw_recorded<R: Files + Print + Eprint + Clock + AllocGlobal>(
     rt: &R,
-    tap: Option<Recorder>,
+    recorder: Option<Recorder>,
     least: u64,
     window: Window,
     status: Status,
     canvas: Option<Canvas<'_, '_>>,
 ) -> Result<(), Halt> {
-    match (canvas, tap) {
+    match (canvas, recorder) {
         (Some(canvas), Some(recorder)) => {
             draw_recording(rt, recorder, least, window, status, canvas)
         }
@@ -529,10 +530,10 @@ fn exact_bytes<J: Input, O: Output>(
     out: &mut O,
     mut selection: Selection,
     live: bool,
-    tap: &mut Option<Recorder>,
+    recorder: &mut Option<Recorder>,
 ) -> Result<(Selection, Rises), RunError> {
-    let told = match tap {
-        Some(tap) => bytes_beside(alloc, dump.parts(), out, live, tap),
+    let told = match recorder {
+        Some(recorder) => bytes_beside(alloc, dump.parts(), out, live, recorder),
         None => bytes_of(alloc, dump.parts(), out, live),
     };
     match told {
@@ -554,6 +555,7 @@ fn bytes_of<J: Input, O: Output>(
         vcd,
         scl,
         sda,
+        others: _,
         least,
         wrong,
     } = dump;
@@ -566,21 +568,17 @@ fn bytes_beside<J: Input, O: Output>(
     dump: OpenDump<'_, '_, J>,
     out: &mut O,
     live: bool,
-    tap: &mut Recorder,
+    recorder: &mut Recorder,
 ) -> Result<ByteCounts, RunError> {
     let OpenDump {
         vcd,
         scl,
         sda,
+        others: _,
         least,
         wrong,
     } = dump;
-    let mut tapped = Watched::new(Tapped::new(vcd, tap));
-    let ended = write_decoded(alloc, &mut tapped, out, scl, sda, least, live, wrong);
-    match tapped.into_inner().failure() {
-        Some(error) => Err(error),
-        None => ended,
-    }
+    write_decoded_beside(alloc, vcd, out, scl, sda, least, live, recorder, wrong)
 }
 
 // Lines in which times, or what is told, are others.
@@ -590,11 +588,11 @@ fn decode_lines<J: Input, O: Output>(
     out: &mut O,
     selection: Selection,
     live: bool,
-    tap: &mut Option<Recorder>,
+    recorder: &mut Option<Recorder>,
 ) -> Result<(Selection, Rises), RunError> {
     let mut lines = DecodeLines::new(alloc, selection, live, out)?;
-    let ending = match tap {
-        Some(tap) => dump.decode_with(alloc, &mut lines, tap)?,
+    let ending = match recorder {
+        Some(recorder) => dump.decode_beside(alloc, &mut lines, recorder)?,
         None => dump.decode(alloc, &mut lines)?,
     };
     Ok((lines.finish()?, ending.rises))
@@ -606,11 +604,11 @@ fn decode_objects<J: Input, O: Output>(
     out: &mut O,
     selection: Selection,
     live: bool,
-    tap: &mut Option<Recorder>,
+    recorder: &mut Option<Recorder>,
 ) -> Result<(Selection, Rises), RunError> {
     let mut lines = DecodeObjects::new(alloc, selection, live, out)?;
-    let ending = match tap {
-        Some(tap) => dump.decode_with(alloc, &mut lines, tap)?,
+    let ending = match recorder {
+        Some(recorder) => dump.decode_beside(alloc, &mut lines, recorder)?,
         None => dump.decode(alloc, &mut lines)?,
     };
     Ok((lines.finish()?, ending.rises))
@@ -703,13 +701,11 @@ fn learn_open<J: Input, O: Output>(
     lesson: Lesson<'_>,
     before: Option<&BriefBefore<'_>>,
 ) -> Result<Result<Ended, RunError>, Halt> {
-    let driving = driving_of(alloc, &*dump, lesson.drives)?;
-    let driving = driving.as_ref();
-    let seen = Sights::new(alloc, lesson.bus.view, dump.scale(), before).with_drives(driving);
-    if driving.is_none() {
+    let seen = Sights::new(alloc, lesson.bus.view, dump.scale(), before).with_drives(lesson.drives);
+    if lesson.drives.is_empty() {
         return Ok(learn_alone(alloc, dump, out, seen, lesson.likeness));
     }
-    learn_driven(alloc, dump, out, seen, lesson.likeness, driving)
+    learn_driven(alloc, dump, out, seen, lesson)
 }
 
 // The same where no lines of controllers are followed, by the run of `lessons` over what gives the dump from its beginning on.
@@ -724,6 +720,7 @@ fn learn_alone<J: Input, O: Output>(
         vcd,
         scl,
         sda,
+        others: _,
         least,
         wrong,
     } = dump.parts();
@@ -739,15 +736,15 @@ fn learn_driven<J: Input, O: Output>(
     dump: &mut Dump<'_, '_, J>,
     out: &mut O,
     mut seen: Sights<'_>,
-    likeness: Likeness,
-    driving: Option<&Driving<'_>>,
+    lesson: Lesson<'_>,
 ) -> Result<Result<Ended, RunError>, Halt> {
-    let ending = match decode_driven(alloc, dump, &mut seen, driving) {
+    let mut drivers = drivers_of(alloc, lesson.drives);
+    let ending = match decode_driven(alloc, dump, &mut seen, &mut drivers) {
         Ok(ending) => ending,
         Err(error) => return Ok(Err(error)),
     };
-    let hints = refuse_others(alloc, driving)?;
-    let status = write_seen(alloc, seen, likeness, out)?;
+    let hints = refuse_others(alloc, lesson.drives, &drivers)?;
+    let status = write_seen(alloc, seen, lesson.likeness, out)?;
     Ok(Ok(Ended {
         status,
         remark: Remark::Recording(Recorded::Other, ending.rises, hints),

@@ -83,7 +83,7 @@ fn recording_of<R: AllocGlobal + Threads + Sync, J: Input, O: Output>(
 ) -> Result<(Recording, Status, Rises), Halt> {
     let mut dump = open_dump(rt.alloc(), vcd, bus)?;
     let selection = Selection::new(bus.view, dump.scale());
-    let recorder = Recorder::new(rt.alloc(), dump.scl(), dump.sda())?;
+    let recorder = Recorder::new(rt.alloc());
     match record(rt, words, &mut dump, report, selection, recorder) {
         Ok(recorded) => Ok(recorded),
         Err(error) => Err(halted(dump, error)),
@@ -110,7 +110,7 @@ fn record<R: AllocGlobal + Threads + Sync, J: Input, O: Output>(
         plan: words.plan(),
         sink: both,
     };
-    let ended = dump.decode_with(alloc, &mut explaining, &mut recorder);
+    let ended = dump.decode_beside(alloc, &mut explaining, &mut recorder);
     let Explaining { sink, .. } = explaining;
     let Both {
         lines,

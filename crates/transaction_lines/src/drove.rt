@@ -8,7 +8,7 @@ use std::alloc::{AllocError, Global};
 /// What is said below a transaction of what the controllers did that are followed.
 pub(crate) fn below_drives(
     alloc: Global,
-    judging: &Judging<'_, '_>,
+    judging: &Judging<'_>,
     verdict: &Verdict,
 ) -> Result<String, AllocError> {
     let mut lines = Lines::new(alloc);
@@ -57,7 +57,7 @@ fn tell(lines: &mut Lines, controller: &str, judged: Judged) {
 }
 
 /// In how many transactions the controllers that are followed did what the rules of the plan give.
-pub(crate) fn drives_line(alloc: Global, judging: &Judging<'_, '_>) -> Result<String, AllocError> {
+pub(crate) fn drives_line(alloc: Global, judging: &Judging<'_>) -> Result<String, AllocError> {
     let mut lines = Lines::new(alloc);
     say(
         &mut lines,
