@@ -86,11 +86,13 @@ impl<'a> Source<'a> {
     }
 
     /// The names so far, and those of what is left.
-    pub(crate) fn into_all_spans(mut self) -> Spans {
-        if self.tokens.record(self.token, &mut self.spans) {
-            self.tokens.record_rest(&mut self.spans);
+    pub(crate) fn into_all_spans(self) -> Spans {
+        let mut tokens = self.tokens;
+        let mut spans = self.spans;
+        if tokens.record(self.token, &mut spans) {
+            tokens.record_rest(&mut spans);
         }
-        self.spans
+        spans
     }
 
     /// The refusal of the token that was taken last.

@@ -69,9 +69,11 @@ impl<'a> Source<'a> {
     }
 
     /// The names so far, and those of what is left.
-    pub(crate) fn into_all_spans(mut self) -> Spans {
-        self.tokens.record_rest(&mut self.spans);
-        self.spans
+    pub(crate) fn into_all_spans(self) -> Spans {
+        let mut tokens = self.tokens;
+        let mut spans = self.spans;
+        tokens.record_rest(&mut spans);
+        spans
     }
 
     /// The refusal of the token that was taken last.
