@@ -10,7 +10,7 @@ ghost use Rattle.brief_text.specs.Together.{together, Follows};
 
 use crate::boards::Board;
 use crate::items::read_text;
-use origins::Origins;
+use origins::{Origins, Spans};
 use plan_core::Plan;
 use plan_text::{PlanError, Refused};
 use std::alloc::{AllocError, Global};
@@ -44,25 +44,26 @@ impl Briefs {
     pub fn with(self, text: &[u8]) -> Result<Briefs, PlanError>
         ensures { Follows result (text_read (together self) text.now) }
     {
-        match self.with_at(text) {
+        let mut unasked = Spans::unasked(self.alloc);
+        match self.with_at(text, &mut unasked) {
             Ok(briefs) => Ok(briefs),
             Err(refused) => Err(refused.error),
         }
     }
 
-    /// The same, with the place of the refusal in this brief.
+    /// The same, with the place of the refusal in this brief. Its items and its names are added to these of texts before it.
     ///
     /// # Errors
     ///
     /// As those of `with`.
     #[tactic(auto, unfolding(crate::specs::Together::together))]
-    pub fn with_at(self, text: &[u8]) -> Result<Briefs, Refused>
+    pub fn with_at(self, text: &[u8], spans: &mut Spans) -> Result<Briefs, Refused>
         ensures read { IfOk result (λ briefs. text_read (together self) text.now ≡ Ok (together briefs)) }
         ensures refused { IfErr result (λ e. Refuses (text_read (together self) text.now) e.error) }
     {
         let Briefs { alloc, board } = self;
         let mut board = board;
-        read_text(alloc, &mut board, text)?;
+        read_text(alloc, &mut board, text, spans)?;
         board.file = board.file.saturating_add(1);
         Ok(Briefs { alloc, board })
     }

@@ -8,6 +8,9 @@ ghost use Rattle.plan_core.specs.NameBytes.{name_bytes};
 ghost use Rattle.plan_core.specs.PlanContents.{plan_contents};
 ghost use Rattle.plan_core.specs.declared.builder.BuildError.{BuildError};
 ghost use Rattle.plan_text.specs.Places.{Refuses, Passes};
+ghost use Rattle.brief_tokens.specs.Heads.{after_head};
+ghost use Rattle.brief_tokens.specs.Reading.{left};
+ghost use Rattle.brief_tokens.specs.Tokens.{tokens_of};
 ghost use Rattle.plan_text.specs.Reader.{refused_at};
 ghost use Rattle.brief_text.specs.Briefs.{brief_read, text_read, items_in, is_end, Means, IsRefused};
 ghost use Rattle.brief_text.specs.Items.{device_at, byte_at, message_at, controller_at, listed_from, interrupt_at, never_at};
@@ -23,10 +26,12 @@ use crate::splitting::push_all;
 use crate::syntax::NameFound;
 use crate::traces::Wanted;
 use crate::words::known_address;
-use brief_tokens::{Keyword, Symbol, after_head};
+use brief_tokens::{Keyword, Symbol, Tokens, after_head, record};
+use origins::{Head, Language, Spans};
 use plan_core::{BuildError, Name, Plan};
 use plan_text::{PlanError, Refused};
 use std::alloc::Global;
+use std::mem;
 
 /// Reads a brief, and answers the plan that it means or its first refusal. `print_plan` of spellings writes the text of
 /// that plan.
@@ -77,23 +82,57 @@ fn read(alloc: Global, text: &[u8]) -> Result<Plan, Refused>
     ensures refused { IfErr result (λ e. Refuses (brief_read text.now) e.error) }
 {
     let mut board = Board::new(alloc);
-    read_text(alloc, &mut board, text)?;
+    let mut unasked = Spans::unasked(alloc);
+    read_text(alloc, &mut board, text, &mut unasked)?;
     match board.finish() {
         Ok(plan) => Ok(plan),
         Err(_) => Err(Refused::memory()),
     }
 }
 
-/// The items of a text go into the board.
-pub(crate) fn read_text(alloc: Global, board: &mut Board, text: &[u8]) -> Result<(), Refused>
+/// The items of a text go into the board, and where they and their names stand to these of texts before it.
+pub(crate) fn read_text(
+    alloc: Global,
+    board: &mut Board,
+    text: &[u8],
+    spans: &mut Spans,
+) -> Result<(), Refused>
     ensures read { OnOk result (text_read (draft board.old) text.now ≡ Ok (draft board.new)) }
     ensures refused { IfErr result (λ e. Refuses (text_read (draft board.old) text.now) e.error) }
 {
-    let tokens = after_head(text)?;
-    let mut source = Source::new(alloc, tokens);
+    let tokens = head_of(text, spans)?;
+    let mut taken = mem::replace(spans, Spans::unasked(alloc));
+    taken.begin(Some(HEAD));
+    let mut source = Source::new(alloc, tokens, taken);
     match read_items(&mut source, board, text.len()) {
-        Ok(()) => Ok(()),
-        Err(error) => Err(source.refusal(error)),
+        Ok(()) => {
+            *spans = source.into_spans();
+            Ok(())
+        }
+        Err(error) => {
+            let refused = source.refusal(error);
+            *spans = source.into_all_spans();
+            Err(refused)
+        }
+    }
+}
+
+const HEAD: Head = Head {
+    language: Language::Brief,
+    version: 1,
+};
+
+// The tokens after the head. Where that is refused, the names of the whole text are kept.
+fn head_of<'a>(text: &'a [u8], spans: &mut Spans) -> Result<Tokens<'a>, Refused>
+    ensures rest { IfOk result (λ rest. after_head (tokens_of 1 text.now) ≡ Ok (left rest)) }
+    ensures refused { IfErr result (λ e. after_head (tokens_of 1 text.now) ≡ Err e.error) }
+{
+    match after_head(text) {
+        Ok(tokens) => Ok(tokens),
+        Err(refused) => {
+            record(text, spans);
+            Err(refused)
+        }
     }
 }
 

@@ -15,6 +15,7 @@ use crate::traces::{Trace, Wanted};
 use crate::words::{address, around_slash, data};
 use brief_tokens::{Keyword, Sign, Symbol, Token, Tokens, is_brief_word};
 use message_tree::{Address, Pattern};
+use origins::Spans;
 use plan_core::{Name, NameError};
 use plan_text::places::Over;
 use plan_text::{PlanError, Refused};
@@ -35,6 +36,8 @@ pub(crate) struct Source<'a> {
     // for refusals: the token that was taken last, and by how much the message is too long
     trace: Trace,
     pub(crate) over: Option<Over>,
+    // the names so far
+    spans: Spans,
     ghost nodes_fit: { nodes ≤ MOST_NODES },
 }
 
@@ -50,7 +53,7 @@ impl<'a> Source<'a> {
     ghost use Rattle.brief_text.specs.Standing.{place, before, draft, said, side, FindsOut};
 
     /// The whole of these tokens.
-    pub(crate) fn new(alloc: Global, mut tokens: Tokens<'a>) -> Self
+    pub(crate) fn new(alloc: Global, mut tokens: Tokens<'a>, spans: Spans) -> Self
         ensures { place result ≡ record { tokens = left tokens.entry; nodes = 0; range = None } }
     {
         Source {
@@ -61,6 +64,7 @@ impl<'a> Source<'a> {
             range: None,
             trace: Trace::new(),
             over: None,
+            spans,
         }
     }
 
@@ -71,8 +75,24 @@ impl<'a> Source<'a> {
     {
         let token = self.token;
         self.trace = self.trace.taken(token, self.tokens.spot(), wanted);
+        self.tokens.record(token, &mut self.spans);
         self.token = self.tokens.next();
         token
+    }
+
+    /// The names so far.
+    pub(crate) fn into_spans(self) -> Spans {
+        self.spans
+    }
+
+    /// The names so far, and those of what is left.
+    pub(crate) fn into_all_spans(self) -> Spans {
+        let mut tokens = self.tokens;
+        let mut spans = self.spans;
+        if tokens.record(self.token, &mut spans) {
+            tokens.record_rest(&mut spans);
+        }
+        spans
     }
 
     /// The refusal of the token that was taken last.

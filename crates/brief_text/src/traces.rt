@@ -2,7 +2,7 @@
 
 ghost use Rattle.std.specs.Prelude.{◌≡◌};
 
-use brief_tokens::{Sign, Symbol, Token, kind_of};
+use brief_tokens::{Sign, Symbol, Token};
 use plan_text::places::{Further, Kind, Over, Spot};
 use plan_text::{Expected, PlanError, Refused};
 
@@ -70,7 +70,7 @@ impl Trace {
             before: self.wanted,
             depth,
             item: match wanted {
-                Wanted::Item => kind_of(token).unwrap_or(self.item),
+                Wanted::Item => token.kind().unwrap_or(self.item),
                 _ => self.item,
             },
         }

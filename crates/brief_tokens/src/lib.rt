@@ -1,17 +1,15 @@
 //! The tokens of a brief, and what can be said of a text by them alone: whether it begins as a brief, and which names it has.
 //!
 //! A text is cut into tokens, one at a time, each with its line (`tokens`): the lexemes of `lexer`, with keywords told from
-//! other words (`symbols`). `heads` reads its first two, `given` all of them. `names` has the words that no name may be.
+//! other words (`symbols`). `heads` reads its first two. `names` has the words that no name may be.
 #![tactic(auto)]
 
-mod given;
 mod heads;
 mod names;
 mod symbols;
 mod tokens;
 
-pub use given::{kind_of, names_in};
 pub use heads::after_head;
 pub use names::is_brief_word;
 pub use symbols::{Keyword, Sign, Symbol, Token};
-pub use tokens::Tokens;
+pub use tokens::{Tokens, record};

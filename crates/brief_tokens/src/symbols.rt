@@ -6,6 +6,7 @@ ghost use Rattle.brief_tokens.specs.Reading.{token_of_symbol};
 ghost use Rattle.lexer.specs.Lexemes as lexemes;
 
 use lexer::Lexeme;
+use origins::{ItemKind, Kind, Part};
 use plan_text::PlanError;
 
 /// A word that the language has in fixed places.
@@ -83,6 +84,26 @@ impl<'a> Token<'a> {
         }
     }
 
+    /// What it is to the names of a text. Nothing, where it is no token.
+    pub fn part(&self) -> Option<Part<'a>> {
+        match self.symbol {
+            Symbol::Keyword(keyword) => Some(part_of_keyword(keyword)),
+            Symbol::Word(word) => Some(Part::Word(word)),
+            Symbol::Sign(Sign::Semicolon) => Some(Part::End),
+            Symbol::Sign(Sign::Star) => Some(Part::Star),
+            Symbol::Sign(Sign::Open | Sign::Close) => Some(Part::Other),
+            Symbol::Stray | Symbol::Foreign | Symbol::End => None,
+        }
+    }
+
+    /// What an item that begins with this token gives a name to.
+    pub fn kind(&self) -> Option<Kind> {
+        match self.part() {
+            Some(Part::Item(ItemKind::Gives(kind))) => Some(kind),
+            _ => None,
+        }
+    }
+
     /// The refusal of this token where the grammar does not allow it.
     pub fn unexpected(&self) -> PlanError
         ensures { result ≡ unexpected_at self.now }
@@ -109,6 +130,19 @@ impl<'a> Token<'a> {
             Symbol::Stray | Symbol::Foreign => self.unexpected(),
             _ => PlanError::Version(self.line),
         }
+    }
+}
+
+fn part_of_keyword(keyword: Keyword) -> Part<'static> {
+    match keyword {
+        Keyword::Device => Part::Item(ItemKind::Gives(Kind::Device)),
+        Keyword::Byte => Part::Item(ItemKind::Gives(Kind::Byte)),
+        Keyword::Message => Part::Item(ItemKind::Gives(Kind::Message)),
+        Keyword::Controller => Part::Item(ItemKind::Gives(Kind::Controller)),
+        Keyword::Interrupt => Part::Item(ItemKind::Gives(Kind::Interrupt)),
+        Keyword::Never => Part::Item(ItemKind::Never),
+        Keyword::Write | Keyword::Read => Part::Direction,
+        Keyword::Brief | Keyword::Any | Keyword::Else | Keyword::Stop => Part::Other,
     }
 }
 

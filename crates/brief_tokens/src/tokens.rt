@@ -6,7 +6,8 @@ ghost use Rattle.brief_tokens.specs.Tokens.{tokens_of};
 
 use crate::symbols::Token;
 use lexer::{Letters, Lexer, Spot};
-use plan_text::places::start_of;
+use origins::Spans;
+use plan_text::places::token_at;
 use plan_text::{Expected, PlanError, Refused};
 
 /// What is left of a brief.
@@ -45,9 +46,25 @@ impl<'a> Tokens<'a> {
         self.lexer.spot()
     }
 
-    /// How many bytes of the text stand before the last token.
-    pub(crate) fn start(&self) -> usize {
-        start_of(self.lexer.text(), self.lexer.spot())
+    /// Keeps of this token, which was taken last, whether it is a name. Whether it is a token.
+    pub fn record(&self, token: Token<'_>, spans: &mut Spans) -> bool {
+        match token.part() {
+            Some(part) => {
+                spans.take(part, token_at(self.text(), self.spot(), token.line));
+                true
+            }
+            None => false,
+        }
+    }
+
+    /// Keeps the names of what is left, up to its end or to what is no token.
+    pub fn record_rest(&mut self, spans: &mut Spans) {
+        for _ in 0..self.text().len() {
+            let token = self.next();
+            if !self.record(token, spans) {
+                return;
+            }
+        }
     }
 
     /// The refusal of the token that was taken last, in the place of `brief` or of the `1` after it.
@@ -62,4 +79,11 @@ impl<'a> Tokens<'a> {
             None,
         )
     }
+}
+
+/// Adds the items and the names of a text that is not judged, up to its end or to what is no token, to these of texts before it. It
+/// may have no head.
+pub fn record(text: &[u8], spans: &mut Spans) {
+    spans.begin(None);
+    Tokens::new(text).record_rest(spans);
 }

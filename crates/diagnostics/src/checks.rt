@@ -9,12 +9,13 @@ use crate::meetings::push_unsafe;
 use crate::unchecked::push_unchecked;
 use crate::values::Diagnostic;
 use lint::Oddity;
+use origins::Spans;
 use plan_words::PlanWords;
 use remedies::{Grouped, grouped_of};
 use std::alloc::{AllocError, Global};
 use verdicts::Checked;
 
-/// What is wrong with the plan that was checked, which these texts give: its unsafe pairs, those that are alike together, in the
+/// What is wrong with the plan that was checked, which these texts give, with these names in them: its unsafe pairs, those that are alike together, in the
 /// order of their groups; what is likely a mistake; and for a strict check, what was not looked at.
 ///
 /// # Errors
@@ -27,11 +28,13 @@ pub fn diagnose_check(
     odd: &[Oddity<'_>],
     strict: bool,
     texts: &[Vec<u8>],
+    spans: &Spans,
 ) -> Result<Vec<Diagnostic>, AllocError>
     requires { AreFaults (plan_contents checked.now.plan) (fault_list checked.now.faults) }
 {
     let groups = grouped_of(alloc, &checked.plan, words, &checked.faults, None)?;
-    diagnose_groups(alloc, words, checked, &groups, odd, strict, texts)
+    let items = Items::of(alloc, texts, spans)?;
+    diagnose_groups(alloc, words, checked, &groups, odd, strict, &items, texts)
 }
 
 fn diagnose_groups(
@@ -41,14 +44,14 @@ fn diagnose_groups(
     groups: &Grouped,
     odd: &[Oddity<'_>],
     strict: bool,
+    items: &Items<'_>,
     texts: &[Vec<u8>],
 ) -> Result<Vec<Diagnostic>, AllocError> {
-    let items = Items::of(alloc, words, texts)?;
     let mut found = Vec::new(alloc);
-    push_unsafe(alloc, &mut found, words, checked, groups, &items)?;
-    push_odd(alloc, &mut found, words, odd, strict, &items, texts)?;
+    push_unsafe(alloc, &mut found, words, checked, groups, items)?;
+    push_odd(alloc, &mut found, words, odd, strict, items, texts)?;
     if strict {
-        push_unchecked(alloc, &mut found, words, &items)?;
+        push_unchecked(alloc, &mut found, words, items)?;
     }
     Ok(found)
 }

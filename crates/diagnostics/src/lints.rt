@@ -4,8 +4,7 @@ use crate::items::Items;
 use crate::values::{Diagnostic, Related, Severity, Span, one_line};
 use hints::on_oddity;
 use lint::Oddity;
-use origins::Spot;
-use plan_text::places::Kind;
+use origins::{Kind, Spot};
 use plan_words::PlanWords;
 use std::alloc::{AllocError, Global};
 

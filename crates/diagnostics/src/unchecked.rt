@@ -2,8 +2,8 @@
 
 use crate::items::Items;
 use crate::values::{BEGINNING, Diagnostic, Severity, Span};
+use origins::Kind;
 use plan_findings::unsent_in;
-use plan_text::places::Kind;
 use plan_words::PlanWords;
 use std::alloc::{AllocError, Global};
 

@@ -2,6 +2,7 @@
 
 use growing_text::Text;
 use hints::{Hint, Hints};
+pub use origins::Span;
 use std::alloc::{AllocError, Global};
 
 /// How bad it is: an error is why a run has another status than 0.
@@ -9,14 +10,6 @@ use std::alloc::{AllocError, Global};
 pub enum Severity {
     Error,
     Warning,
-}
-
-/// Bytes of one of the texts that give a plan, of this number from 0 on: from so many bytes on, up to so many.
-#[derive(Clone, Copy, PartialEq, Eq)]
-pub struct Span {
-    pub file: u32,
-    pub start: usize,
-    pub end: usize,
 }
 
 /// The beginning of the first text.

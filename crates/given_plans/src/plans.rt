@@ -13,7 +13,7 @@ ghost use Rattle.run_parts.specs.Runs.{ReadsText, HaltsAtText};
 ghost use Rattle.run_parts.specs.declared.errors.RunError.TheVariants.{NoMemory};
 
 use brief_text::Briefs;
-use origins::Origins;
+use origins::{Origins, Spans};
 use plan_core::Plan;
 use plan_text::{Language, Place, PlanError, Refused, read_plan_at};
 use run_parts::devices::reading::READS;
@@ -26,6 +26,8 @@ pub struct Provenance {
     pub origins: Option<Origins>,
     /// The texts, in the order in which they were read.
     pub texts: Vec<Vec<u8>>,
+    /// Their items, and the names in these. All were kept.
+    pub spans: Spans,
 }
 
 // Written out, so that one call lets it go.
@@ -34,6 +36,7 @@ impl Drop for Provenance {
         let Self {
             origins: _,
             texts: _,
+            spans: _,
         } = self;
     }
 }
@@ -53,6 +56,8 @@ pub struct RefusedText {
     pub place: Place,
     /// The briefs before it, of those that give the plan.
     pub before: Vec<Vec<u8>>,
+    /// The items and the names of these, and of the text itself, also after the refusal.
+    pub spans: Spans,
 }
 
 impl RefusedText {
@@ -78,8 +83,8 @@ pub struct Refusal {
 }
 
 impl Halted {
-    /// The refusal of this text, after these.
-    pub fn refused(text: Vec<u8>, before: Vec<Vec<u8>>, refusal: Refusal) -> Halted
+    /// The refusal of this text, after these, with the names in all of them.
+    pub fn refused(text: Vec<u8>, before: Vec<Vec<u8>>, refusal: Refusal, spans: Spans) -> Halted
         ensures error { result.error ≡ run_error refusal.refused.error }
         ensures text { IfSome result.text (λ it. it.text ≡ text) }
         ensures before { IfSome result.text (λ it. it.before ≡ before) }
@@ -93,6 +98,7 @@ impl Halted {
                     language: refusal.language,
                     place,
                     before,
+                    spans,
                 }),
                 None => None,
             },
@@ -142,14 +148,20 @@ pub fn find_given<I: Input>(alloc: Global, text: &mut I) -> Result<GivenPlan, Ha
         ReadsText I.reader text.old it.text.items text.new × (it.before.items ≡ []))) }
 {
     let text = read_within(alloc, text, READS)?;
-    match plan_of(alloc, text.as_slice()) {
-        Ok(meaning) => of_one_text(alloc, meaning, text),
-        Err(refusal) => Err(Halted::refused(text, Vec::new(alloc), refusal)),
+    let mut spans = Spans::new(alloc);
+    match plan_of(alloc, text.as_slice(), &mut spans) {
+        Ok(meaning) => of_one_text(alloc, meaning, text, spans),
+        Err(refusal) => Err(Halted::refused(text, Vec::new(alloc), refusal, spans)),
     }
 }
 
 // What this text alone means.
-fn of_one_text(alloc: Global, meaning: Meaning, text: Vec<u8>) -> Result<GivenPlan, Halted>
+fn of_one_text(
+    alloc: Global,
+    meaning: Meaning,
+    text: Vec<u8>,
+    spans: Spans,
+) -> Result<GivenPlan, Halted>
     ensures plan { IfOk result (λ it. it.plan ≡ meaning.plan) }
     ensures texts { IfOk result (λ it. bytes_of it.provenance.texts.items ≡ text.items ∷ []) }
     ensures error { IfErr result (λ e. e.error ≡ NoMemory) }
@@ -157,7 +169,7 @@ fn of_one_text(alloc: Global, meaning: Meaning, text: Vec<u8>) -> Result<GivenPl
 {
     let mut texts = Vec::new(alloc);
     match texts.push(text) {
-        Ok(()) => Ok(meaning.of(texts)),
+        Ok(()) => meaning.of(texts, spans),
         Err(_) => Err(Halted::memory()),
     }
 }
@@ -170,16 +182,25 @@ pub(crate) struct Meaning {
 }
 
 impl Meaning {
-    // With the texts that mean it.
-    pub(crate) fn of(self, texts: Vec<Vec<u8>>) -> GivenPlan
-        ensures plan { result.plan ≡ self.plan }
-        ensures texts { result.provenance.texts ≡ texts }
+    // With the texts that mean it, and the names in these, where they were kept.
+    pub(crate) fn of(self, texts: Vec<Vec<u8>>, spans: Spans) -> Result<GivenPlan, Halted>
+        ensures plan { IfOk result (λ it. it.plan ≡ self.plan) }
+        ensures texts { IfOk result (λ it. it.provenance.texts ≡ texts) }
+        ensures error { IfErr result (λ e. e.error ≡ NoMemory) }
+        ensures no_text { IfErr result (λ e. IfSome e.text (λ it. ⊥)) }
     {
-        let Meaning { plan, origins } = self;
-        GivenPlan {
-            plan,
-            provenance: Provenance { origins, texts },
+        if spans.check().is_err() {
+            return Err(Halted::memory());
         }
+        let Meaning { plan, origins } = self;
+        Ok(GivenPlan {
+            plan,
+            provenance: Provenance {
+                origins,
+                texts,
+                spans,
+            },
+        })
     }
 }
 
@@ -198,17 +219,17 @@ pub(crate) fn meant_together(briefs: Briefs) -> Result<Meaning, AllocError>
     })
 }
 
-fn plan_of(alloc: Global, text: &[u8]) -> Result<Meaning, Refusal>
+fn plan_of(alloc: Global, text: &[u8], spans: &mut Spans) -> Result<Meaning, Refusal>
     ensures given { IfOk result (λ it. GivesPlan text.now (plan_contents it.plan)) }
     ensures refused { IfErr result (λ e.
         (e.refused.error ≡ PlanError.NoMemory) ⊎ IsNeither text.now e.refused.error) }
 {
-    match read_plan_at(alloc, text) {
+    match read_plan_at(alloc, text, spans) {
         Ok(plan) => Ok(Meaning {
             plan,
             origins: None,
         }),
-        Err(refused) if is_version(refused.error) => meant_by(alloc, text, refused),
+        Err(refused) if is_version(refused.error) => meant_by(alloc, text, refused, spans),
         Err(refused) => Err(Refusal {
             language: Language::Plan,
             refused,
@@ -217,14 +238,19 @@ fn plan_of(alloc: Global, text: &[u8]) -> Result<Meaning, Refusal>
 }
 
 // The plan that the text means as a brief, where as a plan text it is refused so.
-fn meant_by(alloc: Global, text: &[u8], head: Refused) -> Result<Meaning, Refusal>
+fn meant_by(
+    alloc: Global,
+    text: &[u8],
+    head: Refused,
+    spans: &mut Spans,
+) -> Result<Meaning, Refusal>
     requires { is_version head.error ≡ true }
     ensures meant { IfOk result (λ it. Means text.now (plan_contents it.plan)) }
     ensures refused { First text.now head.error → IfErr result (λ e.
         (e.refused.error ≡ PlanError.NoMemory) ⊎ IsNeither text.now e.refused.error) }
 {
     let briefs = Briefs::new(alloc);
-    match briefs.with_at(text) {
+    match briefs.with_at(text, spans) {
         Ok(briefs) => match meant_together(briefs) {
             Ok(meaning) => Ok(meaning),
             Err(_) => Err(Refusal {

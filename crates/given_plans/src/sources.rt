@@ -13,6 +13,7 @@ ghost use Rattle.run_parts.specs.declared.errors.RunError.TheVariants.{NoMemory}
 
 use crate::plans::{GivenPlan, Halted, Refusal, find_given, meant_together};
 use brief_text::Briefs;
+use origins::Spans;
 use plan_text::Language;
 use run_parts::devices::reading::READS;
 use run_parts::{Input, read_within};
@@ -56,6 +57,7 @@ pub fn find_in_briefs<I: Input>(alloc: Global, readers: &mut [I]) -> Result<Give
     let none = BriefsRead {
         briefs: Briefs::new(alloc),
         texts: Vec::new(alloc),
+        spans: Spans::new(alloc),
     };
     match read_from(alloc, none, readers, 0) {
         Ok(read) => given_together(read),
@@ -70,9 +72,13 @@ fn given_together(read: BriefsRead) -> Result<GivenPlan, Halted>
     ensures error { IfErr result (λ e. e.error ≡ NoMemory) }
     ensures no_text { IfErr result (λ e. IfSome e.text (λ it. ⊥)) }
 {
-    let BriefsRead { briefs, texts } = read;
+    let BriefsRead {
+        briefs,
+        texts,
+        spans,
+    } = read;
     match meant_together(briefs) {
-        Ok(meaning) => Ok(meaning.of(texts)),
+        Ok(meaning) => meaning.of(texts, spans),
         Err(_) => Err(Halted::memory()),
     }
 }
@@ -82,6 +88,8 @@ fn given_together(read: BriefsRead) -> Result<GivenPlan, Halted>
 pub(crate) struct BriefsRead {
     pub(crate) briefs: Briefs,
     pub(crate) texts: Vec<Vec<u8>>,
+    // the items and the names of these
+    pub(crate) spans: Spans,
 }
 
 // With those that the readers give from this place on.
@@ -120,28 +128,41 @@ fn read_next<I: Input>(alloc: Global, read: BriefsRead, next: &mut I) -> Result<
     ensures text { IfErr result (λ e. IfSome e.text (λ it.
         ReadsText I.reader next.old it.text.items next.new × (it.before ≡ read.texts))) }
 {
-    let BriefsRead { briefs, texts } = read;
+    let BriefsRead {
+        briefs,
+        texts,
+        mut spans,
+    } = read;
     let text = read_within(alloc, next, READS)?;
-    match briefs.with_at(text.as_slice()) {
-        Ok(briefs) => with_text(briefs, texts, text),
+    match briefs.with_at(text.as_slice(), &mut spans) {
+        Ok(briefs) => with_text(briefs, texts, text, spans),
         Err(refused) => {
             let refusal = Refusal {
                 language: Language::Brief,
                 refused,
             };
-            Err(Halted::refused(text, texts, refusal))
+            Err(Halted::refused(text, texts, refusal, spans))
         }
     }
 }
 
-fn with_text(briefs: Briefs, mut texts: Vec<Vec<u8>>, text: Vec<u8>) -> Result<BriefsRead, Halted>
+fn with_text(
+    briefs: Briefs,
+    mut texts: Vec<Vec<u8>>,
+    text: Vec<u8>,
+    spans: Spans,
+) -> Result<BriefsRead, Halted>
     ensures briefs { IfOk result (λ it. it.briefs ≡ briefs) }
     ensures texts { IfOk result (λ it. bytes_of it.texts.items ≡ bytes_of texts.items ++ text.items ∷ []) }
     ensures error { IfErr result (λ e. e.error ≡ NoMemory) }
     ensures no_text { IfErr result (λ e. IfSome e.text (λ it. ⊥)) }
 {
     match texts.push(text) {
-        Ok(()) => Ok(BriefsRead { briefs, texts }),
+        Ok(()) => Ok(BriefsRead {
+            briefs,
+            texts,
+            spans,
+        }),
         Err(_) => Err(Halted::memory()),
     }
 }

@@ -11,6 +11,7 @@ ghost use Rattle.spellings.specs.Spellings.{Abbreviated, GivesNoBrief};
 
 use given_plans::{Halted, Refusal};
 use layout::{Unread, formatted};
+use origins::Spans;
 use plan_core::Plan;
 use plan_text::{Language, Refused, read_plan_at};
 use run_parts::devices::reading::READS;
@@ -56,17 +57,22 @@ pub fn brief_given<I: Input, O: Output>(
         text.old out.old e.halted.error text.new out.new) }
 {
     let text = read_within(alloc, text, READS)?;
-    match read_plan_at(alloc, text.as_slice()) {
+    let mut spans = Spans::new(alloc);
+    match read_plan_at(alloc, text.as_slice(), &mut spans) {
         Ok(plan) => write_brief(alloc, plan, out),
-        Err(refused) => Err(unread(alloc, text, Language::Plan, refused)),
+        Err(refused) => Err(unread(alloc, text, refused, spans)),
     }
 }
 
-fn unread(alloc: Global, text: Vec<u8>, language: Language, refused: Refused) -> Unabbreviated
+fn unread(alloc: Global, text: Vec<u8>, refused: Refused, spans: Spans) -> Unabbreviated
     ensures { result.halted.error ≡ run_error refused.error }
 {
+    let refusal = Refusal {
+        language: Language::Plan,
+        refused,
+    };
     Unabbreviated {
-        halted: Halted::refused(text, Vec::new(alloc), Refusal { language, refused }),
+        halted: Halted::refused(text, Vec::new(alloc), refusal, spans),
         plan: None,
     }
 }
@@ -113,7 +119,8 @@ pub fn find_formatted<I: Input>(alloc: Global, text: &mut I) -> Result<Formatted
         Ok(laid_out) => Ok(Formatted { text, laid_out }),
         Err(Unread { language, refused }) => {
             let refusal = Refusal { language, refused };
-            Err(Halted::refused(text, Vec::new(alloc), refusal))
+            let spans = Spans::unasked(alloc);
+            Err(Halted::refused(text, Vec::new(alloc), refusal, spans))
         }
     }
 }

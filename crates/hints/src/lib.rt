@@ -44,7 +44,7 @@ pub use kinds::{Kind, LOOKED_AT, is_binary, kind_of, push_kind};
 pub use likeness::Nearest;
 pub use lines::Lines;
 pub use marking::{first_line, push_marked, push_name, push_quoted};
-pub use names::{Stand, first_stand, names_in};
+pub use names::{Stand, first_stand};
 pub use odd::on_oddity;
 pub use paths::file_word;
 pub use plans::on_no_brief;

@@ -6,9 +6,8 @@ use crate::lines::Lines;
 use crate::paths::quoted;
 use crate::texts::{Earlier, RefusedIn};
 use crate::words::push_meant;
-use plan_text::given::{NameAt, Names};
-use plan_text::places::Kind;
-use plan_text::{Expected, Language, PlanError};
+use origins::{ItemKind, Kind, NameAt, NamedTexts, Role, Span};
+use plan_text::{Expected, PlanError};
 use std::alloc::{AllocError, Global};
 
 // What is named so.
@@ -22,44 +21,35 @@ fn called(kind: Kind) -> &'static str {
     }
 }
 
-/// The names of the items of a text of this language, up to its end or to what is no token.
-///
-/// # Errors
-///
-/// Where an allocation fails.
-pub fn names_in(alloc: Global, language: Language, text: &[u8]) -> Result<Names<'_>, AllocError> {
-    match language {
-        Language::Plan => plan_text::given::names_in(alloc, text),
-        Language::Brief => brief_tokens::names_in(alloc, text),
-    }
-}
-
-// A name in an item of the text that is refused, or of a brief before it.
+// A name in an item of the text that is refused, or of a brief before it: that which the item gives, what a controller lists, or
+// a side of a `never`, with its label.
 #[derive(Clone, Copy)]
 struct Known<'a> {
-    at: NameAt<'a>,
-    // the number of that brief
-    file: u32,
+    name: &'a [u8],
+    at: NameAt,
+    item: ItemKind,
+    // whether it is the first name of its item
+    is_first: bool,
 }
 
 impl Known<'_> {
     // Whether an item gives this name to one of this kind.
     fn gives(self, kind: Kind) -> bool {
-        self.at.item == Some(kind) && self.at.before == 0
+        self.item == ItemKind::Gives(kind) && self.is_first
+    }
+
+    // Whether it is a side of a `never`.
+    fn is_side(self) -> bool {
+        self.item == ItemKind::Never
     }
 
     fn stand(self) -> Stand {
-        let NameAt {
-            name,
-            line,
-            start,
-            ..
-        } = self.at;
+        let Span { file, start, .. } = self.at.span;
         Stand {
-            file: self.file,
-            line,
+            file,
+            line: self.at.line,
             start,
-            end: start.saturating_add(name.len()),
+            end: start.saturating_add(self.name.len()),
         }
     }
 }
@@ -73,41 +63,85 @@ pub struct Stand {
     pub end: usize,
 }
 
-// The names of the briefs before the text that is refused, and of this text after them.
-fn known_in<'a>(
-    alloc: Global,
-    language: Language,
-    earlier: &'a [Earlier<'a>],
-    text: &'a [u8],
-) -> Result<Vec<Known<'a>>, AllocError> {
+// The names of the briefs before the text that is refused, and of this text up to there.
+fn known_in<'a>(alloc: Global, refused: &RefusedIn<'a>) -> Result<Vec<Known<'a>>, AllocError> {
     let mut known = Vec::new(alloc);
-    let mut file = 0u32;
-    for brief in earlier {
-        push_known(alloc, &mut known, Language::Brief, brief.text, file)?;
-        file = file.saturating_add(1);
+    let texts = texts_of(alloc, refused)?;
+    for (number, at) in texts.names().iter().enumerate() {
+        let is_earlier = at.span.file < refused.number();
+        if is_earlier || at.span.file == refused.number() && at.span.start < refused.place.start {
+            push_known(&mut known, &texts, number, *at)?;
+        }
     }
-    push_known(alloc, &mut known, language, text, file)?;
     Ok(known)
 }
 
+// The names of the text that is refused.
+fn known_in_text<'a>(alloc: Global, refused: &RefusedIn<'a>) -> Result<Vec<Known<'a>>, AllocError> {
+    let mut known = Vec::new(alloc);
+    let texts = texts_of(alloc, refused)?;
+    for (number, at) in texts.names().iter().enumerate() {
+        if at.span.file == refused.number() {
+            push_known(&mut known, &texts, number, *at)?;
+        }
+    }
+    Ok(known)
+}
+
+fn texts_of<'a>(alloc: Global, refused: &RefusedIn<'a>) -> Result<NamedTexts<'a>, AllocError> {
+    let mut texts = NamedTexts::new(alloc, refused.spans)?;
+    for brief in refused.earlier {
+        texts.add(brief.text)?;
+    }
+    texts.add(refused.text)?;
+    Ok(texts)
+}
+
+// Adds the name of this number. What a label sends belongs to the name before it.
 fn push_known<'a>(
-    alloc: Global,
     known: &mut Vec<Known<'a>>,
-    language: Language,
-    text: &'a [u8],
-    file: u32,
+    texts: &NamedTexts<'a>,
+    number: usize,
+    at: NameAt,
 ) -> Result<(), AllocError> {
-    let names = names_in(alloc, language, text)?;
-    for at in names.all() {
-        known.push(Known { at: *at, file })?;
+    let Some(item) = texts.item(at) else {
+        return Ok(());
+    };
+    if at.role == Role::Label {
+        if let Some(side) = known.last_mut() {
+            side.name = with_label(texts, side.at.span, at.span);
+        }
+        return Ok(());
+    }
+    let is_first = item.names == number;
+    if is_first
+        || matches!(
+            item.kind,
+            ItemKind::Never | ItemKind::Gives(Kind::Controller)
+        )
+    {
+        known.push(Known {
+            name: texts.word(at),
+            at,
+            item: item.kind,
+            is_first,
+        })?;
     }
     Ok(())
+}
+
+fn with_label<'a>(texts: &NamedTexts<'a>, controller: Span, label: Span) -> &'a [u8] {
+    let whole = Span {
+        end: label.end,
+        ..controller
+    };
+    whole.of(texts.text(controller.file))
 }
 
 // Where one of this kind gets this name.
 fn stand_of(known: &[Known<'_>], kind: Kind, word: &[u8]) -> Option<Stand> {
     for one in known {
-        if one.gives(kind) && one.at.name == word {
+        if one.gives(kind) && one.name == word {
             return Some(one.stand());
         }
     }
@@ -168,8 +202,7 @@ pub(crate) fn push_twice(alloc: Global, lines: &mut Lines, refused: &RefusedIn<'
 }
 
 fn stands_in(alloc: Global, refused: &RefusedIn<'_>) -> Result<Stands, AllocError> {
-    let text = refused.before();
-    let known = known_in(alloc, refused.language, refused.earlier, text)?;
+    let known = known_in(alloc, refused)?;
     Ok(stands_among(known.as_slice(), refused))
 }
 
@@ -244,10 +277,8 @@ fn push_place(alloc: Global, lines: &mut Lines, refused: &RefusedIn<'_>, stand: 
 fn stand_in_list(known: &[Known<'_>], word: &[u8]) -> Option<Stand> {
     let last = known.last()?;
     for one in known {
-        let is_listed = one.file == last.file
-            && one.at.number == last.at.number
-            && one.at.before != 0;
-        if is_listed && one.at.name == word {
+        let is_listed = one.at.item == last.at.item && !one.is_first;
+        if is_listed && one.name == word {
             return Some(one.stand());
         }
     }
@@ -258,8 +289,8 @@ fn stand_in_list(known: &[Known<'_>], word: &[u8]) -> Option<Stand> {
 fn stand_of_maker(known: &[Known<'_>], kind: Kind, word: &[u8]) -> Option<Stand> {
     for one in known {
         let makes = match kind {
-            Kind::Message => one.gives(kind) && member_number(one.at.name, word).is_some(),
-            Kind::Controller => one.at.item.is_none() && is_part(one.at.name, word),
+            Kind::Message => one.gives(kind) && member_number(one.name, word).is_some(),
+            Kind::Controller => one.is_side() && is_part(one.name, word),
             _ => false,
         };
         if makes {
@@ -294,13 +325,13 @@ fn halves(label: &[u8]) -> Option<(&[u8], &[u8])> {
 
 // A message that has the name of one of the family that this range makes.
 fn stand_of_member(known: &[Known<'_>], range: &[u8]) -> Option<Stand> {
-    let family = known.last()?.at.name;
+    let family = known.last()?.name;
     let (least, greatest) = str::from_utf8(range).ok()?.split_once("..")?;
     let least = least.parse::<u8>().ok()?;
     let greatest = greatest.parse::<u8>().ok()?;
     for one in known {
         if one.gives(Kind::Message) {
-            if let Some(number) = member_number(family, one.at.name) {
+            if let Some(number) = member_number(family, one.name) {
                 if least <= number && number <= greatest {
                     return Some(one.stand());
                 }
@@ -326,8 +357,8 @@ fn side_among(known: &[Known<'_>], word: &[u8]) -> Stands {
 
 // The first side of the `never` that has no second one yet.
 fn first_side<'a>(known: &[Known<'a>]) -> Option<&'a [u8]> {
-    let last = known.last()?.at;
-    let is_first = last.item.is_none() && last.before == 0;
+    let last = known.last()?;
+    let is_first = last.is_side() && last.is_first;
     is_first.then_some(last.name)
 }
 
@@ -342,11 +373,11 @@ fn controller_of(side: &[u8]) -> &[u8] {
 fn stand_of_never(known: &[Known<'_>], one: &[u8], other: &[u8]) -> Option<Stand> {
     let mut first: &[u8] = &[];
     for side in known {
-        if side.at.item.is_some() {
+        if !side.is_side() {
             continue;
         }
-        let name = side.at.name;
-        if side.at.before == 0 {
+        let name = side.name;
+        if side.is_first {
             first = name;
         } else if first == one && name == other || first == other && name == one {
             return Some(side.stand());
@@ -358,8 +389,8 @@ fn stand_of_never(known: &[Known<'_>], one: &[u8], other: &[u8]) -> Option<Stand
 // The controller, or the other label, that has the name of the part which this label makes.
 fn stand_of_part(known: &[Known<'_>], label: &[u8]) -> Option<Stand> {
     for one in known {
-        let has_name = one.gives(Kind::Controller) && is_part(label, one.at.name);
-        if has_name || one.at.item.is_none() && makes_same(one.at.name, label) {
+        let has_name = one.gives(Kind::Controller) && is_part(label, one.name);
+        if has_name || one.is_side() && makes_same(one.name, label) {
             return Some(one.stand());
         }
     }
@@ -381,7 +412,7 @@ fn joined(byte: u8) -> u8 {
 
 /// Says P8: the names that are nearest, or that there are none.
 pub(crate) fn push_unknown(alloc: Global, lines: &mut Lines, refused: &RefusedIn<'_>) {
-    match known_in(alloc, refused.language, refused.earlier, refused.before()) {
+    match known_in(alloc, refused) {
         Ok(known) => push_absent(alloc, lines, refused, known.as_slice()),
         Err(_) => lines.fail(),
     }
@@ -477,9 +508,10 @@ fn push_nearest(
 // What has this name, where that is of another kind.
 fn other_kind(known: &[Known<'_>], kind: Kind, word: &[u8]) -> Option<Kind> {
     for one in known {
-        let at = one.at;
-        if at.before == 0 && at.item != Some(kind) && at.item.is_some() && at.name == word {
-            return at.item;
+        if let (ItemKind::Gives(other), true) = (one.item, one.is_first) {
+            if other != kind && one.name == word {
+                return Some(other);
+            }
         }
     }
     None
@@ -493,7 +525,7 @@ fn line_below(
     kind: Kind,
     word: &[u8],
 ) -> Option<u64> {
-    match known_in(alloc, refused.language, &[], refused.text) {
+    match known_in_text(alloc, refused) {
         Ok(known) => Some(stand_of(known.as_slice(), kind, word)?.line),
         Err(_) => {
             lines.fail();
@@ -524,17 +556,17 @@ fn push_all(
     let mut nearest = Nearest::new(alloc, word);
     let mut controller: &[u8] = &[];
     for one in known {
-        let at = one.at;
         if one.gives(Kind::Controller) {
-            controller = at.name;
+            controller = one.name;
         }
         let is_shown = match listed {
             Listed::Of(kind) => one.gives(kind),
             Listed::By(wanted) => {
-                at.item == Some(Kind::Controller) && at.before != 0 && controller == wanted
+                let is_listed = one.item == ItemKind::Gives(Kind::Controller) && !one.is_first;
+                is_listed && controller == wanted
             }
         };
-        if is_shown && nearest.add(alloc, at.name).is_err() {
+        if is_shown && nearest.add(alloc, one.name).is_err() {
             lines.fail();
         }
     }

@@ -7,11 +7,12 @@ use crate::marking::{first_line, last_line, push_marked};
 use crate::names::{push_twice, push_unknown};
 use crate::paths::quoted;
 use crate::values::Hints;
-use crate::wording::{bad_count, foreign, is_plan, push_limit, push_over, push_version};
+use crate::wording::{bad_count, foreign, push_limit, push_over, push_version};
 use crate::words::{RANGES, is_like_brief, push_reason, reason_of_characters};
 use brief_tokens::after_head;
+use origins::Spans;
 use plan_text::places::Further;
-use plan_text::{Expected, Language, Place, PlanError, Refused};
+use plan_text::{Expected, Language, Place, PlanError, Refused, is_plan};
 use std::alloc::{AllocError, Global};
 
 /// Why and where a plan or a brief was refused.
@@ -25,6 +26,8 @@ pub struct RefusedIn<'a> {
     pub file: Option<&'a str>,
     /// The briefs before it.
     pub earlier: &'a [Earlier<'a>],
+    /// The names in these, and in the text.
+    pub spans: &'a Spans,
     /// Whether a brief could stand in its place too, where it is no plan text.
     pub takes_either: bool,
 }
@@ -37,6 +40,11 @@ pub struct Earlier<'a> {
 }
 
 impl<'a> RefusedIn<'a> {
+    /// Which of the texts that give the plan it is, from 0 on.
+    pub(crate) fn number(&self) -> u32 {
+        u32::try_from(self.earlier.len()).unwrap_or(u32::MAX)
+    }
+
     /// The token that was refused, a character, or nothing at the end of the text.
     pub(crate) fn token(&self) -> &'a [u8] {
         self.part(self.place.start, self.place.end)
@@ -175,7 +183,7 @@ fn lacks_head(refused: &RefusedIn<'_>) -> bool {
     matches!(refused.error, PlanError::Version(_))
         && refused.language == Language::Plan
         && refused.takes_either
-        && !is_plan(refused)
+        && !is_plan(refused.text)
         && is_like_brief(refused.text)
 }
 

@@ -6,7 +6,7 @@ use plan_core::limits::{
     MOST_BYTES, MOST_CONTROLLERS, MOST_INTERRUPTS, MOST_MESSAGES, MOST_NODES, MOST_SENDINGS,
 };
 use plan_text::places::{Kind, Over};
-use plan_text::{Expected, Language};
+use plan_text::{Expected, Language, is_plan};
 
 /// Of P1.
 pub(crate) fn foreign(language: Language) -> &'static str {
@@ -25,17 +25,12 @@ const BRIEF_VERSION: &str = "a brief begins with 'brief 1'";
 pub(crate) fn push_version(lines: &mut Lines, refused: &RefusedIn<'_>) {
     match refused.language {
         Language::Brief => lines.say(BRIEF_VERSION),
-        Language::Plan if !refused.takes_either || is_plan(refused) => lines.say(PLAN_VERSION),
+        Language::Plan if !refused.takes_either || is_plan(refused.text) => lines.say(PLAN_VERSION),
         Language::Plan => {
             lines.say(PLAN_VERSION);
             lines.say(BRIEF_VERSION);
         }
     }
-}
-
-/// Whether the text has the first word of a plan, before another version of it.
-pub(crate) fn is_plan(refused: &RefusedIn<'_>) -> bool {
-    refused.before().trim_ascii_end().ends_with(b"plan")
 }
 
 /// Of P4, where this was expected.

@@ -6,7 +6,7 @@ ghost use Rattle.verdicts.specs.Faults.{AreFaults, fault_list};
 
 use crate::plans::{Given, Part};
 use diagnostics::{Diagnostic, diagnose_check};
-use given_plans::GivenPlan;
+use given_plans::{GivenPlan, Provenance};
 use hints::Named;
 use lint::{Oddity, oddities};
 use plan_core::Plan;
@@ -130,8 +130,9 @@ fn wrong_in_plan<R: Threads + Sync>(
     let checked = checked(rt, alloc, plan)?;
     let words = texts.words(&checked.plan, &provenance);
     let texts = provenance.texts.as_slice();
-    let odd = oddities(alloc, &checked.plan, &provenance.origins, texts)?;
-    wrong_in_checked(alloc, &checked, words, odd.as_slice(), texts)
+    let spans = &provenance.spans;
+    let odd = oddities(alloc, &checked.plan, &provenance.origins, texts, spans)?;
+    wrong_in_checked(alloc, &checked, words, odd.as_slice(), &provenance)
 }
 
 /// The plan, and its faults.
@@ -157,12 +158,13 @@ fn wrong_in_checked(
     checked: &Checked,
     words: PlanWords<'_>,
     odd: &[Oddity<'_>],
-    texts: &[Vec<u8>],
+    provenance: &Provenance,
 ) -> Result<Found, AllocError>
     requires { AreFaults (plan_contents checked.now.plan) (fault_list checked.now.faults) }
 {
+    let Provenance { texts, spans, .. } = provenance;
     Ok(Found {
-        all: diagnose_check(alloc, words, checked, odd, false, texts)?,
+        all: diagnose_check(alloc, words, checked, odd, false, texts.as_slice(), spans)?,
         is_plan: true,
     })
 }

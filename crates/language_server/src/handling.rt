@@ -1,15 +1,14 @@
 // What is done for each message of a client.
 
 use crate::answers::{Answers, json};
-use crate::checking::wrong_with;
-use crate::definitions::definition_of;
+use crate::checking::{names_after_first, texts_of, wrong_with};
 use crate::documents::{Document, Documents};
 use crate::formatting::{edit_of, laid_out};
 use crate::hovers::hover_of;
-use crate::naming::{Word, word_at, words_in};
 use crate::plans::{Further, Given, given_by, heads_of, is_further, stands_for};
 use crate::positions::{Lines, Position};
 use crate::publishing::{location_of, marks_of, publish, publish_nothing};
+use crate::readings::{Reading, Word};
 use crate::rpc::{
     BAD_PARAMS, BEGUN, Call, Fault, Message, NO_JSON, NO_REQUEST, NOT_BEGUN, SHUT_DOWN, UNKNOWN,
     message_of, number_in, text_in,
@@ -350,21 +349,9 @@ impl<'a, R: Files + AllocGlobal + Threads + Sync> Server<'a, R> {
         let Some(document) = self.documents.find(asked.uri) else {
             return String::from_str(alloc, NULL);
         };
-        let text = document.text.as_bytes();
-        let words = words_in(alloc, text)?;
-        let offset = Lines::of(alloc, text)?.offset(asked.position);
-        match word_at(words.as_slice(), offset) {
-            Some(word) => self.told_of(question, asked.uri, word),
-            None => String::from_str(alloc, NULL),
-        }
-    }
-
-    fn told_of(&self, question: Question, uri: &str, word: Word<'_>) -> Result<String, AllocError> {
-        let given = self.plan_of(uri)?;
-        match question {
-            Question::Hover => hover_on(self.rt, &given, word),
-            Question::Definition => definition_on(self.rt.alloc(), &given, word),
-        }
+        let offset = Lines::of(alloc, document.text.as_bytes())?.offset(asked.position);
+        let given = self.plan_of(asked.uri)?;
+        told_in(self.rt, question, &given, document, offset)
     }
 
     // The texts of the plan that a document belongs to: it is the first of them, or one of the further files. Then that is the plan
@@ -396,14 +383,30 @@ fn edits_to(alloc: Global, old: &[u8], new: &[u8]) -> Result<String, AllocError>
     }
 }
 
-// What is said of a name, as the protocol has it.
-fn hover_on<R: AllocGlobal + Threads + Sync>(
+// Tells what is asked of the name at a place of a document, which belongs to this plan.
+fn told_in<R: AllocGlobal + Threads + Sync>(
     rt: &R,
+    question: Question,
     given: &Given,
-    name: Word<'_>,
+    document: &Document,
+    offset: usize,
 ) -> Result<String, AllocError> {
     let alloc = rt.alloc();
-    let Some(words) = hover_of(rt, alloc, given, name)? else {
+    let files = names_after_first(alloc, given.parts.as_slice())?;
+    let mut texts = texts_of(alloc, given.parts.as_slice(), files.as_slice())?;
+    let reading = Reading::of(alloc, &mut texts, given.parts.as_slice())?;
+    let Some(word) = reading.word_at(alloc, given, document, offset)? else {
+        return String::from_str(alloc, NULL);
+    };
+    match question {
+        Question::Hover => hover_on(alloc, hover_of(rt, alloc, given, &texts, reading, word)?),
+        Question::Definition => definition_on(alloc, given, &reading, word),
+    }
+}
+
+// What is said of a name, as the protocol has it.
+fn hover_on(alloc: Global, said: Option<String>) -> Result<String, AllocError> {
+    let Some(words) = said else {
         return String::from_str(alloc, NULL);
     };
     let words = words.as_str();
@@ -415,12 +418,18 @@ fn hover_on<R: AllocGlobal + Threads + Sync>(
 }
 
 // Where a name is given, as the protocol has it.
-fn definition_on(alloc: Global, given: &Given, name: Word<'_>) -> Result<String, AllocError> {
-    let Some(definition) = definition_of(alloc, given, name)? else {
+fn definition_on(
+    alloc: Global,
+    given: &Given,
+    reading: &Reading,
+    name: Word<'_>,
+) -> Result<String, AllocError> {
+    let names = reading.names(alloc, given.parts.as_slice())?;
+    let Some(definition) = names.definition(name.kind, name.bytes) else {
         return String::from_str(alloc, NULL);
     };
     let marks = marks_of(alloc, given)?;
-    json(alloc, &location_of(marks.as_slice(), definition.span()))
+    json(alloc, &location_of(marks.as_slice(), definition.span))
 }
 
 // ---- what messages have in them

@@ -1,16 +1,15 @@
 // What is said of a name, as Markdown.
 
-use crate::checking::{Texts, checked, names_after_first, texts_of};
-use crate::definitions::definition_of;
+use crate::checking::{Texts, checked};
 use crate::frame_rows::push_rows;
-use crate::naming::Word;
 use crate::plans::Given;
+use crate::readings::{Reading, Word};
 use crate::winners::push_winners;
 use given_plans::GivenPlan;
 use growing_text::Text;
 use order::{Order, order_of, scores_of};
+use origins::{Kind, NamedTexts};
 use plan_core::Plan;
-use plan_text::places::Kind;
 use plan_words::{PlanWords, Sides, sides_of};
 use std::alloc::{AllocError, Global};
 use std::thread::Threads;
@@ -29,13 +28,21 @@ pub(crate) fn hover_of<R: Threads + Sync>(
     rt: &R,
     alloc: Global,
     given: &Given,
+    texts: &Texts<'_>,
+    reading: Reading,
     name: Word<'_>,
 ) -> Result<Option<String>, AllocError> {
-    match name.kind {
-        Kind::Message => message_hover(rt, alloc, given, name.name),
-        Kind::Device => value_hover(alloc, given, name, "device", "address"),
-        Kind::Byte => value_hover(alloc, given, name, "byte", "bits"),
-        Kind::Controller | Kind::Interrupt => Ok(None),
+    match (name.kind, reading) {
+        (Kind::Message, Reading::Plan(plan)) => hover_in_plan(rt, alloc, plan, texts, name.bytes),
+        (Kind::Device, reading) => {
+            let names = reading.names(alloc, given.parts.as_slice())?;
+            value_hover(alloc, &names, name, "device", "address")
+        }
+        (Kind::Byte, reading) => {
+            let names = reading.names(alloc, given.parts.as_slice())?;
+            value_hover(alloc, &names, name, "byte", "bits")
+        }
+        _ => Ok(None),
     }
 }
 
@@ -43,50 +50,27 @@ pub(crate) fn hover_of<R: Threads + Sync>(
 
 fn value_hover(
     alloc: Global,
-    given: &Given,
+    names: &NamedTexts<'_>,
     name: Word<'_>,
     what: &'static str,
     value: &'static str,
 ) -> Result<Option<String>, AllocError> {
-    match definition_of(alloc, given, name)? {
-        Some(definition) => Ok(Some(value_text(alloc, definition.word, what, value)?)),
-        None => Ok(None),
-    }
-}
-
-fn value_text(
-    alloc: Global,
-    own: Word<'_>,
-    what: &'static str,
-    value: &'static str,
-) -> Result<String, AllocError> {
+    let Some(given) = names.given(name.kind, name.bytes) else {
+        return Ok(None);
+    };
     let mut text = Text::new(alloc);
     text.push(what);
     text.push(" `");
-    text.push(str::from_utf8(own.name).unwrap_or(""));
+    text.push(str::from_utf8(name.bytes).unwrap_or(""));
     text.push("`: ");
     text.push(value);
     text.push(" `");
-    text.push(str::from_utf8(own.value).unwrap_or(""));
+    text.push(str::from_utf8(names.value(given)).unwrap_or(""));
     text.push("`");
-    text.finish()
+    Ok(Some(text.finish()?))
 }
 
 // ---- messages
-
-fn message_hover<R: Threads + Sync>(
-    rt: &R,
-    alloc: Global,
-    given: &Given,
-    name: &[u8],
-) -> Result<Option<String>, AllocError> {
-    let names = names_after_first(alloc, given.parts.as_slice())?;
-    let mut texts = texts_of(alloc, given.parts.as_slice(), names.as_slice())?;
-    match texts.find(alloc) {
-        Ok(plan) => hover_in_plan(rt, alloc, plan, &texts, name),
-        Err(_) => Ok(None),
-    }
-}
 
 fn hover_in_plan<R: Threads + Sync>(
     rt: &R,

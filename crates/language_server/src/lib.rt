@@ -5,24 +5,23 @@
 //!
 //! `frames` cuts the input into frames, `rpc` says what one of them asks, and `answers` writes what is said. `serving` is the
 //! loop, and `handling` does what is asked. `documents` has the texts that are open, `uris` their files, and `plans` says
-//! which texts give a plan. `checking` finds what is wrong with them, and `publishing` writes it. `naming` finds the names of
-//! a text, `definitions` where these are given, and `hovers` what is said of them; `frame_rows` has the frames of a message in
-//! bytes, `winners` who wins. `positions` counts as the protocol does.
+//! which texts give a plan. `checking` finds what is wrong with them, and `publishing` writes it. `readings` has the names of
+//! texts as they were read, and `hovers` what is said of them; `frame_rows` has the frames of a message in bytes, `winners` who
+//! wins. `positions` counts as the protocol does.
 #![tactic(auto)]
 
 mod answers;
 mod checking;
-mod definitions;
 mod documents;
 mod formatting;
 mod frame_rows;
 mod frames;
 mod handling;
 mod hovers;
-mod naming;
 mod plans;
 mod positions;
 mod publishing;
+mod readings;
 mod rpc;
 mod serving;
 mod uris;

@@ -1,9 +1,9 @@
 // Which texts give the plan that a document belongs to.
 
 use crate::documents::{Document, Documents};
-use crate::naming::is_plan;
 use crate::uris::uri_of;
 use files::{FileId, identity_of};
+use plan_text::is_plan;
 use run_parts::devices::reading::READS;
 use run_parts::{RunError, Watched, read_within};
 use std::alloc::{AllocError, Global};
@@ -206,6 +206,12 @@ impl Given {
             Ok(()) => Ok(()),
             Err(_) => Err(AllocError),
         }
+    }
+
+    /// The number of the part that is the document with this URI.
+    pub(crate) fn number_of(&self, uri: &str) -> Option<u32> {
+        let number = self.parts.iter().position(|part| part.uri.as_str() == uri)?;
+        u32::try_from(number).ok()
     }
 
     /// The parts of which can be said what is wrong: those before a file that cannot be read.

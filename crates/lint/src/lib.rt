@@ -1,9 +1,8 @@
 //! What is allowed in briefs, and is likely a mistake. Nothing of it decides anything, and no clause speaks of it.
 #![tactic(auto)]
 
-use brief_tokens::names_in;
 use message_tree::{Address, Bit};
-use origins::{Device, NamedByte, Origins, Spot};
+use origins::{Device, NamedByte, Origins, Spans, Spot};
 use plan_core::Plan;
 use plan_words::family_of;
 use std::alloc::{AllocError, Global};
@@ -57,8 +56,8 @@ impl Oddity<'_> {
     }
 }
 
-/// What is likely a mistake in the briefs of these texts, where briefs mean this plan: first of the texts, then of devices,
-/// bytes, messages, and controllers, each in the order of the briefs.
+/// What is likely a mistake in the briefs of these texts, where briefs mean this plan: first of the texts, whose items are these,
+/// then of devices, bytes, messages, and controllers, each in the order of the briefs.
 ///
 /// # Errors
 ///
@@ -68,12 +67,13 @@ pub fn oddities<'a>(
     plan: &Plan,
     origins: &'a Option<Origins>,
     texts: &[Vec<u8>],
+    spans: &Spans,
 ) -> Result<Vec<Oddity<'a>>, AllocError> {
     let mut found = Vec::new(alloc);
     let Some(origins) = origins else {
         return Ok(found);
     };
-    push_texts(alloc, &mut found, texts)?;
+    push_texts(&mut found, texts, spans)?;
     push_devices(&mut found, origins.devices.as_slice())?;
     push_bytes(&mut found, origins.bytes.as_slice())?;
     push_messages(&mut found, plan, origins)?;
@@ -82,27 +82,22 @@ pub fn oddities<'a>(
 }
 
 fn push_texts(
-    alloc: Global,
     found: &mut Vec<Oddity<'_>>,
     texts: &[Vec<u8>],
+    spans: &Spans,
 ) -> Result<(), AllocError> {
     let mut file = 0u32;
     for text in texts {
-        push_text(alloc, found, file, text.as_slice())?;
+        if !spans.has_items(file) {
+            found.push(Oddity::EmptyBrief(Spot { file, line: 1 }))?;
+        }
+        push_text(found, file, text.as_slice())?;
         file = file.saturating_add(1);
     }
     Ok(())
 }
 
-fn push_text(
-    alloc: Global,
-    found: &mut Vec<Oddity<'_>>,
-    file: u32,
-    text: &[u8],
-) -> Result<(), AllocError> {
-    if names_in(alloc, text)?.all().is_empty() {
-        found.push(Oddity::EmptyBrief(Spot { file, line: 1 }))?;
-    }
+fn push_text(found: &mut Vec<Oddity<'_>>, file: u32, text: &[u8]) -> Result<(), AllocError> {
     let mut line = 1u64;
     for words in text.split(is_line_feed) {
         if has_return(words) {

@@ -1,9 +1,19 @@
 //! Where what stands in a plan comes from: for people, who know the briefs and not the plan. These are values alone, so who
-//! only speaks of briefs does not stand on what reads them. No clause speaks of them.
+//! only speaks of texts does not stand on what reads them. No clause speaks of them.
+//!
+//! `Origins` says of what a plan has where that stands. `spans` has all items of the texts, and the names in them, each with its
+//! bytes; `recording` finds them among the tokens that a reader takes, and `texts` says what they are the names of.
 #![tactic(auto)]
+
+mod recording;
+mod spans;
+mod texts;
 
 use message_tree::{Address, Pattern};
 use plan_core::Name;
+pub use recording::{Part, TokenAt};
+pub use spans::{Head, Item, ItemKind, Kind, Language, NameAt, Role, Span, Spans};
+pub use texts::NamedTexts;
 
 /// A place in briefs.
 #[derive(Clone, Copy, PartialEq, Eq, Drop)]

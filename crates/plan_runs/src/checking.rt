@@ -194,6 +194,7 @@ fn odd_in<'a>(
         plan,
         &provenance.origins,
         provenance.texts.as_slice(),
+        &provenance.spans,
     )
 }
 
@@ -252,8 +253,7 @@ fn write_in_form<I: Input, O: Output>(
     let odd = odd.as_slice();
     match extras.format {
         Format::Messages => {
-            let texts = provenance.texts.as_slice();
-            write_messages(alloc, checked, words, odd, look.strict, texts, out)?;
+            write_messages(alloc, checked, words, odd, look.strict, provenance, out)?;
         }
         _ => {
             tell_checked(
@@ -278,12 +278,13 @@ fn write_messages<O: Output>(
     words: PlanWords<'_>,
     odd: &[Oddity<'_>],
     strict: bool,
-    texts: &[Vec<u8>],
+    provenance: &Provenance,
     out: &mut O,
 ) -> Result<Status, RunError>
     requires { AreFaults (plan_contents checked.now.plan) (fault_list checked.now.faults) }
 {
-    let found = diagnose_check(alloc, words, checked, odd, strict, texts)?;
+    let texts = provenance.texts.as_slice();
+    let found = diagnose_check(alloc, words, checked, odd, strict, texts, &provenance.spans)?;
     let lines = message_lines(alloc, words, found.as_slice(), texts)?;
     write_lines(out, lines.as_bytes(), status_of(checked.faults.is_safe()))
 }

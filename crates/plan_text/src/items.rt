@@ -17,8 +17,10 @@ use crate::places::{Expected, Kind, Refused};
 use crate::sources::Source;
 use crate::symbols::{Keyword, Symbol};
 use crate::versions::{Version, read_version};
+use origins::Spans;
 use plan_core::{BuildError, Builder, Name, Plan};
 use std::alloc::Global;
+use std::mem;
 
 /// Reads a plan text, or answers its first refusal.
 ///
@@ -36,18 +38,20 @@ pub fn read_plan(alloc: Global, text: &[u8]) -> Result<Plan, PlanError>
     ensures refusals { (due : PlanError) → First text.now due →
         MatchResult result (λ it. ⊥) (λ e. (e ≡ PlanError.NoMemory) ⊎ (e ≡ due)) }
 {
-    match read_plan_at(alloc, text) {
+    let mut unasked = Spans::unasked(alloc);
+    match read_plan_at(alloc, text, &mut unasked) {
         Ok(plan) => Ok(plan),
         Err(refused) => Err(refused.error),
     }
 }
 
-/// The same, with the place of the refusal.
+/// The same, with the place of the refusal. The items and the names of the text are added to these of texts before it, where its
+/// head is not refused.
 ///
 /// # Errors
 ///
 /// As those of `read_plan`.
-pub fn read_plan_at(alloc: Global, text: &[u8]) -> Result<Plan, Refused>
+pub fn read_plan_at(alloc: Global, text: &[u8], spans: &mut Spans) -> Result<Plan, Refused>
     // What is answered is right.
     ensures spelled { IfOk result (λ plan. Spells text.now (plan_contents plan)) }
     ensures refused { IfErr result (λ e. (e.error ≡ PlanError.NoMemory) ⊎ First text.now e.error) }
@@ -57,23 +61,32 @@ pub fn read_plan_at(alloc: Global, text: &[u8]) -> Result<Plan, Refused>
     ensures refusals { (due : PlanError) → First text.now due →
         MatchResult result (λ it. ⊥) (λ e. (e.error ≡ PlanError.NoMemory) ⊎ (e.error ≡ due)) }
 {
-    read(alloc, text)
+    read(alloc, text, spans)
 }
 
 // The same, by the definition of reading.
-fn read(alloc: Global, text: &[u8]) -> Result<Plan, Refused>
+fn read(alloc: Global, text: &[u8], spans: &mut Spans) -> Result<Plan, Refused>
     ensures read { IfOk result (λ plan. text_read text.now ≡ Ok (plan_contents plan)) }
     ensures refused { IfErr result (λ e. Refuses (text_read text.now) e.error) }
 {
     let (version, tokens) = read_version(text)?;
+    let mut taken = mem::replace(spans, Spans::unasked(alloc));
+    taken.begin(Some(version.head()));
     let mut reader = Reader {
-        source: Source::new(alloc, tokens),
+        source: Source::new(alloc, tokens, taken),
         version,
         builder: Builder::new(alloc),
     };
     match reader.items() {
-        Ok(()) => Ok(reader.builder.finish()),
-        Err(error) => Err(reader.source.refused(error)),
+        Ok(()) => {
+            *spans = reader.source.into_spans();
+            Ok(reader.builder.finish())
+        }
+        Err(error) => {
+            let refused = reader.source.refused(error);
+            *spans = reader.source.into_all_spans();
+            Err(refused)
+        }
     }
 }
 

@@ -5,25 +5,8 @@ ghost use Rattle.std.specs.Prelude.{◌≡◌};
 
 use crate::errors::PlanError;
 pub use lexer::Spot;
-
-/// The two languages in which people write plans.
-#[derive(Clone, Copy, PartialEq, Eq)]
-pub enum Language {
-    Plan,
-    Brief,
-}
-
-/// What a name is given to.
-#[derive(Clone, Copy, PartialEq, Eq)]
-pub enum Kind {
-    Message,
-    Controller,
-    Interrupt,
-    /// Of a brief.
-    Device,
-    /// A data byte of a brief.
-    Byte,
-}
+use origins::TokenAt;
+pub use origins::{Kind, Language};
 
 /// How much a message is too long, with the token that makes it so.
 #[derive(Clone, Copy, PartialEq, Eq)]
@@ -178,8 +161,17 @@ fn place_of(
 }
 
 /// How many bytes of the text stand before what stands here in it.
-pub fn start_of(text: &[u8], spot: Spot) -> usize {
+fn start_of(text: &[u8], spot: Spot) -> usize {
     text.len().saturating_sub(spot.start)
+}
+
+/// The place of the token on this line that stands here in the text.
+pub fn token_at(text: &[u8], spot: Spot, line: u64) -> TokenAt {
+    TokenAt {
+        start: start_of(text, spot),
+        end: text.len().saturating_sub(spot.end),
+        line,
+    }
 }
 
 // How many bytes of its line stand before this place.

@@ -11,6 +11,7 @@ use crate::places::{Expected, Over, Refused};
 use crate::symbols::{Symbol, Token};
 use crate::tokens::Tokens;
 use crate::words::known_address;
+use origins::Spans;
 use plan_core::{Name, NameError};
 use std::alloc::Global;
 
@@ -23,6 +24,8 @@ pub(crate) struct Source<'a> {
     // for refusals: what the last token was to be, and by how much the message is too long
     expected: Expected,
     pub(crate) over: Option<Over>,
+    // the names so far
+    spans: Spans,
     ghost nodes_fit: { nodes ≤ MOST_NODES },
 }
 
@@ -37,7 +40,7 @@ impl<'a> Source<'a> {
     ghost use Rattle.plan_text.specs.Places.{place, before, Passes, Gives, Finds};
 
     /// The whole of these tokens.
-    pub(crate) fn new(alloc: Global, tokens: Tokens<'a>) -> Self
+    pub(crate) fn new(alloc: Global, tokens: Tokens<'a>, spans: Spans) -> Self
         ensures { place result ≡ record { tokens = left tokens.entry; nodes = 0 } }
     {
         Source {
@@ -46,6 +49,7 @@ impl<'a> Source<'a> {
             nodes: 0,
             expected: Expected::Version,
             over: None,
+            spans,
         }
     }
 
@@ -54,7 +58,22 @@ impl<'a> Source<'a> {
         ensures { place self.old ≡ before result (place self.new) }
     {
         self.expected = expected;
-        self.tokens.next()
+        let token = self.tokens.next();
+        self.tokens.record(token, &mut self.spans);
+        token
+    }
+
+    /// The names so far.
+    pub(crate) fn into_spans(self) -> Spans {
+        self.spans
+    }
+
+    /// The names so far, and those of what is left.
+    pub(crate) fn into_all_spans(self) -> Spans {
+        let mut tokens = self.tokens;
+        let mut spans = self.spans;
+        tokens.record_rest(&mut spans);
+        spans
     }
 
     /// The refusal of the token that was taken last.

@@ -8,6 +8,7 @@ ghost use Rattle.lexer.specs.Lexemes as lexemes;
 
 use crate::errors::PlanError;
 use lexer::Lexeme;
+use origins::{ItemKind, Kind, Part};
 
 /// A word that the grammar has in fixed places.
 #[derive(Clone, Copy)]
@@ -72,6 +73,16 @@ impl<'a> Token<'a> {
         }
     }
 
+    /// What it is to the names of a text. Nothing, where it is no token.
+    pub(crate) fn part(&self) -> Option<Part<'a>> {
+        match self.symbol {
+            Symbol::Keyword(keyword) => Some(part_of_keyword(keyword)),
+            Symbol::Word(word) => Some(Part::Word(word)),
+            Symbol::Semicolon => Some(Part::End),
+            Symbol::Stray | Symbol::Foreign | Symbol::End => None,
+        }
+    }
+
     /// The refusal of this token where the grammar does not allow it.
     pub(crate) fn unexpected(&self) -> PlanError
         ensures { result ≡ unexpected_at self.now }
@@ -90,6 +101,17 @@ impl<'a> Token<'a> {
             Symbol::Stray | Symbol::Foreign => self.unexpected(),
             _ => PlanError::Version(self.line),
         }
+    }
+}
+
+fn part_of_keyword(keyword: Keyword) -> Part<'static> {
+    match keyword {
+        Keyword::Message => Part::Item(ItemKind::Gives(Kind::Message)),
+        Keyword::Controller => Part::Item(ItemKind::Gives(Kind::Controller)),
+        Keyword::Interrupt => Part::Item(ItemKind::Gives(Kind::Interrupt)),
+        Keyword::Never => Part::Item(ItemKind::Never),
+        Keyword::Write | Keyword::Read => Part::Direction,
+        Keyword::Plan | Keyword::Again | Keyword::Else | Keyword::Stop => Part::Other,
     }
 }
 

@@ -9,11 +9,12 @@ ghost use Rattle.plan_text.specs.Tokens.{tokens_of, next, word, keyword};
 ghost use Rattle.plan_text.specs.declared.symbols.Keyword.TheVariants as keywords;
 
 use crate::errors::PlanError;
-use crate::places::{Expected, Over, Refused, start_of};
+use crate::places::{Expected, Over, Refused, token_at};
 use crate::symbols::Token;
 use crate::words::pattern;
 use lexer::{Letters, Lexer};
 use message_tree::Pattern;
+use origins::Spans;
 
 /// A data byte, with the line of its token.
 #[derive(Clone, Copy)]
@@ -102,9 +103,27 @@ impl<'a> Tokens<'a> {
         self.lexer.letters == Letters::Dots
     }
 
-    /// How many bytes of the text stand before the last token.
-    pub(crate) fn start(&self) -> usize {
-        start_of(self.lexer.text(), self.lexer.spot())
+    /// Keeps of this token, which was taken last, whether it is a name. Whether it is a token.
+    pub(crate) fn record(&self, token: Token<'_>, spans: &mut Spans) -> bool {
+        match token.part() {
+            Some(part) => {
+                let at = token_at(self.lexer.text(), self.lexer.spot(), token.line);
+                spans.take(part, at);
+                true
+            }
+            None => false,
+        }
+    }
+
+    /// Keeps the names of what is left, up to its end or to what is no token of any version.
+    pub(crate) fn record_rest(&mut self, spans: &mut Spans) {
+        self.allow_dots();
+        for _ in 0..self.lexer.rest.len() {
+            let token = self.next();
+            if !self.record(token, spans) {
+                return;
+            }
+        }
     }
 
     /// The refusal of the token that was taken last, where this was expected. A message may be too long by so much.

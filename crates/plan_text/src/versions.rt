@@ -10,6 +10,7 @@ ghost use Rattle.lexer.specs.Lexemes.{no_dots};
 use crate::places::{Expected, Refused};
 use crate::symbols::{Keyword, Symbol};
 use crate::tokens::Tokens;
+use origins::{Head, Language};
 
 /// The version of a plan text.
 #[derive(Clone, Copy, PartialEq, Eq)]
@@ -18,6 +19,27 @@ pub(crate) enum Version {
     One,
     /// With both.
     Two,
+}
+
+impl Version {
+    /// The head of a text of this version.
+    pub(crate) fn head(self) -> Head {
+        Head {
+            language: Language::Plan,
+            version: match self {
+                Version::One => 1,
+                Version::Two => 2,
+            },
+        }
+    }
+}
+
+/// Whether a text has the first word of a plan. Then it is read as a plan, and never as a brief.
+pub fn is_plan(text: &[u8]) -> bool {
+    matches!(
+        Tokens::new(text).next().symbol,
+        Symbol::Keyword(Keyword::Plan)
+    )
 }
 
 /// Reads `plan` and the version, and gives the tokens after them.

@@ -102,6 +102,7 @@ impl RefusedSource {
             text: self.refused.text.as_slice(),
             file,
             earlier,
+            spans: &self.refused.spans,
             takes_either: self.takes == Takes::Either,
         }
     }

@@ -7,7 +7,7 @@ ghost use Rattle.plan_core.specs.PlanContents.{plan_contents};
 
 use crate::endings::{Halt, Takes};
 use given_plans::{GivenPlan, Halted, Provenance, find_among, find_in_briefs};
-use lexer::{Letters, Lexeme, Lexer, Symbol};
+use origins::{Head, Language};
 use plan_core::Plan;
 use plan_words::{BriefFiles, PlanWords};
 use run_parts::{Input, RunError};
@@ -91,30 +91,17 @@ impl<'a, I: Input> Sources<'a, I> {
     where
         'a: 'p,
     {
-        let is_first_version = match provenance.texts.first() {
-            Some(text) => is_first_version(text.as_slice()),
-            None => false,
-        };
         PlanWords::new(
             plan,
             provenance.origins.as_ref(),
             self.files,
-            is_first_version,
+            provenance.spans.head(0) == Some(FIRST_VERSION),
         )
     }
 }
 
-// Whether a text begins as a plan of the first version, in which no `never` stands.
-fn is_first_version(text: &[u8]) -> bool {
-    let mut lexer = Lexer::new(text, Letters::Plain);
-    let first = lexer.next();
-    let second = lexer.next();
-    is_word(&first, b"plan") && is_word(&second, b"1")
-}
-
-fn is_word(lexeme: &Lexeme<'_>, word: &[u8]) -> bool {
-    match lexeme.symbol {
-        Symbol::Word(it) => it == word,
-        _ => false,
-    }
-}
+// What a plan of the first version begins with, in which no `never` stands.
+const FIRST_VERSION: Head = Head {
+    language: Language::Plan,
+    version: 1,
+};

@@ -27,4 +27,4 @@ returns-in-Err-clause-refused c =
     let version = c.in_ok-version.version in
     let whole = ap (λ (p : Contents). items_at version p (place c.new.result)) c.new-2.ensures ∙ ap (items_at version empty) c.new.ensures
     ∙ ap (λ (t : Tokens). items_at version empty (spot t 0)) c.in_ok-version.ensures.rest ∙ sym (text_from c.args.text.now version c.in_ok-version.ensures.version) in
-    subst (Refuses (text_read c.args.text.now)) (sym c.refused.ensures) (subst (λ (r : Result Contents PlanError). Refuses r c.in-Err.error) whole c.in-Err.ensures.refused)
+    subst (Refuses (text_read c.args.text.now)) (sym c.refused-refused.ensures) (subst (λ (r : Result Contents PlanError). Refuses r c.in-Err.error) whole c.in-Err.ensures.refused)
