@@ -60,8 +60,8 @@ impl Sentence {
         }
     }
 
-    // Words that blanks part.
-    fn say(&mut self, words: &str) {
+    /// Goes on with words that blanks part, as our own are.
+    pub fn say(&mut self, words: &str) {
         for (k, word) in words.split(' ').enumerate() {
             if k != 0 {
                 self.begin();
@@ -84,9 +84,9 @@ impl Sentence {
         }
     }
 
-    // The last word goes on, or the first one begins.
-    fn go_on(&mut self, part: &str) {
-        if self.words.is_empty() && !part.is_empty() {
+    /// Goes on with what stands in one word, whatever blanks are in it.
+    pub fn go_on(&mut self, part: &str) {
+        if self.words.is_empty() {
             self.begin();
         }
         if let Some(last) = self.words.last_mut()
