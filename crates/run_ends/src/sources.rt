@@ -91,17 +91,21 @@ impl<'a, I: Input> Sources<'a, I> {
     where
         'a: 'p,
     {
-        let is_first_version = match provenance.texts.first() {
-            Some(text) => is_first_version(text.as_slice()),
-            None => false,
-        };
-        PlanWords::new(
-            plan,
-            provenance.origins.as_ref(),
-            self.files,
-            is_first_version,
-        )
+        words_of(self.files, plan, provenance)
     }
+}
+
+/// The plan that these files give, in the words of people.
+pub(crate) fn words_of<'p>(
+    files: BriefFiles<'p>,
+    plan: &'p Plan,
+    provenance: &'p Provenance,
+) -> PlanWords<'p> {
+    let is_first_version = match provenance.texts.first() {
+        Some(text) => is_first_version(text.as_slice()),
+        None => false,
+    };
+    PlanWords::new(plan, provenance.origins.as_ref(), files, is_first_version)
 }
 
 // Whether a text begins as a plan of the first version, in which no `never` stands.
