@@ -1,6 +1,6 @@
 // Runs over the dump of a recorded bus: each hands what the dump shows to the form that is wanted.
 
-ghost use Rattle.std.specs.Prelude.{◌≡◌, ℕ, None, IfOk, string_bytes};
+ghost use Rattle.std.specs.Prelude.{◌≡◌, ℕ, IfOk, string_bytes};
 ghost use Rattle.byte_lines.specs.DecodedRuns.{TellsDecoded};
 ghost use Rattle.byte_lines.specs.declared.writing.ByteCounts.{ByteCounts};
 ghost use Rattle.dump_runs.specs.Statuses.{EndsJudged, IsJudged};
@@ -8,7 +8,6 @@ ghost use Rattle.given_runs.specs.Due.{CapturedPlan};
 ghost use Rattle.given_runs.specs.Inputs.{DueForBoth, ReadsTextsAndOne};
 ghost use Rattle.lessons.specs.Lessons.{Teaches};
 ghost use Rattle.lessons.specs.declared.checking.Learned.{Learned};
-ghost use Rattle.run_ends.specs.declared.endings.Findings.TheVariants.{Recording};
 ghost use Rattle.run_parts.specs.Runs.{Reports};
 ghost use Rattle.run_parts.specs.Writing.{WritesAll};
 ghost use Rattle.run_parts.specs.declared.runs.Status.TheVariants.{Good};
@@ -68,9 +67,7 @@ fn layout_of(capture: Capture<'_>, paint: Paint) -> Layout {
 }
 
 // The end of a run over a dump.
-fn ended(status: Status, recorded: Recorded, rises: Rises, alike: Option<usize>) -> Ended
-    ensures { result ≡ record { status = status; findings = Recording recorded rises alike; wave = None } }
-{
+fn ended(status: Status, recorded: Recorded, rises: Rises, alike: Option<usize>) -> Ended {
     Ended {
         status,
         findings: Findings::Recording(recorded, rises, alike),
@@ -132,7 +129,11 @@ fn capture_exactly<R: AllocGlobal + Threads + Sync, I: Input, J: Input, O: Outpu
     match capture_given(rt, alloc, readers, vcd, out, scl, sda, least, &mut wrong) {
         Ok(GivenCapture { captured, .. }) => {
             let seen = Recorded::Bus(window, seen_in(&captured));
-            Ok(ended(captured.status, seen, captured.rises, None))
+            Ok(Ended {
+                status: captured.status,
+                findings: Findings::Recording(seen, captured.rises, None),
+                wave: None,
+            })
         }
         Err(halted) => Err(halt_at(plans, halted, wrong)),
     }
@@ -264,7 +265,11 @@ fn capture_in_form<R: AllocGlobal + Threads + Sync, I: Input, J: Input, O: Outpu
     match told {
         Ok(told) => {
             let seen = Recorded::Bus(capture.bus.view.window, told.seen);
-            Ok(ended(told.status, seen, told.rises, alike))
+            Ok(Ended {
+                status: told.status,
+                findings: Findings::Recording(seen, told.rises, alike),
+                wave: None,
+            })
         }
         Err(error) => Err(halted(dump, error)),
     }
@@ -415,7 +420,11 @@ fn decode_exactly<J: Input, O: Output>(
     match write_decoded(alloc, vcd, out, scl, sda, least, live, &mut wrong) {
         Ok(counts) => {
             let seen = Recorded::Bytes(window, seen_in_bytes(counts));
-            Ok(ended(Status::Good, seen, counts.rises, None))
+            Ok(Ended {
+                status: Status::Good,
+                findings: Findings::Recording(seen, counts.rises, None),
+                wave: None,
+            })
         }
         Err(error) => Err(halted_by(error, wrong)),
     }

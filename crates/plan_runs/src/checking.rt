@@ -400,7 +400,11 @@ fn verify_exactly<I: Input, J: Input, O: Output>(
         (plans.old.readers.items, cert.old) it.status (plans.new.readers.items, cert.new)) }
 {
     match answer_exactly(alloc, plans.readers.as_mut_slice(), cert, out) {
-        Ok((found, status)) => Ok(answered(found, status)),
+        Ok((found, status)) => Ok(Ended {
+            status,
+            findings: Findings::Answered(found.answered, found.provenance),
+            wave: None,
+        }),
         Err(halted) => Err(plans.halt(halted)),
     }
 }
@@ -434,20 +438,13 @@ fn verify_in_form<I: Input, J: Input, O: Output>(
     match find_answered(alloc, plans.readers.as_mut_slice(), cert) {
         Ok(found) => {
             let status = tell_given(alloc, &found, plans, None, out, extras)?;
-            Ok(answered(found, status))
+            Ok(Ended {
+                status,
+                findings: Findings::Answered(found.answered, found.provenance),
+                wave: None,
+            })
         }
         Err(halted) => Err(plans.halt(halted)),
-    }
-}
-
-// The end of a run that has this answer.
-fn answered(found: GivenAnswer, status: Status) -> Ended
-    ensures { result.status ≡ status }
-{
-    Ended {
-        status,
-        findings: Findings::Answered(found.answered, found.provenance),
-        wave: None,
     }
 }
 
@@ -508,7 +505,11 @@ fn explain_kept<I: Input, O: Output>(
         provenance,
     };
     let status = tell_given(alloc, &found, plans, mistake, out, extras)?;
-    Ok(answered(found, status))
+    Ok(Ended {
+        status,
+        findings: Findings::Answered(found.answered, found.provenance),
+        wave: None,
+    })
 }
 
 /// Writes the answer to a certificate of the plan of these words, and what is wrong with it, where that was found.
@@ -562,7 +563,11 @@ fn order_exactly<R: AllocGlobal + Threads + Sync, I: Input, O: Output>(
         plans.old.readers.items out.old it.status plans.new.readers.items out.new) }
 {
     match order_given(rt, rt.alloc(), plans.readers.as_mut_slice(), out) {
-        Ok(status) => Ok(Ended::quietly(status)),
+        Ok(status) => Ok(Ended {
+            status,
+            findings: Findings::Nothing,
+            wave: None,
+        }),
         Err(halted) => Err(plans.halt(halted)),
     }
 }
@@ -583,7 +588,11 @@ fn order_in_form<R: AllocGlobal + Threads + Sync, I: Input, O: Output>(
             let status = status_in(&found);
             let words = plans.words(&found.checked.plan, &found.provenance);
             write_orders(rt.alloc(), words, &order, out, explain, style)?;
-            Ok(Ended::quietly(status))
+            Ok(Ended {
+                status,
+                findings: Findings::Nothing,
+                wave: None,
+            })
         }
         Err(halted) => Err(plans.halt(halted)),
     }

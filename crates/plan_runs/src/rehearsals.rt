@@ -1,7 +1,7 @@
 // The run of a bench: it finds what comes of a plan and its certificate, and writes that in the form that is wanted. The exact
 // form is that of `given_runs`, by its call.
 
-ghost use Rattle.std.specs.Prelude.{◌≡◌, IfOk};
+ghost use Rattle.std.specs.Prelude.{IfOk};
 ghost use Rattle.bench_run.specs.Outcomes.{HasWinners};
 ghost use Rattle.given_plans.specs.Sources.{DueFor, ReadsTexts};
 ghost use Rattle.given_runs.specs.Due.{RehearsedPlan, SelfRehearsedPlan};
@@ -53,7 +53,12 @@ pub fn bench<
 {
     let answers = bits_of(rt.alloc(), play.answers, play.rest)?;
     let (found, status) = bench_by_form(rt, plans, cert, out, play, answers.as_slice(), extras)?;
-    Ok(ended(rt.alloc(), found, status, play)?)
+    let wave = wave_of(rt.alloc(), &found.outcome, play)?;
+    Ok(Ended {
+        status,
+        findings: findings_of(found),
+        wave,
+    })
 }
 
 /// Rehearses the plan that the readers give by the certificate that is made of it here.
@@ -73,23 +78,7 @@ pub fn bench_alone<
 {
     let answers = bits_of(rt.alloc(), play.answers, play.rest)?;
     let (found, status) = alone_by_form(rt, plans, out, play, answers.as_slice(), extras)?;
-    Ok(ended(rt.alloc(), found, status, play)?)
-}
-
-// The end of a run of which this came, with its waves, where they are wanted.
-fn ended(
-    alloc: Global,
-    found: GivenOutcome,
-    status: Status,
-    play: Play<'_>,
-) -> Result<Ended, AllocError>
-    ensures { IfOk result (λ it. it.status ≡ status) }
-{
-    let wave = match &found.outcome {
-        _ if play.wave.is_none() => None,
-        Outcome::Played(rehearsal) => Some(Ok(wave_of_bench(alloc, rehearsal)?)),
-        Outcome::NotAccepted(_) => Some(Err(NoWaves::Unplayed)),
-    };
+    let wave = wave_of(rt.alloc(), &found.outcome, play)?;
     Ok(Ended {
         status,
         findings: findings_of(found),
@@ -97,6 +86,20 @@ fn ended(
     })
 }
 
+// The waves of a rehearsal, where they are wanted, or why there are none.
+fn wave_of(
+    alloc: Global,
+    outcome: &Outcome,
+    play: Play<'_>,
+) -> Result<Option<Result<String, NoWaves>>, AllocError> {
+    Ok(match outcome {
+        _ if play.wave.is_none() => None,
+        Outcome::Played(rehearsal) => Some(Ok(wave_of_bench(alloc, rehearsal)?)),
+        Outcome::NotAccepted(_) => Some(Err(NoWaves::Unplayed)),
+    })
+}
+
+// What people may be told of it.
 fn findings_of(found: GivenOutcome) -> Findings {
     let GivenOutcome {
         outcome,

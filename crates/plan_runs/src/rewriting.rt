@@ -72,7 +72,11 @@ fn print<I: Input, O: Output>(
         sources.old.readers.items out.old it.status sources.new.readers.items out.new) }
 {
     match print_given(alloc, sources.readers.as_mut_slice(), out) {
-        Ok(status) => Ok(Ended::quietly(status)),
+        Ok(status) => Ok(Ended {
+            status,
+            findings: Findings::Nothing,
+            wave: None,
+        }),
         Err(halted) => Err(sources.halt(halted)),
     }
 }
@@ -86,7 +90,11 @@ fn expand<I: Input, O: Output>(
         sources.old.readers.items out.old it.status sources.new.readers.items out.new) }
 {
     match expand_given(alloc, sources.readers.as_mut_slice(), out) {
-        Ok(status) => Ok(Ended::quietly(status)),
+        Ok(status) => Ok(Ended {
+            status,
+            findings: Findings::Nothing,
+            wave: None,
+        }),
         Err(halted) => Err(Halt::of(halted, Takes::One)),
     }
 }
