@@ -3,14 +3,10 @@
 use brief_tokens::is_brief_word;
 use decoding::{Ending, TransactionSink};
 use drives::{Drivers, Judging};
-use dump_hints::{
-    on_denied_line, on_like_line, on_no_controller, on_no_line, on_no_name, on_same_line,
-};
-use dump_tokens::{Bus, Drive, Drives};
-use hints::Hints;
+use dump_tokens::{Bus, Drives};
 use plan_core::{Name, NameError, Participant, Plan};
 use plan_words::PlanWords;
-use run_ends::{Halt, open_dump};
+use run_ends::{Halt, NoDrive, open_dump};
 use run_parts::{Input, RunError};
 use signals::{Dump, Sought};
 use std::alloc::{AllocError, Global};
@@ -31,9 +27,9 @@ pub(crate) fn open_driven<'v, 'a, J: Input>(
         return Err(Halt::NoTimescale);
     }
     if dump.has_both() {
-        for (drive, line) in drives.all.iter().zip(dump.others()) {
+        for (number, line) in dump.others().iter().enumerate() {
             if line.is_none() {
-                return Err(no_drive(alloc, *drive, on_no_line(alloc, *drive)));
+                return Err(Halt::NoDrive(number, NoDrive::NoLine));
             }
         }
     }
@@ -71,33 +67,23 @@ pub(crate) fn decode_driven<J: Input, S: TransactionSink>(
     }
 }
 
-/// Refuses a line that is SDA itself, or that pulls it where it is HIGH, once the dump has been read. What to say of one that
-/// cannot be told apart from SDA.
-pub(crate) fn refuse_others(
-    alloc: Global,
-    drives: Drives<'_>,
-    drivers: &Option<Drivers>,
-) -> Result<Hints, Halt> {
+/// Refuses a line that is SDA itself, or that pulls it where it is HIGH, once the dump has been read. The first one that cannot
+/// be told apart from SDA.
+pub(crate) fn refuse_others(drivers: &Option<Drivers>) -> Result<Option<usize>, Halt> {
     let Some(drivers) = drivers else {
-        return Ok(Hints::new(alloc));
+        return Ok(None);
     };
-    let mut hints = Hints::new(alloc);
-    if let Some(alike) = drivers.first_alike()
-        && let Some(drive) = drive_of(drives, Some(alike.number))
-    {
-        if alike.is_sda {
-            return Err(no_drive(alloc, drive, on_same_line(alloc, drive)));
+    let alike = match drivers.first_alike() {
+        Some(alike) if alike.is_sda => {
+            return Err(Halt::NoDrive(alike.number, NoDrive::SameLine));
         }
-        hints = on_like_line(alloc, drive)?;
+        Some(alike) => Some(alike.number),
+        None => None,
+    };
+    match drivers.first_denied() {
+        Some(number) => Err(Halt::NoDrive(number, NoDrive::Denied)),
+        None => Ok(alike),
     }
-    match drive_of(drives, drivers.first_denied()) {
-        Some(drive) => Err(no_drive(alloc, drive, on_denied_line(alloc, drive))),
-        None => Ok(hints),
-    }
-}
-
-fn drive_of<'a>(drives: Drives<'a>, number: Option<usize>) -> Option<Drive<'a>> {
-    drives.all.get(number?).copied()
 }
 
 /// Holds what the controllers do against the plan.
@@ -149,11 +135,10 @@ pub(crate) fn refuse_unknown(
     words: PlanWords<'_>,
     drives: Drives<'_>,
 ) -> Result<(), Halt> {
-    for drive in drives.all {
+    for (number, drive) in drives.all.iter().enumerate() {
         if !has_controller(words, drive.controller) {
             let names = names_of(alloc, words)?;
-            let hints = on_no_controller(alloc, *drive, names.as_slice());
-            return Err(no_drive(alloc, *drive, hints));
+            return Err(Halt::NoDrive(number, NoDrive::NoController(names)));
         }
     }
     Ok(())
@@ -170,32 +155,29 @@ fn has_controller(words: PlanWords<'_>, name: &str) -> bool {
 }
 
 // The names of the controllers, each once.
-fn names_of<'a>(alloc: Global, words: PlanWords<'a>) -> Result<Vec<&'a str>, AllocError> {
-    let mut names: Vec<&'a str> = Vec::new(alloc);
+fn names_of(alloc: Global, words: PlanWords<'_>) -> Result<Vec<String>, AllocError> {
+    let mut names = Vec::new(alloc);
     for controller in 0..words.plan().controllers() {
         let name = words.name(controller);
-        if !names.as_slice().contains(&name) {
-            names.push(name)?;
+        if !has_name(names.as_slice(), name) {
+            names.push(String::from_str(alloc, name)?)?;
         }
     }
     Ok(names)
 }
 
+fn has_name(names: &[String], name: &str) -> bool {
+    names.iter().any(|it| it.as_str() == name)
+}
+
 /// Refuses a controller that a brief cannot have.
 pub(crate) fn refuse_no_names(alloc: Global, drives: Drives<'_>) -> Result<(), Halt> {
-    for drive in drives.all {
+    for (number, drive) in drives.all.iter().enumerate() {
         match Name::new(alloc, drive.controller) {
             Ok(_) if !is_brief_word(drive.controller) => {}
             Err(NameError::NoMemory) => return Err(Halt::Run(RunError::NoMemory)),
-            _ => return Err(no_drive(alloc, *drive, on_no_name(alloc, *drive))),
+            _ => return Err(Halt::NoDrive(number, NoDrive::NoName)),
         }
     }
     Ok(())
-}
-
-fn no_drive(alloc: Global, drive: Drive<'_>, hints: Result<Hints, AllocError>) -> Halt {
-    match (String::from_str(alloc, drive.controller), hints) {
-        (Ok(controller), Ok(hints)) => Halt::NoDrive(controller, hints),
-        _ => Halt::Run(RunError::NoMemory),
-    }
 }

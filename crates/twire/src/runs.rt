@@ -1,18 +1,13 @@
 // What the program does, and the status that it ends with.
 
-use crate::tasks::{Over, OverBoth, Task, task_of};
+use crate::tasks::run_over;
 use crate::versions::version_of;
-use closings::{Errand, FilesWritten, finish};
-use command_words::{Asked, Format, Manner, Request, When, read_words};
+use command_words::{Asked, Format, Manner, Request, Rewriting, When, read_words};
 use files::{FilesRead, Form, Sheet, Watcher, is_standard_input};
 use growing_text::visible;
-use hints::Named;
 use language_server::serve;
 use refusal_objects::Detail;
-use run_ends::{
-    Extras, Format as Written, NamedSources, Voice, both_read, one_read, open_both, open_sources,
-    refused,
-};
+use run_ends::{Errand, Extras, Inputs, finish, open_files, refused};
 use run_parts::{RunError, Watched};
 use std::env::{self, VarError};
 use std::io;
@@ -39,7 +34,7 @@ pub fn run<R: Files + Env + Input + Print + Eprint + AllocGlobal + Threads + Wai
         Ok(status) => status,
         // (before it is known whether objects are wanted)
         Err(error) => {
-            refused(rt, error, Detail::Nothing, "", Voice::Plain);
+            refused(rt, error, Detail::Nothing, "", Format::Lines);
             2
         }
     }
@@ -63,9 +58,12 @@ fn run_words<R: Files + Env + Input + Print + Eprint + AllocGlobal + Threads + W
             },
         ) => {
             let watcher = watcher_of(rt, request, further.as_slice(), terminals);
-            let extras = extras_of(rt, manner, terminals, watcher);
-            let task = task_of(request, drives.as_slice());
-            Ok(do_task(rt, task, further.as_slice(), extras))
+            let errand = Errand {
+                request: request.with_drives(drives.as_slice()),
+                further: further.as_slice(),
+                extras: extras_of(rt, manner, terminals, watcher),
+            };
+            Ok(do_errand(rt, errand))
         }
         Ok(Asked::Serve(further)) => serve_editor(rt, further.as_slice()),
         Ok(Asked::Show(text)) => show(rt, text.as_str()),
@@ -84,19 +82,14 @@ fn extras_of<R: Env + AllocGlobal>(
     let take_colors = takes_colors(rt);
     Extras {
         // (a message of a compiler says what a hint does)
-        hints: are_wanted(manner.hints, terminals.err && manner.format != Format::Gcc),
+        hints: are_wanted(
+            manner.hints,
+            terminals.err && manner.format != Format::Messages,
+        ),
         colors_out: are_wanted(manner.colors, terminals.out && take_colors),
         colors_err: are_wanted(manner.colors, terminals.err && take_colors),
-        format: written_as(manner.format),
+        format: manner.format,
         watcher,
-    }
-}
-
-fn written_as(format: Format) -> Written {
-    match format {
-        Format::Text => Written::Lines,
-        Format::Json => Written::Objects,
-        Format::Gcc => Written::Messages,
     }
 }
 
@@ -125,7 +118,12 @@ fn names_input(one: &str, other: &str, further: &[&str]) -> bool {
 // The files of a run that may be long.
 fn files_of(request: Request<'_>) -> Option<(&str, &str)> {
     match request {
-        Request::Check { plan, .. } | Request::Certify { plan, .. } => Some((plan, plan)),
+        Request::Check { plan, .. }
+        | Request::Rewrite {
+            file: plan,
+            rewriting: Rewriting::Certify,
+            ..
+        } => Some((plan, plan)),
         Request::Verify { plan, cert, .. } => Some((plan, cert)),
         Request::Capture { plan, vcd, .. } => Some((plan, vcd)),
         Request::Decode { vcd, .. } | Request::Signals { vcd, .. } => Some((vcd, vcd)),
@@ -152,113 +150,24 @@ fn are_wanted(when: When, on_terminal: bool) -> bool {
     }
 }
 
-fn do_task<R: Files + Input + Print + Eprint + AllocGlobal + Threads + Wait + Clock + Sync>(
+// From the opening of the files to the status.
+fn do_errand<R: Files + Input + Print + Eprint + AllocGlobal + Threads + Wait + Clock + Sync>(
     rt: &R,
-    task: Task<'_>,
-    further: &[&str],
-    extras: Extras,
-) -> u8 {
-    match task {
-        Task::One(text, over, form) => run_over(rt, sources_of(text, further), over, form, extras),
-        Task::Two(plan, other, over, form) => {
-            run_over_both(rt, sources_of(plan, further), other, over, form, extras)
-        }
-    }
-}
-
-// Further briefs are words of a command that takes briefs alone, and else those of an option.
-fn sources_of<'a>(first: Named<'a>, further: &'a [&'a str]) -> NamedSources<'a> {
-    let argument = if first.what == "brief" {
-        first.argument
-    } else {
-        "--with"
-    };
-    NamedSources {
-        first,
-        further,
-        argument,
-    }
-}
-
-// A run over one text, or over what gives a plan, from the opening of the files to the status.
-fn run_over<'a, R: Files + Input + Print + Eprint + AllocGlobal + Threads + Wait + Clock + Sync>(
-    rt: &'a R,
-    named: NamedSources<'a>,
-    over: Over<'a>,
-    form: Form<'a>,
-    extras: Extras,
+    errand: Errand<'_>,
 ) -> u8 {
     let mut ids = Vec::new(rt.alloc());
-    let Some(mut sources) = open_sources(rt, named, &mut ids, extras) else {
+    let Some((mut texts, mut second)) = open_files(rt, errand, &mut ids) else {
         return 2;
     };
     let read = FilesRead {
         ids: ids.as_slice(),
     };
-    let mut out = Watched::new(Sheet::telling(
-        rt,
-        form,
-        read,
-        extras.watcher,
-        over.writes_certificate(),
-    ));
-    let path = named.first.path;
-    let ended = over.run(rt, path, &mut sources, &mut out, extras, read);
-    let files = FilesWritten {
-        output: form.path(),
-        wave: over.wave(),
-    };
-    let read = one_read(named, sources);
-    let errand = Errand {
-        named,
-        files,
-        about: over.about(path),
-        extras,
-    };
-    finish(rt, read, out.into_inner(), ended, errand)
-}
-
-// The same over a second text too.
-fn run_over_both<
-    'a,
-    R: Files + Input + Print + Eprint + AllocGlobal + Threads + Wait + Clock + Sync,
->(
-    rt: &'a R,
-    named: NamedSources<'a>,
-    other: Named<'a>,
-    over: OverBoth<'a>,
-    form: Form<'a>,
-    extras: Extras,
-) -> u8 {
-    let mut ids = Vec::new(rt.alloc());
-    let Some((mut sources, mut another)) = open_both(rt, named, other, &mut ids, extras) else {
-        return 2;
-    };
-    let read = FilesRead {
-        ids: ids.as_slice(),
-    };
-    let mut out = Watched::new(Sheet::new(rt, form, read, extras.watcher));
-    let ended = over.run(
-        rt,
-        named.first.path,
-        &mut sources,
-        &mut another,
-        &mut out,
-        extras,
-        read,
-    );
-    let files = FilesWritten {
-        output: form.path(),
-        wave: over.wave(),
-    };
-    let read = both_read(named, sources, other, another);
-    let errand = Errand {
-        named,
-        files,
-        about: over.about(named, other.path),
-        extras,
-    };
-    finish(rt, read, out.into_inner(), ended, errand)
+    let is_long = errand.rewrites(Rewriting::Certify);
+    let sheet = Sheet::telling(rt, errand.form(), read, errand.extras.watcher, is_long);
+    let mut out = Watched::new(sheet);
+    let ended = run_over(rt, errand, &mut texts, &mut second, &mut out);
+    let inputs = Inputs::of(errand, (texts, second));
+    finish(rt, inputs, out.into_inner(), ended, read, errand)
 }
 
 // Serves the editor that has started the program, and answers the status.
