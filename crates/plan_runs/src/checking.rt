@@ -63,8 +63,8 @@ pub fn check<R: Files + Print + Eprint + Clock + AllocGlobal + Threads + Sync, I
         plans.old.readers.items plans.new.readers.items) }
 {
     let gate = Comparing::new(rt, extras.watcher);
-    let (found, status) = check_by_form(rt, plans, out, look, &gate, extras)?;
-    let status = judged(status, &found.checked.plan, look.strict);
+    let (found, by_plan) = check_by_form(rt, plans, out, look, &gate, extras)?;
+    let status = judged(by_plan, &found.checked.plan, look.strict);
     let wave = wave_of(rt.alloc(), &found.checked, look)?;
     let findings = findings_of(rt.alloc(), found, plans, look, extras);
     Ok(Ended {
