@@ -27,7 +27,7 @@ use given_runs::{
 };
 use growing_text::Text;
 use hints::{Found, NoWaves};
-use lint::{Oddity, oddities};
+use lint::oddities;
 use objects::{write_answer, write_check, write_order, write_scores};
 use order::{Called, Order, order_report, order_summary, scores_of};
 use plan_core::Plan;
@@ -63,8 +63,8 @@ pub fn check<R: Files + Print + Eprint + Clock + AllocGlobal + Threads + Sync, I
         plans.old.readers.items plans.new.readers.items) }
 {
     let gate = Comparing::new(rt, extras.watcher);
-    let (found, status) = check_by_form(rt, plans, out, look, &gate, extras)?;
-    let status = judged(status, &found.checked.plan, look.strict);
+    let (found, by_plan) = check_by_form(rt, plans, out, look, &gate, extras)?;
+    let status = judged(by_plan, &found.checked.plan, look.strict);
     let wave = wave_of(rt.alloc(), &found.checked, look)?;
     let findings = findings_of(rt.alloc(), found, plans, look, extras);
     Ok(Ended {
@@ -250,20 +250,6 @@ fn write_in_form<I: Input, O: Output>(
     }
 }
 
-fn odd_in<'a>(
-    alloc: Global,
-    plan: &'a Plan,
-    provenance: &'a Provenance,
-) -> Result<Vec<Oddity<'a>>, AllocError> {
-    oddities(
-        alloc,
-        plan,
-        &provenance.origins,
-        provenance.texts.as_slice(),
-        &provenance.spans,
-    )
-}
-
 // Writes what is wrong as compilers do.
 fn write_messages<O: Output>(
     alloc: Global,
@@ -276,9 +262,10 @@ fn write_messages<O: Output>(
     requires { AreFaults (plan_contents checked.now.plan) (fault_list checked.now.faults) }
 {
     let texts = provenance.texts.as_slice();
-    let odd = odd_in(alloc, &checked.plan, provenance)?;
+    let spans = &provenance.spans;
+    let odd = oddities(alloc, &checked.plan, &provenance.origins, texts, spans)?;
     let odd = odd.as_slice();
-    let found = diagnose_check(alloc, words, checked, odd, strict, texts, &provenance.spans)?;
+    let found = diagnose_check(alloc, words, checked, odd, strict, texts, spans)?;
     let lines = message_lines(alloc, words, found.as_slice(), texts)?;
     write_lines(out, lines.as_bytes(), status_of(checked.faults.is_safe()))
 }
@@ -349,7 +336,8 @@ fn tell_checked<O: Output>(
     let status = status_of(checked.faults.is_safe());
     match (style, reasons.as_ref()) {
         (Style::Objects, reasons) => {
-            let odd = odd_in(alloc, &checked.plan, provenance)?;
+            let texts = provenance.texts.as_slice();
+            let odd = oddities(alloc, &checked.plan, &provenance.origins, texts)?;
             write_check(alloc, checked, words, odd.as_slice(), reasons, detail, out)?;
             Ok(status)
         }

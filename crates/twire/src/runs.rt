@@ -57,13 +57,12 @@ fn run_words<R: Files + Env + Input + Print + Eprint + AllocGlobal + Threads + W
                 manner,
             },
         ) => {
-            let watcher = watcher_of(rt, request, further.as_slice(), terminals);
             let errand = Errand {
                 request: request.with_drives(drives.as_slice()),
                 further: further.as_slice(),
-                extras: extras_of(rt, manner, terminals, watcher),
+                extras: extras_of(rt, manner, terminals),
             };
-            Ok(do_errand(rt, errand))
+            Ok(do_errand(rt, watched(rt, errand, terminals)))
         }
         Ok(Asked::Serve(further)) => serve_editor(rt, further.as_slice()),
         Ok(Asked::Show(text)) => show(rt, text.as_str()),
@@ -73,12 +72,7 @@ fn run_words<R: Files + Env + Input + Print + Eprint + AllocGlobal + Threads + W
     }
 }
 
-fn extras_of<R: Env + AllocGlobal>(
-    rt: &R,
-    manner: Manner,
-    terminals: Terminals,
-    watcher: Watcher,
-) -> Extras {
+fn extras_of<R: Env + AllocGlobal>(rt: &R, manner: Manner, terminals: Terminals) -> Extras {
     let take_colors = takes_colors(rt);
     Extras {
         // (a message of a compiler says what a hint does)
@@ -89,48 +83,35 @@ fn extras_of<R: Env + AllocGlobal>(
         colors_out: are_wanted(manner.colors, terminals.out && take_colors),
         colors_err: are_wanted(manner.colors, terminals.err && take_colors),
         format: manner.format,
-        watcher,
+        watcher: Watcher::nobody(terminals.out),
     }
 }
 
-// Who sees how far a run is that may be long. While somebody types what is read, a line beside it would be in the way.
-fn watcher_of<R: Clock>(
-    rt: &R,
-    request: Request<'_>,
-    further: &[&str],
-    terminals: Terminals,
-) -> Watcher {
-    match files_of(request) {
-        Some((one, other))
-            if terminals.err && !(terminals.input && names_input(one, other, further)) => {
-            Watcher::now(rt, terminals.out)
-        }
-        _ => Watcher::nobody(terminals.out),
+// Somebody sees how far a run is that may be long. While somebody types what is read, a line beside it would be in the way.
+fn watched<'a, R: Clock>(rt: &R, errand: Errand<'a>, terminals: Terminals) -> Errand<'a> {
+    if !terminals.err || !may_be_long(errand) || terminals.input && reads_input(errand) {
+        return errand;
+    }
+    let extras = Extras {
+        watcher: Watcher::now(rt, terminals.out),
+        ..errand.extras
+    };
+    Errand { extras, ..errand }
+}
+
+fn may_be_long(errand: Errand<'_>) -> bool {
+    match errand.request {
+        Request::Order { .. } | Request::Bench { .. } => false,
+        Request::Rewrite { .. } => errand.rewrites(Rewriting::Certify),
+        _ => true,
     }
 }
 
-fn names_input(one: &str, other: &str, further: &[&str]) -> bool {
-    is_standard_input(one)
-        || is_standard_input(other)
-        || further.iter().any(|path| is_standard_input(path))
-}
-
-// The files of a run that may be long.
-fn files_of(request: Request<'_>) -> Option<(&str, &str)> {
-    match request {
-        Request::Check { plan, .. }
-        | Request::Rewrite {
-            file: plan,
-            rewriting: Rewriting::Certify,
-            ..
-        } => Some((plan, plan)),
-        Request::Verify { plan, cert, .. } => Some((plan, cert)),
-        Request::Capture { plan, vcd, .. } => Some((plan, vcd)),
-        Request::Decode { vcd, .. } | Request::Signals { vcd, .. } => Some((vcd, vcd)),
-        Request::Learn { vcd, names, .. } => Some((vcd, names.unwrap_or(vcd))),
-        Request::Page { plan, capture, .. } => Some((plan, capture.unwrap_or(plan))),
-        _ => None,
-    }
+fn reads_input(errand: Errand<'_>) -> bool {
+    let named = errand.named().first;
+    is_standard_input(named.path)
+        || is_standard_input(errand.second().unwrap_or(named).path)
+        || errand.further.iter().any(|path| is_standard_input(path))
 }
 
 // Whether the environment says nothing against colours, as NO_COLOR does where it has anything in it.
