@@ -337,7 +337,8 @@ fn tell_checked<O: Output>(
     match (style, reasons.as_ref()) {
         (Style::Objects, reasons) => {
             let texts = provenance.texts.as_slice();
-            let odd = oddities(alloc, &checked.plan, &provenance.origins, texts)?;
+            let spans = &provenance.spans;
+            let odd = oddities(alloc, &checked.plan, &provenance.origins, texts, spans)?;
             write_check(alloc, checked, words, odd.as_slice(), reasons, detail, out)?;
             Ok(status)
         }
