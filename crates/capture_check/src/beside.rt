@@ -51,13 +51,13 @@ fn has(mask: u32, number: usize) -> bool {
     }
 }
 
-/// A sample of the bus, what happens there, and whether a transaction goes on before and after it.
+/// A sample of the bus, what happens there, and whether a transaction goes on, or begins.
 #[derive(Clone, Copy)]
 pub struct Moment<'a> {
     pub sample: &'a Sample,
     pub event: Option<Event>,
-    pub was_busy: bool,
     pub is_busy: bool,
+    pub begins: bool,
 }
 
 /// Who is told what a capture shows, beside its transactions. Each call may do nothing.
@@ -67,7 +67,7 @@ pub trait Beside: Tokens {
         Ok(())
     }
 
-    /// The bus is followed to this sample.
+    /// The bus is followed to this sample. A transaction that ends there is told after it.
     #[inline(always)]
     fn reach(&mut self, _moment: Moment<'_>) -> Result<(), AllocError> {
         Ok(())

@@ -49,7 +49,7 @@ impl Follower {
         let mut found = Vec::new(alloc);
         for sample in samples {
             if let Some(transaction) = self.next(alloc, sample, beside)? {
-                found.push(transaction)?;
+                found.push(with_drove(transaction, beside))?;
             }
         }
         Ok(found)
@@ -67,19 +67,17 @@ impl Follower {
             before (recorded_option ended) (transactions_behind (place_of self.new) more)
             ≡ transactions_behind (place_of self.old) (sample.now ∷ more)) }
     {
-        let was_busy = self.listener.is_busy();
         let event = self.watch.next(sample);
-        let ended = match &event {
-            Some(event) => self.listener.next(alloc, event)?,
-            None => None,
-        };
         beside.reach(Moment {
             sample,
             event,
-            was_busy,
             is_busy: self.listener.is_busy(),
+            begins: self.listener.begins_with(event),
         })?;
-        Ok(with_drove(ended, beside))
+        match event {
+            Some(event) => self.listener.next(alloc, &event),
+            None => Ok(None),
+        }
     }
 
     /// The transactions that end within the last samples, and the one that goes on at the end of the capture, if any. Then
@@ -96,8 +94,7 @@ impl Follower {
     {
         let found = self.follow(alloc, samples, beside)?;
         self.watch.forget();
-        let last = with_drove(self.listener.end(), beside);
-        let all = with_last(found, last)?;
+        let all = with_last(found, self.listener.end(), beside)?;
         Ok(all)
     }
 
@@ -113,32 +110,29 @@ impl Follower {
 }
 
 // These, and the last one, if any.
-fn with_last(
+fn with_last<B: Beside>(
     mut found: Vec<Transaction>,
     last: Option<Transaction>,
+    beside: &mut B,
 ) -> Result<Vec<Transaction>, AllocError>
     ensures { IfOk result (λ all.
         map recorded all.items ≡ map recorded found.items ++ before (recorded_option last) []) }
 {
     match last {
         Some(transaction) => {
-            found.push(transaction)?;
+            found.push(with_drove(transaction, beside))?;
             Ok(found)
         }
         None => Ok(found),
     }
 }
 
-// The same transaction, if any, with who pulled SDA in it.
+// The same transaction, with who pulled SDA in it.
 #[inline(always)]
-fn with_drove<B: Beside>(ended: Option<Transaction>, beside: &mut B) -> Option<Transaction>
-    ensures { recorded_option result ≡ recorded_option ended }
+fn with_drove<B: Beside>(transaction: Transaction, beside: &mut B) -> Transaction
+    ensures { recorded result ≡ recorded transaction }
 {
-    match ended {
-        Some(mut transaction) => {
-            transaction.drove = beside.take_drove();
-            Some(transaction)
-        }
-        None => None,
-    }
+    let mut transaction = transaction;
+    transaction.drove = beside.take_drove();
+    transaction
 }

@@ -141,6 +141,14 @@ impl Listener {
         matches!(self.heard, Heard::Busy(..))
     }
 
+    /// Whether a transaction begins with the next event.
+    pub fn begins_with(&self, event: Option<Event>) -> bool {
+        match event {
+            Some(event) => event.what == What::Start && matches!(self.heard, Heard::Free),
+            None => false,
+        }
+    }
+
     /// How many bits have followed the STOP of the last transaction, as long as both levels were known.
     pub fn idle(&self) -> u64 {
         self.idle

@@ -265,16 +265,16 @@ impl Beside for Drivers {
         let Moment {
             sample,
             event,
-            was_busy,
             is_busy,
+            begins,
         } = moment;
         self.go_to(sample.time);
         if self.is_starting && sample.scl == Level::Low {
             self.end_start();
         }
         match event {
-            Some(event) if was_busy => self.go_on(event)?,
-            Some(_) if is_busy => self.begin(),
+            Some(event) if is_busy => self.go_on(event)?,
+            Some(_) if begins => self.begin(),
             _ => {}
         }
         Ok(())

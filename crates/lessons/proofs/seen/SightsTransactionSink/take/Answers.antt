@@ -5,11 +5,11 @@ use Rattle.lessons.specs.Seen.{Sees}
 use Rattle.lessons.proofs.SeenLemmas.{sees_next}
 use Rattle.lessons.proofs.seen.SightsTransactionSink.take.Goals as goal
 
-pub loop-number-preserved : goal.loop-number-preserved
-loop-number-preserved c =
+pub loop-transaction-preserved : goal.loop-transaction-preserved
+loop-transaction-preserved c =
     let ts = c.args.transactions.now in
-    let i = c.loop-number.number in
-    let b = c.loop-number.self in
+    let i = c.loop-transaction.transaction-index in
+    let b = c.loop-transaction.self in
     let within : i < length ts = omega arith in
-    sees_next c.args.self.now b c.see.new.self ts i c.index-transactions-number.result within c.loop-number.invariant
-    (subst (λ (t : Transaction). Sees b (recorded t ∷ []) c.see.new.self) c.index-transactions-number.is c.in_ok-see.ensures)
+    sees_next c.args.self.now b c.see.new.self ts i c.transaction-item.result within c.loop-transaction.invariant
+    (subst (λ (t : Transaction). Sees b (recorded t ∷ []) c.see.new.self) c.transaction-item.is c.in_ok-see.ensures)

@@ -4,5 +4,5 @@ use Rattle.lessons.specs.Seen.{Sees}
 use Rattle.lessons.proofs.seen.SightsTransactionSink.take.Given as goal
 
 -- the first transactions were seen
-abbrev pub invariant-loop-number : goal.invariant-loop-number
-invariant-loop-number l = Sees l.initial.self (map recorded (take l.number l.transactions)) l.self
+abbrev pub invariant-loop-transaction : goal.invariant-loop-transaction
+invariant-loop-transaction l = Sees l.initial.self (map recorded (take l.transaction-index l.transactions)) l.self
