@@ -95,12 +95,12 @@ calls "a brief that is refused, with another one" 2 "$(whole empty)"$'\n'"err $(
 calls "a brief whose further one is refused" 2 "$(whole brief empty)"$'\n'"err $(printf 'refused P2 line 1 of empty\n' | wc -c)" \
     verify brief --with empty cert
 
-# ---- a file or a report that fails at once. A file that fails is asked once more, for the system's words.
+# ---- a file or a report that fails at once. A file that fails is not asked once more: its reader keeps the system's words.
 
 mkdir folder
-calls "check of a folder" 2 $'folder -\nfolder -\nerr 13' check folder
-calls "verify, the certificate a folder" 2 "$(whole plan)"$'\nfolder -\nfolder -\nerr 13' verify plan folder
-calls "capture, the dump a folder" 2 "$(whole plan)"$'\nfolder -\nfolder -\nerr 13' capture plan folder
+calls "check of a folder" 2 $'folder -\nerr 13' check folder
+calls "verify, the certificate a folder" 2 "$(whole plan)"$'\nfolder -\nerr 13' verify plan folder
+calls "capture, the dump a folder" 2 "$(whole plan)"$'\nfolder -\nerr 13' capture plan folder
 out_file=/dev/full
 calls "check, where nothing can be written" 2 "$(whole plan)"$'\nout -\nerr 14' check plan
 calls "verify, where nothing can be written" 2 "$(whole plan cert)"$'\nout -\nerr 14' verify plan cert

@@ -8,13 +8,14 @@ ghost use Rattle.bench_run.specs.Rehearsals.{RefusesStarters};
 
 use crate::gates::Gate;
 use crate::rounds::play_all;
-use crate::starters::numbers_of;
+use crate::starters::{labels_of, numbers_of};
 use crate::values::{Outcome, Rehearsal, Unplayed};
 use bus_bench::{Played, open_bench};
 use cert_check::{Accepted, accept_certificate};
 use plan_core::Plan;
+use plays::{OpenError, refused_among};
 use run_parts::RunError;
-use std::alloc::Global;
+use std::alloc::{AllocError, Global};
 use std::sync::Wait;
 use std::thread::Threads;
 use std::time::Clock;
@@ -68,8 +69,9 @@ fn rehearse_accepted<R: Threads + Wait + Clock + Sync, G: Gate + Sync>(
             fill,
             played,
         })),
-        Err(error) => Err(Unplayed {
+        Err(Unplayed { error, refused, .. }) => Err(Unplayed {
             error,
+            refused,
             plan: Some(accepted.into_plan()),
         }),
     }
@@ -84,14 +86,29 @@ fn play<R: Threads + Wait + Clock + Sync, G: Gate + Sync>(
     fill: bool,
     answers: &[bool],
     gate: &G,
-) -> Result<(Vec<u32>, Played), RunError>
+) -> Result<(Vec<u32>, Played), Unplayed>
     ensures run { IfOk result (λ r. IsRunOf (plan_contents (accepted_plan accepted.now))
         starters.now answers.now fill r.0.items r.1) }
     ensures winners { IfOk result (λ r. AreParticipants (plan_contents (accepted_plan accepted.now)) r.1.won.items) }
-    ensures refused { IfErr result (RefusesStarters (plan_contents (accepted_plan accepted.now)) starters.now) }
+    ensures refused { IfErr result (λ e. RefusesStarters (plan_contents (accepted_plan accepted.now)) starters.now e.error) }
 {
-    let numbers = numbers_of(alloc, accepted.plan(), starters)?;
-    let (bench, host, seats) = open_bench(alloc, accepted, numbers.as_slice(), answers)?;
-    let played = play_all(rt, alloc, bench, host, seats, fill, gate)?;
-    Ok((numbers, played))
+    let labels = labels_of(alloc, starters)?;
+    let numbers = numbers_of(alloc, accepted.plan(), labels.as_slice())?;
+    match open_bench(alloc, accepted, numbers.as_slice(), answers) {
+        Ok((bench, host, seats)) => {
+            let played = play_all(rt, alloc, bench, host, seats, fill, gate)?;
+            Ok((numbers, played))
+        }
+        Err(OpenError::NoMemory) => Err(Unplayed::from(AllocError)),
+        Err(error) => Err(Unplayed {
+            error: RunError::Bench(error),
+            refused: refused_among(
+                alloc,
+                accepted.plan(),
+                labels.as_slice(),
+                numbers.as_slice(),
+            )?,
+            plan: None,
+        }),
+    }
 }

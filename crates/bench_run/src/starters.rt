@@ -8,26 +8,35 @@ ghost use Rattle.bench_run.specs.Starters.{labels_in, IsNumberOf, AreNumbersOf, 
 use plan_core::Plan;
 use std::alloc::{AllocError, Global};
 
-/// The participants with these labels, which commas part. The empty text has none. In place of a label that the plan
-/// does not have stands a number that no participant has.
-pub(crate) fn numbers_of(alloc: Global, plan: &Plan, starters: &str) -> Result<Vec<u32>, AllocError>
-    ensures { IfOk result (λ v. AreNumbersOf (plan_contents plan.now) (labels_in starters.now) v.items) }
+/// The labels of this text, which commas part. The empty text has none.
+pub(crate) fn labels_of(alloc: Global, starters: &str) -> Result<Vec<&str>, AllocError>
+    ensures { IfOk result (λ v. map (λ x. x.now) v.items ≡ labels_in starters.now) }
 {
     if starters.is_empty() {
         return Ok(Vec::new(alloc));
     }
-    let labels = labels_of(alloc, starters)?;
+    split(alloc, starters)
+}
+
+fn split(alloc: Global, starters: &str) -> Result<Vec<&str>, AllocError>
+    ensures { IfOk result (λ v. map (λ x. x.now) v.items ≡ slice_split (λ b. b == 44) starters.now) }
+{
+    starters.split(',').collect(alloc)
+}
+
+/// The participants with these labels. In place of a label that the plan does not have stands a number that no participant has.
+pub(crate) fn numbers_of(
+    alloc: Global,
+    plan: &Plan,
+    labels: &[&str],
+) -> Result<Vec<u32>, AllocError>
+    ensures { IfOk result (λ v. AreNumbersOf (plan_contents plan.now) (map (λ x. x.now) labels.now) v.items) }
+{
     let mut numbers = Vec::new(alloc);
     for label in labels {
         numbers.push(number_of(plan, label))?;
     }
     Ok(numbers)
-}
-
-fn labels_of(alloc: Global, starters: &str) -> Result<Vec<&str>, AllocError>
-    ensures { IfOk result (λ v. map (λ x. x.now) v.items ≡ slice_split (λ b. b == 44) starters.now) }
-{
-    starters.split(',').collect(alloc)
 }
 
 fn number_of(plan: &Plan, label: &str) -> u32

@@ -6,6 +6,7 @@ ghost use Rattle.run_parts.specs.declared.errors.RunError.TheVariants.{NoMemory}
 use bus_bench::Played;
 use cert_check::{Accepted, Answered};
 use plan_core::Plan;
+use plays::RefusedStarters;
 use run_parts::RunError;
 use std::alloc::AllocError;
 
@@ -28,10 +29,11 @@ pub enum Outcome {
     NotAccepted(Answered),
 }
 
-/// Why a plan is not rehearsed, and the plan, where its starters are refused.
+/// Why a plan is not rehearsed. Where its starters are refused: for which of them, and the plan.
 #[derive(Drop)]
 pub struct Unplayed {
     pub error: RunError,
+    pub refused: Option<RefusedStarters>,
     pub plan: Option<Plan>,
 }
 
@@ -41,6 +43,7 @@ impl From<AllocError> for Unplayed {
     fn from(_error: AllocError) -> Unplayed {
         Unplayed {
             error: RunError::NoMemory,
+            refused: None,
             plan: None,
         }
     }

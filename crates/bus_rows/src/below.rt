@@ -1,6 +1,6 @@
 // Lines below a line of a report: each begins with four spaces, and one that would be too long is broken between words.
 
-use growing_text::{COLUMNS, Lines, Text};
+use growing_text::{COLUMNS, Lines, Part, Sentence, Text};
 
 // What stands before the space of the first word of a line, and the same with the columns of a title, of which there are at
 // most 24.
@@ -8,8 +8,8 @@ const MARGIN: &str = "   ";
 
 const WIDE_MARGIN: &str = "                           ";
 
-/// Begins a line.
-pub fn begin(lines: &mut Lines) {
+// Begins a line.
+fn begin(lines: &mut Lines) {
     lines.begin(MARGIN, MARGIN);
 }
 
@@ -30,17 +30,17 @@ pub fn begin_titled(lines: &mut Lines, title: &str, columns: usize) {
     }
 }
 
-/// These words, on as many lines as they need.
-pub fn say(lines: &mut Lines, words: &str) {
+/// The words of a template and its parts, on as many lines as they need.
+pub fn say(lines: &mut Lines, template: &'static str, parts: &[Part<'_>]) {
     begin(lines);
-    lines.words(words);
+    lines.tell(template, parts);
     lines.end();
 }
 
-/// The same with words that were gathered.
-pub fn say_all(lines: &mut Lines, words: Text) {
+/// The same with a sentence.
+pub fn say_all(lines: &mut Lines, sentence: &Sentence) {
     begin(lines);
-    lines.words_made(words.finish());
+    lines.sentence(sentence);
     lines.end();
 }
 

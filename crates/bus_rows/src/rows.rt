@@ -3,7 +3,7 @@
 use crate::below::{begin_titled, room_after};
 use crate::sending::deed;
 use crate::words::{Bytes, Extent};
-use growing_text::Lines;
+use growing_text::{Lines, Part};
 use places::Offered;
 
 // How many columns titles have at most that stand beside the words of rows.
@@ -125,7 +125,7 @@ impl Row<'_> {
 /// The rows, each on one line, with their words beside the titles. Where one of them has no room, a count with this stands for
 /// bytes after its first one, for the same ones in each row: what all send alike stays one below the other. Long titles have
 /// lines of their own, and so have shorter ones where the rows have no room beside them.
-pub fn tell_rows(lines: &mut Lines, rows: &[Row<'_>], said: &str) {
+pub fn tell_rows(lines: &mut Lines, rows: &[Row<'_>], said: &'static str) {
     let shape = shape_of(rows);
     let width = aligned(rows, shape);
     for row in rows {
@@ -187,14 +187,13 @@ fn shown_in(rows: &[Row<'_>], room: usize) -> Option<usize> {
 }
 
 // A row, without the words up to the one that is shown. What comes next stands after so many columns of words.
-fn tell_row(lines: &mut Lines, row: Row<'_>, shown: usize, width: usize, said: &str) {
+fn tell_row(lines: &mut Lines, row: Row<'_>, shown: usize, width: usize, said: &'static str) {
     for k in 0..row.words.count() {
         if k < KEPT || shown <= k {
             lines.word(row.words.word(k));
         } else if k == KEPT {
-            lines.word("..");
-            lines.number(row.left_out(shown).bytes as u64, "");
-            lines.words(said);
+            let bytes = row.left_out(shown).bytes as u64;
+            lines.tell(".. {} {}", &[Part::Number(bytes), Part::Words(said)]);
         }
     }
     if let Some(next) = row.next {
@@ -203,7 +202,7 @@ fn tell_row(lines: &mut Lines, row: Row<'_>, shown: usize, width: usize, said: &
         }
         lines.word("");
         lines.word(NEXT);
-        lines.words(next);
+        lines.tell(next, &[]);
     }
     lines.end();
 }

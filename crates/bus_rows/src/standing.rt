@@ -1,7 +1,7 @@
 // Lines that say where what participants send stands in briefs.
 
-use crate::below::{begin, say};
-use growing_text::{Lines, Text};
+use crate::below::say;
+use growing_text::{Lines, Part, Text};
 use plan_words::{FileLine, PlanWords};
 use std::alloc::{AllocError, Global};
 
@@ -32,14 +32,11 @@ pub fn tell_places(alloc: Global, lines: &mut Lines, words: PlanWords<'_>, both:
 fn tell_one(alloc: Global, lines: &mut Lines, place: FileLine<'_>) -> Result<(), AllocError> {
     let place = spelled(alloc, place)?;
     if is_long(place.as_str()) {
-        say(lines, "see this line:");
+        say(lines, "see this line:", &[]);
         tell_place(lines, place.as_str());
         return Ok(());
     }
-    begin(lines);
-    lines.word("see");
-    lines.word(place.as_str());
-    lines.end();
+    say(lines, "see {}", &[Part::Name(place.as_str())]);
     Ok(())
 }
 
@@ -53,32 +50,31 @@ fn tell_two(
     let first = spelled(alloc, first)?;
     let second = spelled(alloc, second)?;
     if is_long(first.as_str()) {
-        say(lines, "see these lines:");
+        say(lines, "see these lines:", &[]);
         tell_place(lines, first.as_str());
         tell_place(lines, second.as_str());
         return Ok(());
     }
-    begin(lines);
-    lines.word("see");
-    lines.word(first.as_str());
-    lines.word("and");
-    lines.word(second.as_str());
-    lines.end();
+    let both = [Part::Name(first.as_str()), Part::Name(second.as_str())];
+    say(lines, "see {} and {}", &both);
     Ok(())
 }
 
 // A place on a line of its own.
 fn tell_place(lines: &mut Lines, place: &str) {
-    begin(lines);
-    lines.word(place);
-    lines.end();
+    say(lines, "{}", &[Part::Name(place)]);
 }
 
 fn is_long(place: &str) -> bool {
     PLACE < place.chars().count()
 }
 
-fn spelled(alloc: Global, place: FileLine<'_>) -> Result<String, AllocError> {
+/// `FILE:LINE`.
+///
+/// # Errors
+///
+/// Where an allocation fails.
+pub fn spelled(alloc: Global, place: FileLine<'_>) -> Result<String, AllocError> {
     let mut text = Text::new(alloc);
     place.push_to(&mut text);
     text.finish()

@@ -11,5 +11,5 @@ pub mod telling;
 mod writing;
 
 pub use lines::{push_count, push_transaction};
-pub use runs::write_decoded;
+pub use runs::{write_decoded, write_decoded_beside};
 pub use writing::ByteCounts;

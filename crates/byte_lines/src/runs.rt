@@ -6,10 +6,11 @@ ghost use Rattle.vcd_read.specs.Views.{asked};
 
 use crate::telling::ByteTelling;
 use crate::writing::{ByteCounts, ByteWriting, write_last};
-use decoding::decode;
+use capture_check::Beside;
+use decoding::decode_beside;
 use run_parts::{Input, Output, RunError};
 use std::alloc::Global;
-use vcd_read::{Probe, Wrong};
+use vcd_read::{Nobody, Probe, Wrong};
 
 /// Writes the transactions of the dump that the reader gives, in bytes, without the levels that a line has for less than `least`,
 /// in the unit of the dump. It writes while it reads, in blocks, or live: then the lines of what has ended in a block of the dump
@@ -36,12 +37,36 @@ pub fn write_decoded<J: Input, O: Output>(
     ensures stops { IfErr result (λ error.
         HaltsDecoded least (asked scl.entry) (asked sda.entry) J.reader O.writer vcd.old out.old live error vcd.new out.new) }
 {
+    write_decoded_beside(alloc, vcd, out, scl, sda, least, live, &mut Nobody, wrong)
+}
+
+/// The same, beside another who is told of what is read.
+///
+/// # Errors
+///
+/// Those of `write_decoded`, and `NoMemory` where the other one answers that.
+pub fn write_decoded_beside<J: Input, O: Output, B: Beside>(
+    alloc: Global,
+    vcd: &mut J,
+    out: &mut O,
+    scl: Probe<'_>,
+    sda: Probe<'_>,
+    least: u64,
+    live: bool,
+    beside: &mut B,
+    wrong: &mut Option<Wrong>,
+) -> Result<ByteCounts, RunError>
+    ensures report { IfOk result (λ it.
+        TellsDecoded least (asked scl.entry) (asked sda.entry) J.reader O.writer vcd.old out.old it vcd.new out.new) }
+    ensures stops { IfErr result (λ error.
+        HaltsDecoded least (asked scl.entry) (asked sda.entry) J.reader O.writer vcd.old out.old live error vcd.new out.new) }
+{
     let mut lines = ByteWriting {
         out,
         telling: ByteTelling::new(alloc),
         live,
     };
-    let ended = decode(alloc, vcd, scl, sda, least, &mut lines, wrong);
+    let ended = decode_beside(alloc, vcd, scl, sda, &[], least, &mut lines, beside, wrong);
     let ByteWriting {
         out,
         telling,

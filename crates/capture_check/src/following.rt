@@ -4,6 +4,7 @@ ghost use Rattle.std.specs.Prelude.{◌≡◌, [], ◌++◌, IfOk, map};
 ghost use Rattle.capture_check.specs.Transactions.{before};
 ghost use Rattle.capture_check.specs.Views.{recorded, recorded_option};
 
+use crate::beside::{Beside, Moment};
 use crate::listening::{Listener, Transaction};
 use crate::watching::{Rises, Watch};
 use std::alloc::{AllocError, Global};
@@ -33,12 +34,13 @@ impl Follower {
         }
     }
 
-    /// The transactions that end within these samples, in order. Where an allocation fails, what was followed so far is
-    /// lost.
-    pub fn follow(
+    /// The transactions that end within these samples, in order. Another is told of each sample. Where an allocation fails,
+    /// what was followed so far is lost.
+    pub fn follow<B: Beside>(
         &mut self,
         alloc: Global,
         samples: &[Sample],
+        beside: &mut B,
     ) -> Result<Vec<Transaction>, AllocError>
         ensures { IfOk result (λ found. (more : List Sample) →
             map recorded found.items ++ transactions_behind (place_of self.new) more
@@ -46,7 +48,7 @@ impl Follower {
     {
         let mut found = Vec::new(alloc);
         for sample in samples {
-            if let Some(transaction) = self.next(alloc, sample)? {
+            if let Some(transaction) = self.next(alloc, sample, beside)? {
                 found.push(transaction)?;
             }
         }
@@ -54,31 +56,48 @@ impl Follower {
     }
 
     // The transaction that ends with the next sample, if any.
-    fn next(&mut self, alloc: Global, sample: &Sample) -> Result<Option<Transaction>, AllocError>
+    #[inline(always)]
+    fn next<B: Beside>(
+        &mut self,
+        alloc: Global,
+        sample: &Sample,
+        beside: &mut B,
+    ) -> Result<Option<Transaction>, AllocError>
         ensures { IfOk result (λ ended. (more : List Sample) →
             before (recorded_option ended) (transactions_behind (place_of self.new) more)
             ≡ transactions_behind (place_of self.old) (sample.now ∷ more)) }
     {
-        match self.watch.next(sample) {
-            Some(event) => self.listener.next(alloc, &event),
-            None => Ok(None),
-        }
+        let was_busy = self.listener.is_busy();
+        let event = self.watch.next(sample);
+        let ended = match &event {
+            Some(event) => self.listener.next(alloc, event)?,
+            None => None,
+        };
+        beside.reach(Moment {
+            sample,
+            event,
+            was_busy,
+            is_busy: self.listener.is_busy(),
+        })?;
+        Ok(with_drove(ended, beside))
     }
 
     /// The transactions that end within the last samples, and the one that goes on at the end of the capture, if any. Then
     /// nothing is known of the bus, as at first; what was counted is kept.
-    pub fn follow_to_end(
+    pub fn follow_to_end<B: Beside>(
         &mut self,
         alloc: Global,
         samples: &[Sample],
+        beside: &mut B,
     ) -> Result<Vec<Transaction>, AllocError>
         ensures found { IfOk result (λ found.
             map recorded found.items ≡ transactions_behind (place_of self.old) samples.now) }
         ensures left { OnOk result (place_of self.new ≡ at_the_start) }
     {
-        let found = self.follow(alloc, samples)?;
+        let found = self.follow(alloc, samples, beside)?;
         self.watch.forget();
-        let all = with_last(found, self.listener.end())?;
+        let last = with_drove(self.listener.end(), beside);
+        let all = with_last(found, last)?;
         Ok(all)
     }
 
@@ -107,5 +126,19 @@ fn with_last(
             Ok(found)
         }
         None => Ok(found),
+    }
+}
+
+// The same transaction, if any, with who pulled SDA in it.
+#[inline(always)]
+fn with_drove<B: Beside>(ended: Option<Transaction>, beside: &mut B) -> Option<Transaction>
+    ensures { recorded_option result ≡ recorded_option ended }
+{
+    match ended {
+        Some(mut transaction) => {
+            transaction.drove = beside.take_drove();
+            Some(transaction)
+        }
+        None => None,
     }
 }

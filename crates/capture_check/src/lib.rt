@@ -2,11 +2,13 @@
 //! a plan explain them.
 //!
 //! `watching` goes from samples to events and `listening` from events to transactions, each by a value that goes on from
-//! one to the next and by a call for whole lists; `following` does both, for captures that are read in blocks. `texts`
+//! one to the next and by a call for whole lists; `following` does both, for captures that are read in blocks, and tells
+//! who stands `beside`, as who follows what controllers pull. `texts`
 //! follows the marks of a transaction through a message, `explaining` asks each participant, and `workers` explains many
 //! transactions by several threads. `laws` says of which transactions the runs of a plan are the explanation.
 #![tactic(auto)]
 
+pub mod beside;
 mod bits;
 pub mod explaining;
 pub mod following;
@@ -16,6 +18,7 @@ mod texts;
 pub mod watching;
 pub mod workers;
 
+pub use beside::{Beside, Drove, Moment};
 pub use explaining::explain;
 pub use following::Follower;
 pub use listening::{Listener, Mark, Transaction, Until, transactions};

@@ -4,6 +4,7 @@ ghost use Rattle.std.specs.Prelude.{◌≡◌, IfOk, map};
 ghost use Rattle.capture_check.specs.Transactions.{transactions_of};
 ghost use Rattle.capture_check.specs.Views.{recorded};
 
+use crate::beside::Drove;
 use crate::watching::{Event, What};
 use std::alloc::{AllocError, Global};
 use std::mem;
@@ -38,6 +39,8 @@ pub struct Transaction {
     pub marks: Vec<Mark>,
     /// How many bits followed the STOP of the one before it, as long as both levels were known.
     pub idle: u64,
+    /// Who pulled SDA, where lines are followed that say so.
+    pub drove: Option<Drove>,
 }
 
 // What is known of the bus.
@@ -119,6 +122,7 @@ impl Listener {
                 until,
                 marks,
                 idle: mem::replace(&mut self.idle, 0),
+                drove: None,
             }),
             _ => None,
         }

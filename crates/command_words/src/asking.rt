@@ -2,10 +2,11 @@
 
 use crate::building::program;
 use crate::capturing::{Options, drive_of};
+use crate::requests::{Capture, Format, Layout, Lesson, Look, Play, Request, Rewriting};
 use crate::table::COMMANDS;
 use clap::error::ErrorKind;
 use clap::{ArgMatches, Error};
-use dump_tokens::{Bus, Drive, Limits, Pulling};
+use dump_tokens::{Drive, Drives, Pulling};
 use std::alloc::{AllocError, Global};
 
 /// What a command line comes to.
@@ -29,144 +30,12 @@ pub enum Asked<'a> {
     Refuse(String),
 }
 
-/// A run of the program, with lines for people in its report where `explain` says so. `output` is the file to write, where it
-/// is not standard output.
-#[derive(Clone, Copy)]
-pub enum Request<'a> {
-    /// Whether a plan is safe.
-    Check {
-        plan: &'a str,
-        workers: u32,
-        /// How many groups of unsafe pairs are to be explained.
-        explain: Option<u32>,
-        /// Whether these stand there without the pairs.
-        summary: bool,
-        /// Whether a safe plan is good only where all of it was looked at.
-        strict: bool,
-        /// The file for the waves of an unsafe pair: of the first one, or of the one with this number.
-        wave: Option<&'a str>,
-        pair: Option<u32>,
-    },
-    /// The certificate of a plan.
-    Certify {
-        plan: &'a str,
-        output: Option<&'a str>,
-    },
-    /// Whether a certificate is right for a plan.
-    Verify {
-        plan: &'a str,
-        cert: &'a str,
-        explain: bool,
-    },
-    /// A page that shows a plan, and a recorded bus where there is one.
-    Page {
-        plan: &'a str,
-        capture: Option<&'a str>,
-        bus: Bus<'a>,
-        output: Option<&'a str>,
-    },
-    /// Who wins arbitration.
-    Order {
-        plan: &'a str,
-        explain: bool,
-    },
-    /// Who of a plan explains a recorded bus.
-    Capture {
-        plan: &'a str,
-        vcd: &'a str,
-        bus: Bus<'a>,
-        explain: bool,
-        /// Whether all that has ended is written before the dump is read on.
-        live: bool,
-        /// Whether the first transaction that nobody explains ends the run.
-        stops: bool,
-        pulling: Pulling,
-    },
-    /// The transactions of a recorded bus, in bytes.
-    Decode {
-        vcd: &'a str,
-        bus: Bus<'a>,
-        live: bool,
-        /// The file for the waves of the bus.
-        wave: Option<&'a str>,
-    },
-    /// The signals of a dump.
-    Signals {
-        vcd: &'a str,
-        limits: Limits,
-    },
-    /// A brief of what was recorded, in which data after registers is put together if `merge` says so, and is any if `widen`
-    /// does. It is a further file of the brief `names`, where there is one.
-    Learn {
-        vcd: &'a str,
-        bus: Bus<'a>,
-        merge: bool,
-        widen: bool,
-        names: Option<&'a str>,
-        pulling: Pulling,
-        output: Option<&'a str>,
-    },
-    /// What these starters of an accepted plan do on a bus. Without a certificate one is to be made. The answers are bits, 0
-    /// and 1, and past their end each is `rest`.
-    Bench {
-        plan: &'a str,
-        cert: Option<&'a str>,
-        starters: &'a str,
-        fill: bool,
-        answers: &'a str,
-        rest: bool,
-        explain: bool,
-        /// The file for the waves of the run.
-        wave: Option<&'a str>,
-    },
-    /// The plan that a brief means, in its canonical spelling.
-    Expand {
-        brief: &'a str,
-        output: Option<&'a str>,
-    },
-    /// The canonical spelling of a plan.
-    Print {
-        plan: &'a str,
-        output: Option<&'a str>,
-    },
-    /// A brief of a plan.
-    Brief {
-        plan: &'a str,
-        output: Option<&'a str>,
-    },
-    /// A plan or a brief as it is laid out.
-    Format {
-        file: &'a str,
-        /// What becomes of it.
-        laid_out: LaidOut,
-    },
-}
-
-/// What becomes of a text that is laid out.
-#[derive(Clone, Copy, PartialEq, Eq)]
-pub enum LaidOut {
-    /// It goes to standard output.
-    Shown,
-    /// Its file gets it.
-    InPlace,
-    /// It is compared with the text as it was.
-    Compared,
-}
-
 /// Whether hints and colours are wanted with a run, and how what it says is written.
 #[derive(Clone, Copy)]
 pub struct Manner {
     pub hints: When,
     pub colors: When,
     pub format: Format,
-}
-
-/// How reports and refusals are written.
-#[derive(Clone, Copy, PartialEq, Eq)]
-pub enum Format {
-    Text,
-    Json,
-    Gcc,
 }
 
 /// When something for people is wanted.
@@ -208,44 +77,42 @@ const INPUT_OF_EDITOR: Fault = "standard input is the editor's, and none of the 
 
 // What clap says in place of a request, unless it had no memory.
 fn told<'a>(alloc: Global, words: &[String], error: &Error) -> Result<Asked<'a>, AllocError> {
-    if error.kind() == ErrorKind::OutOfMemory {
-        return Err(AllocError);
-    }
     let text = format!(in alloc; "{error}")?;
-    Ok(match error.kind() {
-        ErrorKind::DisplayVersion => Asked::Version(text),
-        ErrorKind::UnknownArgument => Asked::Refuse(match tip_of(alloc, words, text.as_str())? {
-            Some(tip) => with_tip(alloc, text.as_str(), tip)?,
-            None => text,
-        }),
-        _ if error.use_stderr() => Asked::Refuse(text),
-        _ => Asked::Show(text),
-    })
+    match error.kind() {
+        ErrorKind::OutOfMemory => Err(AllocError),
+        ErrorKind::DisplayVersion => Ok(Asked::Version(text)),
+        ErrorKind::UnknownArgument => Ok(Asked::Refuse(with_tip(alloc, words, text.as_str())?)),
+        _ if error.use_stderr() => Ok(Asked::Refuse(text)),
+        _ => Ok(Asked::Show(text)),
+    }
 }
 
 // What stands below the line of clap's that names a file too much.
-const FURTHER_FILES: &str = "\n\n  tip: further files of a brief follow by '--with FILE'";
+const FURTHER_FILES: &str = "tip: further files of a brief follow by '--with FILE'";
 
-const WRITTEN_FILE: &str = "\n\n  tip: the certificate is written to a file by '-o FILE'";
+const WRITTEN_FILE: &str = "tip: the certificate is written to a file by '-o FILE'";
 
-// What the word that is refused could be: a further file of a brief, for a command that takes these by an option, or the file
-// for a certificate.
-fn tip_of(alloc: Global, words: &[String], told: &str) -> Result<Option<&'static str>, AllocError> {
-    if !takes_further(words) {
-        return Ok(None);
+// The refusal of a word, with what that could be.
+fn with_tip(alloc: Global, words: &[String], told: &str) -> Result<String, AllocError> {
+    let (first, rest) = told.split_once('\n').unwrap_or((told, ""));
+    match tip_of(words, first) {
+        Some(tip) => format!(in alloc; "{first}\n\n  {tip}\n{rest}"),
+        None => String::from_str(alloc, told),
     }
-    for word in words.iter().skip(2) {
-        let word = word.as_str();
-        let head = format!(in alloc; "error: unexpected argument '{word}' found")?;
-        if !word.starts_with('-') && told.starts_with(head.as_str()) {
-            return Ok(Some(if has(words, "certify") && !word.ends_with(".brief") {
-                WRITTEN_FILE
-            } else {
-                FURTHER_FILES
-            }));
-        }
+}
+
+// What a word could be: a further file of a brief, for a command that takes these by an option, or the file for a certificate. An
+// error of clap's has its kind and a text alone, so the word is cut out of the first line of that.
+fn tip_of(words: &[String], first: &str) -> Option<&'static str> {
+    let (_, after) = first.split_once("error: unexpected argument '")?;
+    let word = after.trim_end_matches("' found");
+    if word.starts_with('-') || !takes_further(words) {
+        None
+    } else if has(words, "certify") && !word.ends_with(".brief") {
+        Some(WRITTEN_FILE)
+    } else {
+        Some(FURTHER_FILES)
     }
-    Ok(None)
 }
 
 // Whether one of the words is a command with this option.
@@ -260,12 +127,6 @@ fn takes_further(words: &[String]) -> bool {
 
 fn has(words: &[String], name: &str) -> bool {
     words.iter().any(|word| word.as_str() == name)
-}
-
-// What clap says, with a tip after its first line.
-fn with_tip(alloc: Global, told: &str, tip: &str) -> Result<String, AllocError> {
-    let (first, rest) = told.split_once('\n').unwrap_or((told, ""));
-    format!(in alloc; "{first}{tip}\n{rest}")
 }
 
 // ---- what clap found
@@ -355,9 +216,9 @@ fn manner_of(matches: &ArgMatches<'_>) -> Manner {
 
 fn format_of(word: Option<&str>) -> Format {
     match word {
-        Some("json") => Format::Json,
-        Some("gcc") => Format::Gcc,
-        _ => Format::Text,
+        Some("json") => Format::Objects,
+        Some("gcc") => Format::Messages,
+        _ => Format::Lines,
     }
 }
 
@@ -372,15 +233,29 @@ fn when_of(word: Option<&str>) -> When {
 fn request_of<'a>(name: &str, matches: &ArgMatches<'a>) -> Result<Request<'a>, Fault> {
     match name {
         "check" => check_of(matches),
-        "verify" => Ok(verify_of(matches)),
+        "verify" => Ok(Request::Verify {
+            plan: word(matches, "PLAN"),
+            cert: word(matches, "CERT"),
+            explain: matches.get_flag("explain"),
+        }),
         "order" => Ok(Request::Order {
             plan: word(matches, "PLAN"),
             explain: matches.get_flag("explain"),
         }),
-        "capture" | "decode" | "signals" | "learn" | "page" => recorded_of(name, matches),
+        "capture" => capture_of(matches),
+        "decode" => decode_of(matches),
+        "signals" => Ok(Request::Signals {
+            vcd: word(matches, "VCD"),
+            limits: options_of(matches)?.limits(),
+        }),
+        "learn" => learn_of(matches),
+        "page" => page_of(matches),
         "bench" => bench_of(matches),
         "format" => layout_of(matches),
-        _ => Ok(written_of(name, matches)),
+        "certify" => Ok(rewrite_of(matches, "PLAN", Rewriting::Certify)),
+        "expand" => Ok(rewrite_of(matches, "BRIEF", Rewriting::Expand)),
+        "brief" => Ok(rewrite_of(matches, "PLAN", Rewriting::Brief)),
+        _ => Ok(rewrite_of(matches, "PLAN", Rewriting::Print)),
     }
 }
 
@@ -405,14 +280,17 @@ fn wave_of<'a>(matches: &ArgMatches<'a>) -> Result<Option<&'a str>, Fault> {
 }
 
 fn check_of<'a>(matches: &ArgMatches<'a>) -> Result<Request<'a>, Fault> {
-    Ok(Request::Check {
-        plan: word(matches, "PLAN"),
+    let look = Look {
         workers: matches.get_one::<u32>("workers").unwrap_or(1),
         explain: most_of(matches),
         summary: matches.get_flag("summary"),
         strict: matches.get_flag("strict"),
         wave: wave_of(matches)?,
         pair: matches.get_one::<u32>("pair"),
+    };
+    Ok(Request::Check {
+        plan: word(matches, "PLAN"),
+        look,
     })
 }
 
@@ -425,71 +303,37 @@ fn most_of(matches: &ArgMatches<'_>) -> Option<u32> {
     }
 }
 
-fn verify_of<'a>(matches: &ArgMatches<'a>) -> Request<'a> {
-    Request::Verify {
-        plan: word(matches, "PLAN"),
-        cert: word(matches, "CERT"),
-        explain: matches.get_flag("explain"),
-    }
-}
-
 // What writes a text for further runs.
-fn written_of<'a>(name: &str, matches: &ArgMatches<'a>) -> Request<'a> {
-    let plan = word(matches, "PLAN");
-    let output = output_of(matches);
-    match name {
-        "certify" => Request::Certify { plan, output },
-        "expand" => Request::Expand {
-            brief: word(matches, "BRIEF"),
-            output,
-        },
-        "brief" => Request::Brief { plan, output },
-        _ => Request::Print { plan, output },
+fn rewrite_of<'a>(matches: &ArgMatches<'a>, file: &str, rewriting: Rewriting) -> Request<'a> {
+    Request::Rewrite {
+        file: word(matches, file),
+        rewriting,
+        output: output_of(matches),
     }
 }
 
 fn layout_of<'a>(matches: &ArgMatches<'a>) -> Result<Request<'a>, Fault> {
     let file = word(matches, "FILE");
-    let laid_out = match (matches.get_flag("in-place"), matches.get_flag("check")) {
+    let layout = match (matches.get_flag("in-place"), matches.get_flag("check")) {
         (true, true) => return Err(NOT_BOTH),
         (true, false) if is_input(file) => return Err(NOT_IN_PLACE),
-        (true, false) => LaidOut::InPlace,
-        (false, true) => LaidOut::Compared,
-        (false, false) => LaidOut::Shown,
+        (true, false) => Layout::InPlace,
+        (false, true) => Layout::Compared,
+        (false, false) => Layout::Written,
     };
-    Ok(Request::Format { file, laid_out })
+    Ok(Request::Rewrite {
+        file,
+        rewriting: Rewriting::Format(layout),
+        output: None,
+    })
 }
 
-// What reads a capture.
-fn recorded_of<'a>(name: &str, matches: &ArgMatches<'a>) -> Result<Request<'a>, Fault> {
+// The options of what reads a dump, where they go together.
+fn options_of<'a>(matches: &ArgMatches<'a>) -> Result<Options<'a>, Fault> {
     let options = Options::found_in(matches);
-    if let Some(fault) = options.fault() {
-        return Err(fault);
-    }
-    if let Some(fault) = options.drives_fault(matches) {
-        return Err(fault);
-    }
-    if name == "signals" {
-        return Ok(Request::Signals {
-            vcd: word(matches, "VCD"),
-            limits: options.limits(),
-        });
-    }
-    over_bus(name, matches, options.bus())
-}
-
-// What reads a bus that was recorded.
-fn over_bus<'a>(name: &str, matches: &ArgMatches<'a>, bus: Bus<'a>) -> Result<Request<'a>, Fault> {
-    match name {
-        "capture" => Ok(capture_of(matches, bus)),
-        "decode" => Ok(Request::Decode {
-            vcd: word(matches, "VCD"),
-            bus,
-            live: matches.get_flag("live"),
-            wave: wave_of(matches)?,
-        }),
-        "learn" => Ok(learn_of(matches, bus)),
-        _ => Ok(page_of(matches, bus)),
+    match options.fault().or(options.drives_fault(matches)) {
+        Some(fault) => Err(fault),
+        None => Ok(options),
     }
 }
 
@@ -508,58 +352,79 @@ fn drives_of<'a>(alloc: Global, matches: &ArgMatches<'a>) -> Result<Vec<Drive<'a
     Ok(drives)
 }
 
-fn pulling_of(matches: &ArgMatches<'_>) -> Pulling {
-    match matches.get_str("pulls") {
-        Some("1") => Pulling::AtOne,
-        _ => Pulling::AtZero,
+// How lines of controllers pull. Which they are is put there later.
+fn pulling_of<'a>(matches: &ArgMatches<'a>) -> Drives<'a> {
+    Drives {
+        all: &[],
+        pulling: match matches.get_str("pulls") {
+            Some("1") => Pulling::AtOne,
+            _ => Pulling::AtZero,
+        },
     }
 }
 
-fn capture_of<'a>(matches: &ArgMatches<'a>, bus: Bus<'a>) -> Request<'a> {
-    Request::Capture {
-        plan: word(matches, "PLAN"),
-        vcd: word(matches, "VCD"),
-        bus,
+fn capture_of<'a>(matches: &ArgMatches<'a>) -> Result<Request<'a>, Fault> {
+    let capture = Capture {
+        bus: options_of(matches)?.bus(),
         explain: matches.get_flag("explain"),
         live: matches.get_flag("live"),
         stops: matches.get_flag("stop-at-unexplained"),
-        pulling: pulling_of(matches),
-    }
+        drives: pulling_of(matches),
+    };
+    Ok(Request::Capture {
+        plan: word(matches, "PLAN"),
+        vcd: word(matches, "VCD"),
+        capture,
+    })
 }
 
-fn learn_of<'a>(matches: &ArgMatches<'a>, bus: Bus<'a>) -> Request<'a> {
-    Request::Learn {
+fn decode_of<'a>(matches: &ArgMatches<'a>) -> Result<Request<'a>, Fault> {
+    Ok(Request::Decode {
         vcd: word(matches, "VCD"),
-        bus,
+        bus: options_of(matches)?.bus(),
+        live: matches.get_flag("live"),
+        wave: wave_of(matches)?,
+    })
+}
+
+fn learn_of<'a>(matches: &ArgMatches<'a>) -> Result<Request<'a>, Fault> {
+    let lesson = Lesson {
+        bus: options_of(matches)?.bus(),
         merge: matches.get_flag("merge"),
         widen: matches.get_flag("widen"),
+        drives: pulling_of(matches),
+    };
+    Ok(Request::Learn {
+        vcd: word(matches, "VCD"),
         names: matches.get_str("names"),
-        pulling: pulling_of(matches),
+        lesson,
         output: output_of(matches),
-    }
+    })
 }
 
-fn page_of<'a>(matches: &ArgMatches<'a>, bus: Bus<'a>) -> Request<'a> {
-    Request::Page {
+fn page_of<'a>(matches: &ArgMatches<'a>) -> Result<Request<'a>, Fault> {
+    Ok(Request::Page {
         plan: word(matches, "PLAN"),
         capture: matches.get_str("capture"),
-        bus,
+        bus: options_of(matches)?.bus(),
         output: output_of(matches),
-    }
+    })
 }
 
 fn bench_of<'a>(matches: &ArgMatches<'a>) -> Result<Request<'a>, Fault> {
     let (cert, starters) = cert_and_starters(matches)?;
-    let wave = wave_of(matches)?;
-    Ok(Request::Bench {
-        plan: word(matches, "PLAN"),
-        cert,
+    let play = Play {
         starters,
         fill: matches.get_str("fill") == Some("1"),
+        wave: wave_of(matches)?,
         answers: answers_of(matches)?,
         rest: matches.get_str("rest") == Some("1"),
         explain: matches.get_flag("explain"),
-        wave,
+    };
+    Ok(Request::Bench {
+        plan: word(matches, "PLAN"),
+        cert,
+        play,
     })
 }
 

@@ -5,6 +5,7 @@ ghost use Rattle.run_parts.specs.declared.errors.RunError.TheVariants.{NoMemory}
 
 use crate::runs::Ending;
 use crate::sinks::TransactionSink;
+use capture_check::Beside;
 use pulses::QuietFollower;
 use run_parts::RunError;
 use std::alloc::{AllocError, Global};
@@ -25,28 +26,31 @@ impl Decoder {
     ghost use Rattle.decoding.specs.Dumps.{PassesSoFar};
     ghost use Rattle.decoding.specs.DecoderViews.{IsNew, Follows, FollowsAll, StopsAt, StopsAtPiece, StopsAtEnd};
 
-    /// Nothing of the dump has been read. Levels that last less than this time are left out.
+    /// Nothing of the dump has been read. Levels that last less than this time are left out. Further lines are read beside the
+    /// two of the bus.
     pub(crate) fn new(
         alloc: Global,
         scl: Probe<'_>,
         sda: Probe<'_>,
+        further: &[Probe<'_>],
         least: u64,
     ) -> Result<Decoder, AllocError>
         ensures { IfOk result (λ decoder. IsNew least (asked scl.entry) (asked sda.entry) decoder) }
     {
         Ok(Decoder {
-            reader: Reader::of(alloc, scl, sda)?,
+            reader: Reader::with(alloc, scl, sda, further)?,
             follower: QuietFollower::new(alloc, least),
         })
     }
 
-    /// The next piece of the dump. The sink takes all transactions that end in it, before a refusal too. What is wrong with
-    /// the dump then is told beside the refusal.
-    pub(crate) fn feed<S: TransactionSink>(
+    /// The next piece of the dump. The sink takes all transactions that end in it, before a refusal too, and another is told of
+    /// all that was read, before. What is wrong with the dump then is told beside the refusal.
+    pub(crate) fn feed<S: TransactionSink, B: Beside>(
         &mut self,
         alloc: Global,
         piece: &[u8],
         sink: &mut S,
+        beside: &mut B,
         wrong: &mut Option<Wrong>,
     ) -> Result<(), RunError>
         requires { S.needs }
@@ -59,10 +63,15 @@ impl Decoder {
             Follows S.sink start least scl sda text self.old sink.old →
             StopsAtPiece S.sink start least scl sda text piece.now error sink.new) }
     {
-        match self.reader.feed(piece) {
-            Ok(()) => self.hand_on(alloc, sink),
+        match self.reader.feed_with(piece, beside) {
+            Ok(()) => self.hand_on(alloc, sink, beside),
             Err(error) => {
-                let found = self.follower.follow(alloc, self.reader.samples())?;
+                let found = self.follower.follow(
+                    alloc,
+                    self.reader.samples(),
+                    self.reader.further(),
+                    beside,
+                )?;
                 *wrong = self.reader.take_wrong();
                 let taken = sink.take(found.as_slice());
                 Err(refused_with(&taken, RunError::from(error)))
@@ -71,7 +80,12 @@ impl Decoder {
     }
 
     // The sink takes the transactions that end in what was read since.
-    fn hand_on<S: TransactionSink>(&mut self, alloc: Global, sink: &mut S) -> Result<(), RunError>
+    fn hand_on<S: TransactionSink, B: Beside>(
+        &mut self,
+        alloc: Global,
+        sink: &mut S,
+        beside: &mut B,
+    ) -> Result<(), RunError>
         requires { S.needs }
         ensures handed { OnOk result ((start : S) (least : ℕ) (scl sda : Finder) (text : List ℕ) →
             Follows S.sink start least scl sda text self.old sink.old →
@@ -80,17 +94,23 @@ impl Decoder {
             Follows S.sink start least scl sda text self.old sink.old →
             StopsAt S.sink start least scl sda text sink.old error sink.new) }
     {
-        let found = self.follower.follow(alloc, self.reader.samples())?;
+        let found = self.follower.follow(
+            alloc,
+            self.reader.samples(),
+            self.reader.further(),
+            beside,
+        )?;
         sink.take(found.as_slice())?;
         self.reader.clear_samples();
         Ok(())
     }
 
     /// The end of the dump. The sink takes the transactions that are left.
-    pub(crate) fn end<S: TransactionSink>(
+    pub(crate) fn end<S: TransactionSink, B: Beside>(
         self,
         alloc: Global,
         sink: &mut S,
+        beside: &mut B,
         wrong: &mut Option<Wrong>,
     ) -> Result<Ending, RunError>
         requires { S.needs }
@@ -105,15 +125,16 @@ impl Decoder {
             reader,
             mut follower,
         } = self;
-        let samples = match reader.close() {
-            Ok(samples) => samples,
+        let last = match reader.finish(beside) {
+            Ok(last) => last,
             Err(refused) => {
                 let error = refused.error;
                 *wrong = refused.wrong();
                 return Err(RunError::from(error));
             }
         };
-        let found = follower.follow_to_end(alloc, samples.as_slice())?;
+        let samples = last.samples.as_slice();
+        let found = follower.follow_to_end(alloc, samples, last.further(), beside)?;
         sink.take(found.as_slice())?;
         Ok(Ending {
             short: follower.short(),

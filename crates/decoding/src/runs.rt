@@ -8,11 +8,11 @@ ghost use Rattle.vcd_read.specs.Views.{asked};
 
 use crate::following::Decoder;
 use crate::sinks::TransactionSink;
-use capture_check::Rises;
+use capture_check::{Beside, Rises};
 use run_parts::devices::reading::{BLOCK, READS};
 use run_parts::{Input, RunError};
 use std::alloc::Global;
-use vcd_read::{Probe, Wrong};
+use vcd_read::{Nobody, Probe, Wrong};
 
 /// What is known only at the end of a dump.
 #[derive(Clone, Copy)]
@@ -51,18 +51,54 @@ pub fn decode<J: Input, S: TransactionSink>(
     ensures stops { IfErr result (λ error. HaltsAtDecoding S.sink sink.old least (asked scl.entry) (asked sda.entry)
         J.reader vcd.old error vcd.new sink.new) }
 {
+    decode_beside(alloc, vcd, scl, sda, &[], least, sink, &mut Nobody, wrong)
+}
+
+/// The same. Another is told of what is read, before the transactions that end in it are handed on: of the samples, of these
+/// further lines, which are found in the dump as the two lines are, and of each step of the bus, without the levels that are
+/// ignored.
+///
+/// # Errors
+///
+/// Those of `decode`, and `NoMemory` where the other one answers that.
+pub fn decode_beside<J: Input, S: TransactionSink, B: Beside>(
+    alloc: Global,
+    vcd: &mut J,
+    scl: Probe<'_>,
+    sda: Probe<'_>,
+    further: &[Probe<'_>],
+    least: u64,
+    sink: &mut S,
+    beside: &mut B,
+    wrong: &mut Option<Wrong>,
+) -> Result<Ending, RunError>
+    requires { S.needs }
+    ensures all { IfOk result (λ ending. DecodesAll S.sink sink.old least (asked scl.entry) (asked sda.entry)
+        J.reader vcd.old vcd.new sink.new) }
+    ensures stops { IfErr result (λ error. HaltsAtDecoding S.sink sink.old least (asked scl.entry) (asked sda.entry)
+        J.reader vcd.old error vcd.new sink.new) }
+{
     let mut block = vec![in alloc; 0u8; BLOCK]?;
-    let decoder = Decoder::new(alloc, scl, sda, least)?;
-    decode_blocks(alloc, vcd, block.as_mut_slice(), decoder, sink, wrong)
+    let decoder = Decoder::new(alloc, scl, sda, further, least)?;
+    decode_blocks(
+        alloc,
+        vcd,
+        block.as_mut_slice(),
+        decoder,
+        sink,
+        beside,
+        wrong,
+    )
 }
 
 // The same, with a block of memory for what one call gives.
-fn decode_blocks<J: Input, S: TransactionSink>(
+fn decode_blocks<J: Input, S: TransactionSink, B: Beside>(
     alloc: Global,
     vcd: &mut J,
     block: &mut [u8],
     mut decoder: Decoder,
     sink: &mut S,
+    beside: &mut B,
     wrong: &mut Option<Wrong>,
 ) -> Result<Ending, RunError>
     requires room { 0 < length block.old }
@@ -74,8 +110,8 @@ fn decode_blocks<J: Input, S: TransactionSink>(
 {
     for _ in 0..READS {
         match vcd.read(block) {
-            Ok(0) => return decoder.end(alloc, sink, wrong),
-            Ok(count) => decoder.feed(alloc, &block[..count], sink, wrong)?,
+            Ok(0) => return decoder.end(alloc, sink, beside, wrong),
+            Ok(count) => decoder.feed(alloc, &block[..count], sink, beside, wrong)?,
             Err(_) => return Err(RunError::Read),
         }
     }

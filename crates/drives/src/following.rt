@@ -1,65 +1,23 @@
 // What controllers pull, followed beside the bus.
 
-use capture_check::{Event, Listener, Mark, Watch, What};
+use capture_check::{Beside, Drove, Event, Mark, Moment, What};
 use dump_tokens::Pulling;
-use run_parts::RunError;
 use std::alloc::{AllocError, Global};
 use std::mem;
-use vcd_read::{Level, Probe, Reader, Sample, VcdError};
+use vcd_read::{Further, Level, Sample, Tokens};
 
-// How many controllers can be followed: a bit of a mask for each.
-const MOST: u32 = 32;
-
-/// Who pulled SDA in a transaction: masks with a bit for each controller, in the order in which they were given.
-#[derive(Drop)]
-pub struct Drove {
-    /// At its START.
-    pub(crate) started: u32,
-    /// In the HIGH period of each slot, and after a repeated START. There is one for each mark of the transaction.
-    pub(crate) pulls: Vec<u32>,
-}
-
-impl Drove {
-    /// Whether the controller with this number pulled SDA at the START.
-    pub fn has_started(&self, number: usize) -> bool {
-        has(self.started, number)
-    }
-
-    /// Whether it pulled SDA in this slot.
-    pub fn pulls(&self, number: usize, slot: usize) -> bool {
-        match self.pulls.get(slot) {
-            Some(mask) => has(*mask, number),
-            None => false,
+/// Whether one of those who made the STOP of a transaction had lost before: in a slot of theirs it did not pull SDA, which was
+/// LOW.
+pub fn is_collision(drove: &Drove, marks: &[Mark]) -> bool {
+    let last = drove.last();
+    let mut frame = Frame::new();
+    for (mark, pulls) in marks.iter().zip(drove.pulls.as_slice()) {
+        let is_own = frame.next(*mark);
+        if is_own && *mark == Mark::Level(false) && *pulls & last != last {
+            return true;
         }
     }
-
-    /// In which slot it first pulled SDA, from this one on.
-    pub fn first_pull(&self, number: usize, from: usize) -> Option<usize> {
-        for (slot, mask) in self.pulls.iter().enumerate() {
-            if from <= slot && has(*mask, number) {
-                return Some(slot);
-            }
-        }
-        None
-    }
-
-    /// Who pulled SDA before the mark that ended it: those who made its STOP.
-    pub fn last(&self) -> u32 {
-        self.pulls.last().copied().unwrap_or(0)
-    }
-
-    /// Whether one of those who made its STOP had lost before: in a slot of theirs it did not pull SDA, which was LOW.
-    pub fn is_collision(&self, marks: &[Mark]) -> bool {
-        let last = self.last();
-        let mut frame = Frame::new();
-        for (mark, pulls) in marks.iter().zip(self.pulls.as_slice()) {
-            let is_own = frame.next(*mark);
-            if is_own && *mark == Mark::Level(false) && *pulls & last != last {
-                return true;
-            }
-        }
-        false
-    }
+    false
 }
 
 // How many levels of a frame have come, and whether it is a read.
@@ -98,99 +56,6 @@ impl Frame {
     }
 }
 
-// Whether a mask has the bit of this number.
-fn has(mask: u32, number: usize) -> bool {
-    mask & bit_of(number) != 0
-}
-
-fn bit_of(number: usize) -> u32 {
-    match u32::try_from(number) {
-        Ok(number) if number < MOST => 1u32.wrapping_shl(number),
-        _ => 0,
-    }
-}
-
-// SCL and one more line, as a reader of their own follows them: in the place of SDA there is what a controller pulls.
-#[derive(Drop)]
-struct Side {
-    reader: Option<Reader>,
-    samples: Vec<Sample>,
-}
-
-impl Side {
-    fn new(alloc: Global, scl: Probe<'_>, line: Probe<'_>) -> Result<Side, AllocError> {
-        Ok(Side {
-            reader: Some(Reader::of(alloc, scl, line)?),
-            samples: Vec::new(alloc),
-        })
-    }
-
-    // Takes the next block of the dump, or its end. A dump that is refused is told by who decodes it, and says no more here.
-    fn feed(&mut self, block: &[u8]) -> Result<(), AllocError> {
-        self.samples.clear();
-        if block.is_empty() {
-            return self.end();
-        }
-        let Some(reader) = &mut self.reader else {
-            return Ok(());
-        };
-        if let Err(VcdError::NoMemory) = reader.feed(block) {
-            return Err(AllocError);
-        }
-        self.samples.extend_from_slice(reader.samples())?;
-        reader.clear_samples();
-        Ok(())
-    }
-
-    fn end(&mut self) -> Result<(), AllocError> {
-        if let Some(reader) = self.reader.take()
-            && let Ok(samples) = reader.end()
-        {
-            self.samples = samples;
-        }
-        Ok(())
-    }
-}
-
-// What one controller pulls.
-#[derive(Drop)]
-struct Follower {
-    side: Side,
-    // how many of the samples are in the past, and the level before the time at hand and at it
-    past: usize,
-    before: Level,
-    now: Level,
-    // whether in some slot, that of a STOP too, it did not do what the bus shows, and whether in one it pulled SDA that was
-    // HIGH
-    differs: bool,
-    is_denied: bool,
-}
-
-impl Follower {
-    fn feed(&mut self, block: &[u8]) -> Result<(), AllocError> {
-        self.past = 0;
-        self.side.feed(block)
-    }
-
-    // Goes on to a time.
-    fn reach(&mut self, time: u64) {
-        self.before = self.now;
-        for _ in 0..self.side.samples.len() {
-            let Some(sample) = self.side.samples.get(self.past) else {
-                break;
-            };
-            if time < sample.time {
-                break;
-            }
-            if sample.time < time {
-                self.before = sample.sda;
-            }
-            self.now = sample.sda;
-            self.past = self.past.saturating_add(1);
-        }
-    }
-}
-
 /// A controller, by its number, whose line did in each slot what the bus shows, also before STOPs.
 #[derive(Clone, Copy)]
 pub struct Alike {
@@ -199,23 +64,28 @@ pub struct Alike {
     pub is_sda: bool,
 }
 
-/// The lines of controllers, followed beside the bus.
+/// The lines of controllers, followed beside the bus where each level of that counts. A mask has a bit for each of them.
 pub struct Drivers {
     alloc: Global,
     pulling: Pulling,
-    bus: Side,
-    watch: Watch,
-    listener: Listener,
-    followers: Vec<Follower>,
+    all: u32,
+    // what the lines are that was read, and how much of it is in the past
+    ahead: Vec<Further>,
+    past: usize,
+    // who pulls SDA before the time at hand, and at it
+    before: u32,
+    now: u32,
+    // who did not do in some slot, that of a STOP too, what the bus shows, and who pulled SDA in one that was HIGH
+    differs: u32,
+    denied: u32,
     slots: u64,
     // where the transaction stands in its frame, and whether SDA was ever LOW in a slot that no controller drives
     frame: Frame,
     is_answered: bool,
     // whether SCL has still to fall after a START or repeated START: until then others may give it too
     is_starting: bool,
-    // the transaction that goes on, and those that have ended and were not taken
+    // the transaction that goes on
     open: Option<Drove>,
-    ended: Vec<Drove>,
 }
 
 // Written out, so that one call lets it go.
@@ -224,125 +94,89 @@ impl Drop for Drivers {
         let Self {
             alloc: _,
             pulling: _,
-            bus: _,
-            watch: _,
-            listener: _,
-            followers: _,
+            all: _,
+            ahead: _,
+            past: _,
+            before: _,
+            now: _,
+            differs: _,
+            denied: _,
             slots: _,
             frame: _,
             is_answered: _,
             is_starting: _,
             open: _,
-            ended: _,
         } = self;
     }
 }
 
 impl Drivers {
-    /// Nothing of the dump has been read. `lines` are those of the controllers.
-    ///
-    /// # Errors
-    ///
-    /// Where an allocation fails.
-    pub fn new(
-        alloc: Global,
-        scl: Probe<'_>,
-        sda: Probe<'_>,
-        lines: &[Probe<'_>],
-        pulling: Pulling,
-    ) -> Result<Drivers, AllocError> {
-        let mut followers = Vec::new(alloc);
-        for line in lines {
-            followers.push(Follower {
-                side: Side::new(alloc, scl, *line)?,
-                past: 0,
-                before: Level::Unknown,
-                now: Level::Unknown,
-                differs: false,
-                is_denied: false,
-            })?;
-        }
-        Ok(Drivers {
+    /// So many lines, of at most 32, which pull so. Nothing of the dump has been read.
+    pub fn new(alloc: Global, count: usize, pulling: Pulling) -> Drivers {
+        Drivers {
             alloc,
             pulling,
-            bus: Side::new(alloc, scl, sda)?,
-            watch: Watch::new(),
-            listener: Listener::new(),
-            followers,
+            all: mask_of(count),
+            ahead: Vec::new(alloc),
+            past: 0,
+            before: 0,
+            now: 0,
+            differs: 0,
+            denied: 0,
             slots: 0,
             frame: Frame::new(),
             is_answered: false,
             is_starting: false,
             open: None,
-            ended: Vec::new(alloc),
-        })
+        }
     }
 
-    /// The next block of the dump, as it is read; an empty one is its end.
-    ///
-    /// # Errors
-    ///
-    /// `NoMemory`.
-    pub fn feed(&mut self, block: &[u8]) -> Result<(), RunError> {
-        self.bus.feed(block)?;
-        for follower in self.followers.iter_mut() {
-            follower.feed(block)?;
+    // Whose lines pull SDA. One that is unknown does not.
+    fn pulling(&self, further: &Further) -> u32 {
+        match self.pulling {
+            Pulling::AtZero => further.low,
+            Pulling::AtOne => self.all & !(further.low | further.unknown),
         }
-        self.follow()?;
-        if block.is_empty()
-            && let Some(open) = self.open.take()
-        {
-            self.ended.push(open)?;
-        }
-        Ok(())
     }
 
-    fn follow(&mut self) -> Result<(), AllocError> {
-        let samples = mem::replace(&mut self.bus.samples, Vec::new(self.alloc));
-        for sample in samples.iter() {
-            for follower in self.followers.iter_mut() {
-                follower.reach(sample.time);
+    // Goes on to a time.
+    fn go_to(&mut self, time: u64) {
+        self.before = self.now;
+        for _ in self.past..self.ahead.len() {
+            let Some(further) = self.ahead.get(self.past) else {
+                break;
+            };
+            if time < further.time {
+                break;
             }
-            if self.is_starting && sample.scl == Level::Low {
-                self.end_start();
+            let now = self.pulling(further);
+            if further.time < time {
+                self.before = now;
             }
-            if let Some(event) = self.watch.next(sample) {
-                self.take(event)?;
-            }
+            self.now = now;
+            self.past = self.past.saturating_add(1);
         }
-        Ok(())
-    }
-
-    fn take(&mut self, event: Event) -> Result<(), AllocError> {
-        let was_busy = self.listener.is_busy();
-        let has_ended = self.listener.next(self.alloc, &event)?.is_some();
-        if was_busy {
-            self.go_on(event)?;
-        } else if self.listener.is_busy() {
-            self.is_starting = true;
-            self.frame = Frame::new();
-            self.open = Some(Drove {
-                started: self.pulling_now(),
-                pulls: Vec::new(self.alloc),
-            });
-        }
-        if has_ended && let Some(open) = self.open.take() {
-            self.is_starting = false;
-            self.ended.push(open)?;
-        }
-        Ok(())
     }
 
     // SCL falls after a START or repeated START: all who give it pull SDA.
     fn end_start(&mut self) {
         self.is_starting = false;
-        let mask = self.pulling_before();
         if let Some(open) = &mut self.open {
             match open.pulls.last_mut() {
-                Some(last) => *last = mask,
-                None => open.started = mask,
+                Some(last) => *last = self.before,
+                None => open.started = self.before,
             }
         }
+    }
+
+    // A transaction begins.
+    fn begin(&mut self) {
+        self.is_starting = true;
+        self.frame = Frame::new();
+        self.open = Some(Drove {
+            started: self.now,
+            pulls: Vec::new(self.alloc),
+        });
     }
 
     // What the controllers pull at the next mark of a transaction.
@@ -352,7 +186,7 @@ impl Drivers {
             What::Start => {
                 self.is_starting = true;
                 self.frame = Frame::new();
-                self.pulling_now()
+                self.now
             }
             What::Stop => self.pulling_at_stop(),
             What::Known(_) | What::Unknown => return Ok(()),
@@ -363,62 +197,30 @@ impl Drivers {
         Ok(())
     }
 
-    fn pulling_now(&self) -> u32 {
-        let mut mask = 0u32;
-        for (number, follower) in self.followers.iter().enumerate() {
-            if self.pulling.is_at(follower.now) {
-                mask |= bit_of(number);
-            }
-        }
-        mask
-    }
-
-    fn pulling_before(&self) -> u32 {
-        let mut mask = 0u32;
-        for (number, follower) in self.followers.iter().enumerate() {
-            if self.pulling.is_at(follower.before) {
-                mask |= bit_of(number);
-            }
-        }
-        mask
-    }
-
     // The same before a STOP, where SDA is LOW.
     fn pulling_at_stop(&mut self) -> u32 {
-        let mask = self.pulling_before();
-        for (number, follower) in self.followers.iter_mut().enumerate() {
-            follower.differs = follower.differs || !has(mask, number);
-        }
-        mask
+        self.differs |= self.all & !self.before;
+        self.before
     }
 
     // The same in a slot in which the bus has this level.
     fn pulling_in_slot(&mut self, level: bool) -> u32 {
-        let mask = self.pulling_before();
+        let mask = self.before;
         self.slots = self.slots.saturating_add(1);
         let is_own = self.frame.next(Mark::Level(level));
         self.is_answered = self.is_answered || !is_own && !level;
-        for (number, follower) in self.followers.iter_mut().enumerate() {
-            let pulls = has(mask, number);
-            follower.differs = follower.differs || pulls == level;
-            follower.is_denied = follower.is_denied || pulls && level;
+        if level {
+            self.differs |= mask;
+            self.denied |= mask;
+        } else {
+            self.differs |= self.all & !mask;
         }
         mask
     }
 
-    /// Who pulled SDA in the transactions that have ended since this was asked for.
-    pub fn take_ended(&mut self) -> Vec<Drove> {
-        mem::replace(&mut self.ended, Vec::new(self.alloc))
-    }
-
     /// The first controller whose line cannot be what it pulls: in some slot it pulls SDA, which is HIGH there.
     pub fn first_denied(&self) -> Option<usize> {
-        for (number, follower) in self.followers.iter().enumerate() {
-            if follower.is_denied {
-                return Some(number);
-            }
-        }
-        None
+        first_of(self.denied)
     }
 
     /// The first controller whose line did in each slot that there was what the bus shows.
@@ -426,14 +228,60 @@ impl Drivers {
         if self.slots == 0 {
             return None;
         }
-        for (number, follower) in self.followers.iter().enumerate() {
-            if !follower.differs {
-                return Some(Alike {
-                    number,
-                    is_sda: self.is_answered,
-                });
-            }
+        Some(Alike {
+            number: first_of(self.all & !self.differs)?,
+            is_sda: self.is_answered,
+        })
+    }
+}
+
+// A bit for each of so many.
+fn mask_of(count: usize) -> u32 {
+    let count = u32::try_from(count).unwrap_or(32);
+    u32::MAX
+        .checked_shr(32u32.saturating_sub(count))
+        .unwrap_or(0)
+}
+
+// The first number in a mask.
+fn first_of(mask: u32) -> Option<usize> {
+    (mask != 0).then_some(mask.trailing_zeros() as usize)
+}
+
+impl Tokens for Drivers {}
+
+impl Beside for Drivers {
+    fn hear(&mut self, _samples: &[Sample], further: &[Further]) -> Result<(), AllocError> {
+        // what is left of what was read before comes before all that is read now
+        if let Some(last) = self.ahead.last() {
+            self.now = self.pulling(last);
         }
-        None
+        self.past = 0;
+        self.ahead.clear();
+        self.ahead.extend_from_slice(further)
+    }
+
+    fn reach(&mut self, moment: Moment<'_>) -> Result<(), AllocError> {
+        let Moment {
+            sample,
+            event,
+            was_busy,
+            is_busy,
+        } = moment;
+        self.go_to(sample.time);
+        if self.is_starting && sample.scl == Level::Low {
+            self.end_start();
+        }
+        match event {
+            Some(event) if was_busy => self.go_on(event)?,
+            Some(_) if is_busy => self.begin(),
+            _ => {}
+        }
+        Ok(())
+    }
+
+    fn take_drove(&mut self) -> Option<Drove> {
+        self.is_starting = false;
+        mem::replace(&mut self.open, None)
     }
 }

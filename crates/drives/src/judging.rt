@@ -1,8 +1,7 @@
 // What a controller did in a transaction, held against the messages that the plan gives it.
 
-use crate::driving::Driving;
-use crate::following::Drove;
-use capture_check::{Mark, Transaction, Until};
+use capture_check::{Drove, Mark, Transaction, Until};
+use dump_tokens::Drives;
 use message_tree::{Bit, Item};
 use places::{Offered, Place};
 use plan_core::Plan;
@@ -39,13 +38,10 @@ impl Judged {
 
 /// Transactions, held against the rules of a plan as they end.
 #[derive(Drop)]
-pub struct Judging<'d, 'a> {
-    driving: &'d Driving<'a>,
+pub struct Judging<'a> {
+    drives: Drives<'a>,
     // for each controller that is followed, the participants of the plan that it can be
     sendings: Vec<Vec<u32>>,
-    // who drove the transactions that were told last, and how many of them were looked at
-    ended: Vec<Drove>,
-    next: usize,
     /// In how many transactions that a STOP ended each controller did what the rules give.
     pub right: u64,
     /// In how many one did not.
@@ -54,18 +50,12 @@ pub struct Judging<'d, 'a> {
     pub others: u64,
 }
 
-impl<'d, 'a> Judging<'d, 'a> {
+impl<'a> Judging<'a> {
     /// No transaction yet. `sendings` are, for each controller that is followed, the participants of the plan that it can be.
-    pub fn new(
-        alloc: Global,
-        driving: &'d Driving<'a>,
-        sendings: Vec<Vec<u32>>,
-    ) -> Judging<'d, 'a> {
+    pub fn new(drives: Drives<'a>, sendings: Vec<Vec<u32>>) -> Judging<'a> {
         Judging {
-            driving,
+            drives,
             sendings,
-            ended: Vec::new(alloc),
-            next: 0,
             right: 0,
             wrong: 0,
             others: 0,
@@ -74,17 +64,13 @@ impl<'d, 'a> Judging<'d, 'a> {
 
     /// The name of the controller with this number.
     pub fn controller(&self, number: usize) -> &'a str {
-        self.driving.controller(number)
+        match self.drives.all.get(number) {
+            Some(drive) => drive.controller,
+            None => "",
+        }
     }
 
-    /// Further transactions have ended.
-    pub fn go_on(&mut self, alloc: Global) {
-        self.ended = self.driving.take_ended(alloc);
-        self.next = 0;
-    }
-
-    /// What each controller did in the next of these transactions, which these participants explain. It is counted where it is
-    /// told.
+    /// What each controller did in the next transaction, which these participants explain. It is counted where it is told.
     ///
     /// # Errors
     ///
@@ -98,7 +84,7 @@ impl<'d, 'a> Judging<'d, 'a> {
         is_told: bool,
     ) -> Result<Verdict, AllocError> {
         let mut all = Vec::new(alloc);
-        let Some(drove) = self.ended.get(self.next) else {
+        let Some(drove) = &transaction.drove else {
             return Ok(Verdict {
                 all,
                 is_denied: false,
@@ -110,7 +96,6 @@ impl<'d, 'a> Judging<'d, 'a> {
                 all.push(judged)?;
             }
         }
-        self.next = self.next.saturating_add(1);
         let verdict = Verdict {
             is_denied: all.is_empty() && self.are_followed(participants),
             all,

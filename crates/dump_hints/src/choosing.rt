@@ -141,10 +141,11 @@ impl Twins<'_> {
         if self.scl.codes.len() < 2 && self.sda.codes.len() < 2 {
             return;
         }
-        let vcd = names.vcd;
-        lines.say(format_args!(
-            "choose with --scope PATH, or by codes with --scl-code and --sda-code; 'twire signals {vcd}' shows what each does"
-        ));
+        lines.part(
+            "choose with --scope PATH, or by codes with --scl-code and --sda-code; 'twire signals ",
+        );
+        lines.word(names.vcd);
+        lines.say("' shows what each does");
     }
 }
 

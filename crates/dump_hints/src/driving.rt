@@ -49,17 +49,17 @@ pub fn on_denied_line(alloc: Global, drive: Drive<'_>) -> Result<Hints, AllocErr
 }
 
 /// What to say where the plan has no such controller. `controllers` are those that it has.
-pub fn on_no_controller<'a>(
+pub fn on_no_controller(
     alloc: Global,
     drive: Drive<'_>,
-    controllers: &[&'a str],
+    controllers: &[String],
 ) -> Result<Hints, AllocError> {
     let mut lines = Lines::new(alloc);
     lines.part("the plan has no controller '");
     push_name(&mut lines, drive.controller.as_bytes());
     lines.say("'; it has:");
     for name in controllers {
-        lines.detail(*name);
+        lines.detail(name.as_str());
     }
     lines.finish()
 }

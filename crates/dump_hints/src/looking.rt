@@ -7,7 +7,7 @@ use dump_tokens::{Scale, Time};
 use std::alloc::{AllocError, Global};
 use std::cmp::Ordering;
 use std::io::{self, Read, Seek};
-use vcd_read::{Level, Reader, Sample};
+use vcd_read::{Level, Nobody, Reader, Sample};
 
 /// What is looked at in the samples of a capture.
 pub(crate) trait Looking {
@@ -127,7 +127,7 @@ impl Looking for Levels {
             self.seen.count(sample.scl, sample.sda);
         }
         let others = exchanged(alloc, samples)?;
-        let found = self.follower.follow(alloc, others.as_slice())?;
+        let found = self.follower.follow(alloc, others.as_slice(), &mut Nobody)?;
         self.seen.exchanged = self.seen.exchanged.saturating_add(found.len() as u64);
         Ok(true)
     }
@@ -319,7 +319,7 @@ fn whole_count(
     follower: &mut Follower,
     samples: &[Sample],
 ) -> Result<u64, AllocError> {
-    let found = follower.follow(alloc, samples)?;
+    let found = follower.follow(alloc, samples, &mut Nobody)?;
     let mut whole = 0u64;
     for transaction in found.iter() {
         whole = whole.saturating_add(u64::from(is_whole(transaction)));

@@ -389,5 +389,7 @@ fn push_command<F: Read + Seek + Drop>(
             return;
         }
     }
-    lines.say(format_args!("this lists the signals: twire signals {vcd}"));
+    lines.part("this lists the signals: twire signals ");
+    lines.word(vcd);
+    lines.end();
 }

@@ -1,7 +1,6 @@
 // The token that opened what the end of a dump leaves open, in a file that is read once more.
 
 use dump_tokens::reading::{BLOCK, Reading, read_again};
-use dump_tokens::tokens::is_white;
 use std::alloc::Global;
 use std::io::{self, Read, Seek};
 use vcd_read::Opened;
@@ -107,6 +106,10 @@ fn last_opened(line: &[u8], opened: Opened) -> Option<Span> {
         Opened::Change => open.last,
         Opened::Command | Opened::Var | Opened::EndDefinitions => open.command,
     }
+}
+
+fn is_white(byte: u8) -> bool {
+    matches!(byte, b'\t'..=b'\r' | b' ')
 }
 
 impl Open {

@@ -23,7 +23,7 @@ pub struct CaptureObjects<'a, 'w, O> {
     // where transactions are counted, and not told
     tallies: Option<Tallies>,
     // where lines of controllers are followed
-    judging: Option<Judging<'w, 'w>>,
+    judging: Option<Judging<'w>>,
     has_stopped: bool,
 }
 
@@ -74,7 +74,7 @@ impl<'a, 'w, O: Output> CaptureObjects<'a, 'w, O> {
     }
 
     /// The same where lines of controllers are followed.
-    pub fn with_drives(mut self, judging: Option<Judging<'w, 'w>>) -> CaptureObjects<'a, 'w, O> {
+    pub fn with_drives(mut self, judging: Option<Judging<'w>>) -> CaptureObjects<'a, 'w, O> {
         self.judging = judging;
         self
     }
@@ -204,14 +204,11 @@ impl<O: Output> ExplainedSink for CaptureObjects<'_, '_, O> {
 
     fn take(
         &mut self,
-        alloc: Global,
+        _alloc: Global,
         _plan: &Plan,
         transactions: &[Transaction],
         explainers: &[Vec<u32>],
     ) -> Result<(), RunError> {
-        if let Some(judging) = &mut self.judging {
-            judging.go_on(alloc);
-        }
         for (transaction, participants) in transactions.iter().zip(explainers) {
             self.transaction(transaction, participants.as_slice());
             if self.layout.stops && self.selection.seen.unexplained != 0 {
@@ -235,7 +232,7 @@ fn push_participants(lines: &mut ObjectLines, labels: &Labels, participants: &[u
 // What each controller that is followed did in a transaction, unless an allocation failed for it.
 fn push_drives(
     lines: &mut ObjectLines,
-    judging: &Option<Judging<'_, '_>>,
+    judging: &Option<Judging<'_>>,
     verdict: &Option<Result<Verdict, AllocError>>,
 ) {
     if let Some(judging) = judging {
@@ -247,7 +244,7 @@ fn push_drives(
     }
 }
 
-fn push_verdict(lines: &mut ObjectLines, judging: &Judging<'_, '_>, verdict: &Verdict) {
+fn push_verdict(lines: &mut ObjectLines, judging: &Judging<'_>, verdict: &Verdict) {
     lines.open_list("drives");
     for judged in verdict.all.iter() {
         push_judged(lines, judging.controller(judged.number), *judged);
@@ -310,7 +307,7 @@ fn push_explains(
 }
 
 // In how many transactions all that are followed did what the rules of the plan give, and in how many one did not.
-fn push_rules(lines: &mut ObjectLines, judging: &Judging<'_, '_>) {
+fn push_rules(lines: &mut ObjectLines, judging: &Judging<'_>) {
     lines.open("drives");
     lines.number("right", judging.right);
     lines.number("wrong", judging.wrong);

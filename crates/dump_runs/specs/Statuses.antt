@@ -2,10 +2,10 @@
 use Rattle.std.specs.Prelude.{◌≡◌, ℕ, Option, Some, None}
 use Rattle.dump_runs.specs.declared.recordings.Told.{Told}
 use Rattle.run_ends.specs.declared.endings.Ended.{Ended}
+use Rattle.run_ends.specs.declared.endings.Findings.{Findings}
+use Rattle.run_ends.specs.declared.endings.Findings.TheVariants.{Recording}
 use Rattle.run_ends.specs.declared.endings.Recorded.{Recorded}
 use Rattle.run_ends.specs.declared.endings.Recorded.TheVariants.{Bus, Bytes}
-use Rattle.run_ends.specs.declared.endings.Remark.{Remark}
-use Rattle.run_ends.specs.declared.endings.Remark.TheVariants.{Recording}
 use Rattle.dump_findings.specs.Statuses.{JudgesSeen}
 use Rattle.dump_findings.specs.declared.selecting.Seen.{Seen}
 
@@ -15,8 +15,8 @@ seen_in (Bus window seen) = Some seen
 seen_in (Bytes window seen) = Some seen
 seen_in _ = None
 
-abbrev pub seen_of : Remark → Option Seen
-seen_of (Recording recorded rises hints) = seen_in recorded
+abbrev pub seen_of : Findings → Option Seen
+seen_of (Recording recorded rises alike) = seen_in recorded
 seen_of _ = None
 
 -- the status is that of these counts, where so many were to be Stopped
@@ -26,5 +26,5 @@ IsJudged at_least told = JudgesSeen told.status at_least told.seen told.departed
 -- the same of a run that has ended, which says what it told of, where in so many a controller departed from the rules
 pub record EndsJudged (at_least : Option ℕ) (departed : ℕ) (ended : Ended) : Type 0 where
   pub seen : Seen
-  pub told : seen_of ended.remark ≡ Some seen
+  pub told : seen_of ended.findings ≡ Some seen
   pub judged : JudgesSeen ended.status at_least seen departed

@@ -2,19 +2,14 @@
 
 use brief_tokens::is_brief_word;
 use decoding::{Ending, TransactionSink};
-use drives::{Drivers, Driving, Judging};
-use dump_hints::{
-    on_denied_line, on_like_line, on_no_controller, on_no_line, on_no_name, on_same_line,
-};
-use dump_tokens::{Bus, Drive, Drives};
-use hints::Hints;
+use drives::{Drivers, Judging};
+use dump_tokens::{Bus, Drives};
 use plan_core::{Name, NameError, Participant, Plan};
 use plan_words::PlanWords;
-use run_ends::{Halt, open_dump};
+use run_ends::{Halt, NoDrive, open_dump};
 use run_parts::{Input, RunError};
 use signals::{Dump, Sought};
 use std::alloc::{AllocError, Global};
-use vcd_read::Probe;
 
 /// The dump, with the lines of these controllers. That one has no signal is refused where SCL and SDA have theirs, since else
 /// that comes first.
@@ -32,9 +27,9 @@ pub(crate) fn open_driven<'v, 'a, J: Input>(
         return Err(Halt::NoTimescale);
     }
     if dump.has_both() {
-        for (drive, line) in drives.all.iter().zip(dump.others()) {
+        for (number, line) in dump.others().iter().enumerate() {
             if line.is_none() {
-                return Err(no_drive(alloc, *drive, on_no_line(alloc, *drive)));
+                return Err(Halt::NoDrive(number, NoDrive::NoLine));
             }
         }
     }
@@ -50,29 +45,11 @@ fn sought<'a>(alloc: Global, drives: Drives<'a>) -> Result<Vec<Sought<'a>>, Allo
 }
 
 /// The lines of these controllers, before the dump is read on. None where there are none.
-pub(crate) fn driving_of<'a, J: Input>(
-    alloc: Global,
-    dump: &Dump<'_, '_, J>,
-    drives: Drives<'a>,
-) -> Result<Option<Driving<'a>>, AllocError> {
+pub(crate) fn drivers_of(alloc: Global, drives: Drives<'_>) -> Option<Drivers> {
     if drives.is_empty() {
-        return Ok(None);
+        return None;
     }
-    let mut probes = Vec::new(alloc);
-    for line in dump.others() {
-        probes.push(match line {
-            Some(line) => line.probe(),
-            None => Probe::Coded(""),
-        })?;
-    }
-    let drivers = Drivers::new(
-        alloc,
-        dump.scl(),
-        dump.sda(),
-        probes.as_slice(),
-        drives.pulling,
-    )?;
-    Ok(Some(Driving::new(drives, drivers)))
+    Some(Drivers::new(alloc, drives.all.len(), drives.pulling))
 }
 
 /// Hands the transactions of the dump on, beside the lines of controllers.
@@ -80,56 +57,50 @@ pub(crate) fn decode_driven<J: Input, S: TransactionSink>(
     alloc: Global,
     dump: &mut Dump<'_, '_, J>,
     sink: &mut S,
-    driving: Option<&Driving<'_>>,
+    drivers: &mut Option<Drivers>,
 ) -> Result<Ending, RunError>
     requires { S.needs }
 {
-    match driving {
-        Some(mut driving) => dump.decode_with(alloc, sink, &mut driving),
+    match drivers {
+        Some(drivers) => dump.decode_beside(alloc, sink, drivers),
         None => dump.decode(alloc, sink),
     }
 }
 
-/// Refuses a line that is SDA itself, or that pulls it where it is HIGH, once the dump has been read. What to say of one that
-/// cannot be told apart from SDA.
-pub(crate) fn refuse_others(alloc: Global, driving: Option<&Driving<'_>>) -> Result<Hints, Halt> {
-    let Some(driving) = driving else {
-        return Ok(Hints::new(alloc));
+/// Refuses a line that is SDA itself, or that pulls it where it is HIGH, once the dump has been read. The first one that cannot
+/// be told apart from SDA.
+pub(crate) fn refuse_others(drivers: &Option<Drivers>) -> Result<Option<usize>, Halt> {
+    let Some(drivers) = drivers else {
+        return Ok(None);
     };
-    let mut hints = Hints::new(alloc);
-    if let Some(alike) = driving.first_alike()
-        && let Some(drive) = drive_of(driving, Some(alike.number))
-    {
-        if alike.is_sda {
-            return Err(no_drive(alloc, drive, on_same_line(alloc, drive)));
+    let alike = match drivers.first_alike() {
+        Some(alike) if alike.is_sda => {
+            return Err(Halt::NoDrive(alike.number, NoDrive::SameLine));
         }
-        hints = on_like_line(alloc, drive)?;
+        Some(alike) => Some(alike.number),
+        None => None,
+    };
+    match drivers.first_denied() {
+        Some(number) => Err(Halt::NoDrive(number, NoDrive::Denied)),
+        None => Ok(alike),
     }
-    match drive_of(driving, driving.first_denied()) {
-        Some(drive) => Err(no_drive(alloc, drive, on_denied_line(alloc, drive))),
-        None => Ok(hints),
-    }
-}
-
-fn drive_of<'a>(driving: &Driving<'a>, number: Option<usize>) -> Option<Drive<'a>> {
-    driving.drives().get(number?).copied()
 }
 
 /// Holds what the controllers do against the plan.
-pub(crate) fn judging_of<'d, 'a>(
+pub(crate) fn judging_of<'a>(
     alloc: Global,
-    driving: Option<&'d Driving<'a>>,
+    drives: Drives<'a>,
     plan: &Plan,
     words: PlanWords<'_>,
-) -> Result<Option<Judging<'d, 'a>>, AllocError> {
-    let Some(driving) = driving else {
+) -> Result<Option<Judging<'a>>, AllocError> {
+    if drives.is_empty() {
         return Ok(None);
-    };
+    }
     let mut sendings = Vec::new(alloc);
-    for drive in driving.drives() {
+    for drive in drives.all {
         sendings.push(sendings_of(alloc, plan, words, drive.controller)?)?;
     }
-    Ok(Some(Judging::new(alloc, driving, sendings)))
+    Ok(Some(Judging::new(drives, sendings)))
 }
 
 // The participants of the plan that a controller of this name can be.
@@ -164,11 +135,10 @@ pub(crate) fn refuse_unknown(
     words: PlanWords<'_>,
     drives: Drives<'_>,
 ) -> Result<(), Halt> {
-    for drive in drives.all {
+    for (number, drive) in drives.all.iter().enumerate() {
         if !has_controller(words, drive.controller) {
             let names = names_of(alloc, words)?;
-            let hints = on_no_controller(alloc, *drive, names.as_slice());
-            return Err(no_drive(alloc, *drive, hints));
+            return Err(Halt::NoDrive(number, NoDrive::NoController(names)));
         }
     }
     Ok(())
@@ -185,32 +155,29 @@ fn has_controller(words: PlanWords<'_>, name: &str) -> bool {
 }
 
 // The names of the controllers, each once.
-fn names_of<'a>(alloc: Global, words: PlanWords<'a>) -> Result<Vec<&'a str>, AllocError> {
-    let mut names: Vec<&'a str> = Vec::new(alloc);
+fn names_of(alloc: Global, words: PlanWords<'_>) -> Result<Vec<String>, AllocError> {
+    let mut names = Vec::new(alloc);
     for controller in 0..words.plan().controllers() {
         let name = words.name(controller);
-        if !names.as_slice().contains(&name) {
-            names.push(name)?;
+        if !has_name(names.as_slice(), name) {
+            names.push(String::from_str(alloc, name)?)?;
         }
     }
     Ok(names)
 }
 
+fn has_name(names: &[String], name: &str) -> bool {
+    names.iter().any(|it| it.as_str() == name)
+}
+
 /// Refuses a controller that a brief cannot have.
 pub(crate) fn refuse_no_names(alloc: Global, drives: Drives<'_>) -> Result<(), Halt> {
-    for drive in drives.all {
+    for (number, drive) in drives.all.iter().enumerate() {
         match Name::new(alloc, drive.controller) {
             Ok(_) if !is_brief_word(drive.controller) => {}
             Err(NameError::NoMemory) => return Err(Halt::Run(RunError::NoMemory)),
-            _ => return Err(no_drive(alloc, *drive, on_no_name(alloc, *drive))),
+            _ => return Err(Halt::NoDrive(number, NoDrive::NoName)),
         }
     }
     Ok(())
-}
-
-fn no_drive(alloc: Global, drive: Drive<'_>, hints: Result<Hints, AllocError>) -> Halt {
-    match (String::from_str(alloc, drive.controller), hints) {
-        (Ok(controller), Ok(hints)) => Halt::NoDrive(controller, hints),
-        _ => Halt::Run(RunError::NoMemory),
-    }
 }

@@ -5,6 +5,4 @@
 mod driven;
 mod recordings;
 
-pub use recordings::{
-    Capture, Lesson, decode, explain_capture, learn, learn_with_names, list_signals,
-};
+pub use recordings::{decode, explain_capture, learn, learn_with_names, list_signals};

@@ -14,48 +14,32 @@ ghost use Rattle.run_parts.specs.declared.runs.Status.TheVariants.{Good};
 ghost use Rattle.vcd_read.specs.Views.{asked};
 
 use crate::driven::{
-    decode_driven, driving_of, judging_of, open_driven, refuse_no_names, refuse_others,
+    decode_driven, drivers_of, judging_of, open_driven, refuse_no_names, refuse_others,
     refuse_unknown,
 };
 use bus_rows::Paint;
-use byte_lines::{ByteCounts, write_decoded};
+use byte_lines::{ByteCounts, write_decoded, write_decoded_beside};
 use capture_check::Rises;
+use command_words::{Capture, Lesson};
 use decoding::Explaining;
-use drives::Driving;
+use drives::Drivers;
 use dump_findings::{Layout, Seen, Selection, status_of_seen};
 use dump_objects::{CaptureObjects, DecodeObjects, write_signals};
 use dump_tokens::{Bus, BusLines, Drives, Limits, Quiet, Window};
 use given_plans::{GivenPlan, Halted, Provenance};
 use given_runs::{GivenCapture, GivenLive, capture_given, live_given};
-use hints::Hints;
 use lessons::{BriefBefore, Likeness, Sights, brief_of, write_brief, write_learned};
 use plan_core::Plan;
 use plan_words::PlanWords;
 use report::{CaptureCounts, CaptureReport, live_capture, write_capture};
-use run_ends::{
-    Canvas, Ended, Halt, Recorded, Remark, Sources, Style, halted, halted_by, open_dump, write_wave,
-};
-use run_parts::{Input, Output, RunError, Status, Watched, write_lines};
-use signals::{Dump, Listed, OpenDump, Recorder, SignalDump, Tapped, reads_ahead};
+use run_ends::{Ended, Findings, Halt, Recorded, Sources, Style, halted, halted_by, open_dump};
+use run_parts::{Input, Output, RunError, Status, write_lines};
+use signals::{Dump, Listed, OpenDump, Recorder, SignalDump, reads_ahead};
 use std::alloc::Global;
-use std::rt::Files;
 use std::thread::Threads;
-use std::time::Clock;
 use transaction_lines::{CaptureLines, DecodeLines};
 use vcd_read::{Probe, Wrong};
 use waves::wave_of_recording;
-
-/// A capture that is asked for.
-#[derive(Clone, Copy)]
-pub struct Capture<'a> {
-    pub bus: Bus<'a>,
-    pub explain: bool,
-    pub live: bool,
-    /// Whether the first transaction that nobody explains ends the run.
-    pub stops: bool,
-    /// The lines of controllers that are followed.
-    pub drives: Drives<'a>,
-}
 
 // What a capture has come to: its status, what it tells, in how many transactions a controller departed from the rules of the
 // plan, and how often SCL rises.
@@ -67,20 +51,27 @@ struct Told {
     rises: Rises,
 }
 
-impl Capture<'_> {
-    // Whether its lines are the exact ones, and no others.
-    fn is_exact(self) -> bool {
-        self.bus.view.is_whole() && !self.explain && !self.stops && self.drives.is_empty()
-    }
+// Whether the lines of a capture are the exact ones, and no others.
+fn is_exact(capture: Capture<'_>) -> bool {
+    capture.bus.view.is_whole() && !capture.explain && !capture.stops && capture.drives.is_empty()
+}
 
-    /// How its lines are written.
-    pub fn layout(self, paint: Paint) -> Layout {
-        Layout {
-            explain: self.explain,
-            paint,
-            live: self.live,
-            stops: self.stops,
-        }
+// How its lines are written.
+fn layout_of(capture: Capture<'_>, paint: Paint) -> Layout {
+    Layout {
+        explain: capture.explain,
+        paint,
+        live: capture.live,
+        stops: capture.stops,
+    }
+}
+
+// The end of a run over a dump.
+fn ended(status: Status, recorded: Recorded, rises: Rises, alike: Option<usize>) -> Ended {
+    Ended {
+        status,
+        findings: Findings::Recording(recorded, rises, alike),
+        wave: None,
     }
 }
 
@@ -96,8 +87,7 @@ pub fn explain_capture<R: AllocGlobal + Threads + Sync, I: Input, J: Input, O: O
     capture: Capture<'_>,
     style: Style,
 ) -> Result<Ended, Halt> {
-    let is_exact = capture.is_exact() && matches!(style, Style::Lines(Paint::Plain));
-    if !is_exact {
+    if !is_exact(capture) || !matches!(style, Style::Lines(Paint::Plain)) {
         return capture_in_form(rt, plans, vcd, out, capture, style);
     }
     if reads_ahead(capture.bus) {
@@ -141,7 +131,8 @@ fn capture_exactly<R: AllocGlobal + Threads + Sync, I: Input, J: Input, O: Outpu
             let seen = Recorded::Bus(window, seen_in(&captured));
             Ok(Ended {
                 status: captured.status,
-                remark: Remark::recording(alloc, seen, captured.rises),
+                findings: Findings::Recording(seen, captured.rises, None),
+                wave: None,
             })
         }
         Err(halted) => Err(halt_at(plans, halted, wrong)),
@@ -159,7 +150,7 @@ fn seen_in(captured: &CaptureReport) -> Seen {
 // A run over a plan and a dump goes no further, with what is wrong with the dump, where that is refused.
 fn halt_at<I: Input>(plans: &Sources<'_, I>, halted: Halted, wrong: Option<Wrong>) -> Halt {
     match halted.error {
-        error @ RunError::Vcd(_) => Halt::Dump(error, wrong),
+        error @ RunError::Vcd(_) => halted_by(error, wrong),
         _ => plans.halt(halted),
     }
 }
@@ -181,10 +172,7 @@ fn capture_live<R: AllocGlobal + Threads + Sync, I: Input, J: Input, O: Output>(
     match live_given(rt, alloc, readers, vcd, out, scl, sda, least, &mut wrong) {
         Ok(GivenLive { counts, .. }) => {
             let seen = Recorded::Bus(window, seen_live(counts));
-            Ok(Ended {
-                status: counts.status,
-                remark: Remark::recording(alloc, seen, counts.rises),
-            })
+            Ok(ended(counts.status, seen, counts.rises, None))
         }
         Err(halted) => Err(halt_at(plans, halted, wrong)),
     }
@@ -211,10 +199,10 @@ fn capture_ahead<R: AllocGlobal + Threads + Sync, I: Input, J: Input, O: Output>
     let GivenPlan { plan, .. } = plans.find(alloc)?;
     let mut dump = open_dump(alloc, vcd, bus)?;
     match capture_picked(rt, &plan, dump.parts(), out, live) {
-        Ok(told) => Ok(Ended {
-            status: told.status,
-            remark: Remark::recording(alloc, Recorded::Bus(bus.view.window, told.seen), told.rises),
-        }),
+        Ok(told) => {
+            let seen = Recorded::Bus(bus.view.window, told.seen);
+            Ok(ended(told.status, seen, told.rises, None))
+        }
         Err(error) => Err(halted(dump, error)),
     }
 }
@@ -232,6 +220,7 @@ fn capture_picked<R: AllocGlobal + Threads + Sync, J: Input, O: Output>(
         vcd,
         scl,
         sda,
+        others: _,
         least,
         wrong,
     } = dump;
@@ -273,21 +262,21 @@ fn capture_in_form<R: AllocGlobal + Threads + Sync, I: Input, J: Input, O: Outpu
     let words = plans.words(&plan, &provenance);
     refuse_unknown(rt.alloc(), words, capture.drives)?;
     let mut dump = open_driven(rt.alloc(), vcd, capture.bus, capture.drives)?;
-    let (told, hints) = capture_open(rt, words, &mut dump, out, capture, style)?;
+    let (told, alike) = capture_open(rt, words, &mut dump, out, capture, style)?;
     match told {
-        Ok(told) => Ok(Ended {
-            status: told.status,
-            remark: Remark::Recording(
-                Recorded::Bus(capture.bus.view.window, told.seen),
-                told.rises,
-                hints,
-            ),
-        }),
+        Ok(told) => {
+            let seen = Recorded::Bus(capture.bus.view.window, told.seen);
+            Ok(Ended {
+                status: told.status,
+                findings: Findings::Recording(seen, told.rises, alike),
+                wave: None,
+            })
+        }
         Err(error) => Err(halted(dump, error)),
     }
 }
 
-// The capture of a dump that is open, and what to say of the lines of controllers.
+// The capture of a dump that is open, and which line of a controller cannot be told apart from SDA.
 fn capture_open<R: AllocGlobal + Threads + Sync, J: Input, O: Output>(
     rt: &R,
     words: PlanWords<'_>,
@@ -295,13 +284,12 @@ fn capture_open<R: AllocGlobal + Threads + Sync, J: Input, O: Output>(
     out: &mut O,
     capture: Capture<'_>,
     style: Style,
-) -> Result<(Result<Told, RunError>, Hints), Halt>
+) -> Result<(Result<Told, RunError>, Option<usize>), Halt>
     ensures status { IfOk result (λ it. IfOk it.0 (λ told. IsJudged capture.entry.bus.view.at_least told)) }
 {
-    let driving = driving_of(rt.alloc(), &*dump, capture.drives)?;
-    let told = capture_dump(rt, words, dump, out, capture, style, driving.as_ref());
-    let hints = refuse_others(rt.alloc(), driving.as_ref())?;
-    Ok((told, hints))
+    let mut drivers = drivers_of(rt.alloc(), capture.drives);
+    let told = capture_dump(rt, words, dump, out, capture, style, &mut drivers);
+    Ok((told, refuse_others(&drivers)?))
 }
 
 // The report in another form.
@@ -312,13 +300,13 @@ fn capture_dump<R: AllocGlobal + Threads + Sync, J: Input, O: Output>(
     out: &mut O,
     capture: Capture<'_>,
     style: Style,
-    driving: Option<&Driving<'_>>,
+    drivers: &mut Option<Drivers>,
 ) -> Result<Told, RunError>
     ensures status { IfOk result (λ it. IsJudged capture.entry.bus.view.at_least it) }
 {
     let (selection, rises) = match style {
-        Style::Objects => capture_objects(rt, words, dump, out, capture, driving)?,
-        Style::Lines(paint) => capture_lines(rt, words, dump, out, capture, paint, driving)?,
+        Style::Objects => capture_objects(rt, words, dump, out, capture, drivers)?,
+        Style::Lines(paint) => capture_lines(rt, words, dump, out, capture, paint, drivers)?,
     };
     let Selection { seen, departed, .. } = selection;
     Ok(Told {
@@ -336,19 +324,19 @@ fn capture_lines<R: AllocGlobal + Threads + Sync, J: Input, O: Output>(
     out: &mut O,
     capture: Capture<'_>,
     paint: Paint,
-    driving: Option<&Driving<'_>>,
+    drivers: &mut Option<Drivers>,
 ) -> Result<(Selection, Rises), RunError> {
     let alloc = rt.alloc();
     let selection = Selection::new(capture.bus.view, dump.scale());
-    let lines = CaptureLines::new(alloc, words, selection, capture.layout(paint), out)?;
-    let judging = judging_of(alloc, driving, words.plan(), words)?;
+    let lines = CaptureLines::new(alloc, words, selection, layout_of(capture, paint), out)?;
+    let judging = judging_of(alloc, capture.drives, words.plan(), words)?;
     let mut explaining = Explaining {
         rt,
         alloc,
         plan: words.plan(),
         sink: lines.with_drives(judging),
     };
-    let ended = decode_driven(alloc, dump, &mut explaining, driving);
+    let ended = decode_driven(alloc, dump, &mut explaining, drivers);
     let Explaining { sink, .. } = explaining;
     match ended {
         Ok(ending) => Ok((sink.finish(dump.quiet(), ending)?, ending.rises)),
@@ -362,19 +350,25 @@ fn capture_objects<R: AllocGlobal + Threads + Sync, J: Input, O: Output>(
     dump: &mut Dump<'_, '_, J>,
     out: &mut O,
     capture: Capture<'_>,
-    driving: Option<&Driving<'_>>,
+    drivers: &mut Option<Drivers>,
 ) -> Result<(Selection, Rises), RunError> {
     let alloc = rt.alloc();
     let selection = Selection::new(capture.bus.view, dump.scale());
-    let objects = CaptureObjects::new(alloc, words, selection, capture.layout(Paint::Plain), out)?;
-    let judging = judging_of(alloc, driving, words.plan(), words)?;
+    let objects = CaptureObjects::new(
+        alloc,
+        words,
+        selection,
+        layout_of(capture, Paint::Plain),
+        out,
+    )?;
+    let judging = judging_of(alloc, capture.drives, words.plan(), words)?;
     let mut explaining = Explaining {
         rt,
         alloc,
         plan: words.plan(),
         sink: objects.with_drives(judging),
     };
-    let ended = decode_driven(alloc, dump, &mut explaining, driving);
+    let ended = decode_driven(alloc, dump, &mut explaining, drivers);
     let Explaining { sink, .. } = explaining;
     match ended {
         Ok(ending) => Ok((sink.finish(ending)?, ending.rises)),
@@ -384,20 +378,19 @@ fn capture_objects<R: AllocGlobal + Threads + Sync, J: Input, O: Output>(
 
 // ---- decode
 
-/// Writes the transactions of the dump that the reader gives, in bytes; and the bus as waves into a file, where there is one
-/// for them.
-pub fn decode<R: Files + Print + Eprint + Clock + AllocGlobal, J: Input, O: Output>(
-    rt: &R,
+/// Writes the transactions of the dump that the reader gives, in bytes; with the bus as waves, where these are wanted.
+pub fn decode<J: Input, O: Output>(
+    alloc: Global,
     vcd: &mut J,
     out: &mut O,
     bus: Bus<'_>,
     live: bool,
     style: Style,
-    canvas: Option<Canvas<'_, '_>>,
+    has_wave: bool,
 ) -> Result<Ended, Halt> {
     let is_exact = bus.view.is_whole() && matches!(style, Style::Lines(_));
-    if !is_exact || canvas.is_some() || reads_ahead(bus) {
-        return decode_in_form(rt, vcd, out, bus, live, style, canvas);
+    if !is_exact || has_wave || reads_ahead(bus) {
+        return decode_in_form(alloc, vcd, out, bus, live, style, has_wave);
     }
     let BusLines {
         scl,
@@ -406,7 +399,7 @@ pub fn decode<R: Files + Print + Eprint + Clock + AllocGlobal, J: Input, O: Outp
         ..
     } = bus.lines;
     let least = Quiet::of(min_pulse, None).least;
-    decode_exactly(rt.alloc(), vcd, out, scl, sda, least, live, bus.view.window)
+    decode_exactly(alloc, vcd, out, scl, sda, least, live, bus.view.window)
 }
 
 // The exact report, by the run of `byte_lines`.
@@ -426,14 +419,14 @@ fn decode_exactly<J: Input, O: Output>(
 {
     let mut wrong = None;
     match write_decoded(alloc, vcd, out, scl, sda, least, live, &mut wrong) {
-        Ok(counts) => Ok(Ended {
-            status: Status::Good,
-            remark: Remark::recording(
-                alloc,
-                Recorded::Bytes(window, seen_in_bytes(counts)),
-                counts.rises,
-            ),
-        }),
+        Ok(counts) => {
+            let seen = Recorded::Bytes(window, seen_in_bytes(counts));
+            Ok(Ended {
+                status: Status::Good,
+                findings: Findings::Recording(seen, counts.rises, None),
+                wave: None,
+            })
+        }
         Err(error) => Err(halted_by(error, wrong)),
     }
 }
@@ -447,79 +440,61 @@ fn seen_in_bytes(counts: ByteCounts) -> Seen {
 }
 
 // The report in another form, by definitions that are read ahead, or beside waves.
-fn decode_in_form<R: Files + Print + Eprint + Clock + AllocGlobal, J: Input, O: Output>(
-    rt: &R,
+fn decode_in_form<J: Input, O: Output>(
+    alloc: Global,
     vcd: &mut J,
     out: &mut O,
     bus: Bus<'_>,
     live: bool,
     style: Style,
-    canvas: Option<Canvas<'_, '_>>,
+    has_wave: bool,
 ) -> Result<Ended, Halt>
     ensures status { IfOk result (λ it. EndsJudged bus.entry.view.at_least 0 it) }
 {
-    let alloc = rt.alloc();
     let mut dump = open_dump(alloc, vcd, bus)?;
     let selection = Selection::new(bus.view, dump.scale());
-    let mut tap = match canvas {
-        Some(_) => Some(Recorder::new(alloc, dump.scl(), dump.sda())?),
-        None => None,
+    let mut recorder = if has_wave {
+        Some(Recorder::new(alloc))
+    } else {
+        None
     };
     let told = match style {
-        Style::Objects => decode_objects(alloc, &mut dump, out, selection, live, &mut tap),
+        Style::Objects => decode_objects(alloc, &mut dump, out, selection, live, &mut recorder),
         Style::Lines(_) if bus.view.is_whole() => {
-            exact_bytes(alloc, &mut dump, out, selection, live, &mut tap)
+            exact_bytes(alloc, &mut dump, out, selection, live, &mut recorder)
         }
-        Style::Lines(_) => decode_lines(alloc, &mut dump, out, selection, live, &mut tap),
+        Style::Lines(_) => decode_lines(alloc, &mut dump, out, selection, live, &mut recorder),
     };
     let least = dump.quiet().least;
     let (selection, rises) = match told {
         Ok(told) => told,
         Err(error) => return Err(halted(dump, error)),
     };
-    let status = status_of_seen(bus.view.at_least, selection.seen, 0);
-    draw_tapped(rt, tap, least, bus.view.window, status, canvas)?;
+    let wave = match recorder {
+        Some(recorder) => Some(Ok(draw_recording(alloc, recorder, least, bus.view.window)?)),
+        None => None,
+    };
     let recorded = Recorded::Bytes(bus.view.window, selection.seen);
     Ok(Ended {
-        status,
-        remark: Remark::recording(alloc, recorded, rises),
+        status: status_of_seen(bus.view.at_least, selection.seen, 0),
+        findings: Findings::Recording(recorded, rises, None),
+        wave,
     })
 }
 
-// Draws what was recorded, where that is wanted.
-fn draw_tapped<R: Files + Print + Eprint + Clock + AllocGlobal>(
-    rt: &R,
-    tap: Option<Recorder>,
-    least: u64,
-    window: Window,
-    status: Status,
-    canvas: Option<Canvas<'_, '_>>,
-) -> Result<(), Halt> {
-    match (canvas, tap) {
-        (Some(canvas), Some(recorder)) => {
-            draw_recording(rt, recorder, least, window, status, canvas)
-        }
-        _ => Ok(()),
-    }
-}
-
 // Draws what was recorded, with the bytes of the levels that last for so long.
-fn draw_recording<R: Files + Print + Eprint + Clock + AllocGlobal>(
-    rt: &R,
+fn draw_recording(
+    alloc: Global,
     recorder: Recorder,
     least: u64,
     window: Window,
-    status: Status,
-    canvas: Canvas<'_, '_>,
-) -> Result<(), Halt> {
+) -> Result<String, RunError> {
     let recorded = recorder.finish()?;
-    let wave = if least == 0 {
-        wave_of_recording(rt.alloc(), &recorded, &recorded, window)?
-    } else {
-        let lasting = recorded.lasting(rt.alloc(), least)?;
-        wave_of_recording(rt.alloc(), &recorded, &lasting, window)?
-    };
-    write_wave(rt, wave.as_str(), status, canvas)
+    if least == 0 {
+        return Ok(wave_of_recording(alloc, &recorded, &recorded, window)?);
+    }
+    let lasting = recorded.lasting(alloc, least)?;
+    Ok(wave_of_recording(alloc, &recorded, &lasting, window)?)
 }
 
 // The exact lines, by the run of `byte_lines` over what gives the dump from its beginning on.
@@ -529,10 +504,10 @@ fn exact_bytes<J: Input, O: Output>(
     out: &mut O,
     mut selection: Selection,
     live: bool,
-    tap: &mut Option<Recorder>,
+    recorder: &mut Option<Recorder>,
 ) -> Result<(Selection, Rises), RunError> {
-    let told = match tap {
-        Some(tap) => bytes_beside(alloc, dump.parts(), out, live, tap),
+    let told = match recorder {
+        Some(recorder) => bytes_beside(alloc, dump.parts(), out, live, recorder),
         None => bytes_of(alloc, dump.parts(), out, live),
     };
     match told {
@@ -554,6 +529,7 @@ fn bytes_of<J: Input, O: Output>(
         vcd,
         scl,
         sda,
+        others: _,
         least,
         wrong,
     } = dump;
@@ -566,21 +542,17 @@ fn bytes_beside<J: Input, O: Output>(
     dump: OpenDump<'_, '_, J>,
     out: &mut O,
     live: bool,
-    tap: &mut Recorder,
+    recorder: &mut Recorder,
 ) -> Result<ByteCounts, RunError> {
     let OpenDump {
         vcd,
         scl,
         sda,
+        others: _,
         least,
         wrong,
     } = dump;
-    let mut tapped = Watched::new(Tapped::new(vcd, tap));
-    let ended = write_decoded(alloc, &mut tapped, out, scl, sda, least, live, wrong);
-    match tapped.into_inner().failure() {
-        Some(error) => Err(error),
-        None => ended,
-    }
+    write_decoded_beside(alloc, vcd, out, scl, sda, least, live, recorder, wrong)
 }
 
 // Lines in which times, or what is told, are others.
@@ -590,11 +562,11 @@ fn decode_lines<J: Input, O: Output>(
     out: &mut O,
     selection: Selection,
     live: bool,
-    tap: &mut Option<Recorder>,
+    recorder: &mut Option<Recorder>,
 ) -> Result<(Selection, Rises), RunError> {
     let mut lines = DecodeLines::new(alloc, selection, live, out)?;
-    let ending = match tap {
-        Some(tap) => dump.decode_with(alloc, &mut lines, tap)?,
+    let ending = match recorder {
+        Some(recorder) => dump.decode_beside(alloc, &mut lines, recorder)?,
         None => dump.decode(alloc, &mut lines)?,
     };
     Ok((lines.finish()?, ending.rises))
@@ -606,26 +578,17 @@ fn decode_objects<J: Input, O: Output>(
     out: &mut O,
     selection: Selection,
     live: bool,
-    tap: &mut Option<Recorder>,
+    recorder: &mut Option<Recorder>,
 ) -> Result<(Selection, Rises), RunError> {
     let mut lines = DecodeObjects::new(alloc, selection, live, out)?;
-    let ending = match tap {
-        Some(tap) => dump.decode_with(alloc, &mut lines, tap)?,
+    let ending = match recorder {
+        Some(recorder) => dump.decode_beside(alloc, &mut lines, recorder)?,
         None => dump.decode(alloc, &mut lines)?,
     };
     Ok((lines.finish()?, ending.rises))
 }
 
 // ---- learn and signals
-
-/// A brief that is asked for.
-#[derive(Clone, Copy)]
-pub struct Lesson<'a> {
-    pub bus: Bus<'a>,
-    pub likeness: Likeness,
-    /// The lines of controllers, which share the messages out.
-    pub drives: Drives<'a>,
-}
 
 /// Writes a brief of what the dump that the reader gives has shown.
 pub fn learn<J: Input, O: Output>(
@@ -703,13 +666,12 @@ fn learn_open<J: Input, O: Output>(
     lesson: Lesson<'_>,
     before: Option<&BriefBefore<'_>>,
 ) -> Result<Result<Ended, RunError>, Halt> {
-    let driving = driving_of(alloc, &*dump, lesson.drives)?;
-    let driving = driving.as_ref();
-    let seen = Sights::new(alloc, lesson.bus.view, dump.scale(), before).with_drives(driving);
-    if driving.is_none() {
-        return Ok(learn_alone(alloc, dump, out, seen, lesson.likeness));
+    let likeness = Likeness::of(lesson.merge, lesson.widen);
+    let seen = Sights::new(alloc, lesson.bus.view, dump.scale(), before).with_drives(lesson.drives);
+    if lesson.drives.is_empty() {
+        return Ok(learn_alone(alloc, dump, out, seen, likeness));
     }
-    learn_driven(alloc, dump, out, seen, lesson.likeness, driving)
+    learn_driven(alloc, dump, out, seen, likeness, lesson.drives)
 }
 
 // The same where no lines of controllers are followed, by the run of `lessons` over what gives the dump from its beginning on.
@@ -724,14 +686,12 @@ fn learn_alone<J: Input, O: Output>(
         vcd,
         scl,
         sda,
+        others: _,
         least,
         wrong,
     } = dump.parts();
     let (status, ending) = write_learned(alloc, vcd, out, scl, sda, least, seen, likeness, wrong)?;
-    Ok(Ended {
-        status,
-        remark: Remark::Recording(Recorded::Other, ending.rises, Hints::new(alloc)),
-    })
+    Ok(ended(status, Recorded::Other, ending.rises, None))
 }
 
 fn learn_driven<J: Input, O: Output>(
@@ -740,18 +700,16 @@ fn learn_driven<J: Input, O: Output>(
     out: &mut O,
     mut seen: Sights<'_>,
     likeness: Likeness,
-    driving: Option<&Driving<'_>>,
+    drives: Drives<'_>,
 ) -> Result<Result<Ended, RunError>, Halt> {
-    let ending = match decode_driven(alloc, dump, &mut seen, driving) {
+    let mut drivers = drivers_of(alloc, drives);
+    let ending = match decode_driven(alloc, dump, &mut seen, &mut drivers) {
         Ok(ending) => ending,
         Err(error) => return Ok(Err(error)),
     };
-    let hints = refuse_others(alloc, driving)?;
+    let alike = refuse_others(&drivers)?;
     let status = write_seen(alloc, seen, likeness, out)?;
-    Ok(Ok(Ended {
-        status,
-        remark: Remark::Recording(Recorded::Other, ending.rises, hints),
-    }))
+    Ok(Ok(ended(status, Recorded::Other, ending.rises, alike)))
 }
 
 // Writes the brief of what was seen: what it means, and which paths that has, is promised of what is written.
@@ -787,10 +745,7 @@ pub fn list_signals<J: Input, O: Output>(
         Err(error) => return Err(halted_by(error, wrong)),
     };
     write_listed(alloc, &listed, out, style)?;
-    Ok(Ended {
-        status: Status::Good,
-        remark: Remark::recording(alloc, Recorded::Signals, Rises::NONE),
-    })
+    Ok(ended(Status::Good, Recorded::Signals, Rises::NONE, None))
 }
 
 fn write_listed<O: Output>(

@@ -2,7 +2,7 @@
 
 use crate::times::Time;
 use crate::windows::{View, has_unit};
-use vcd_read::{Level, Probe};
+use vcd_read::Probe;
 
 /// Which two signals of a dump are the lines of the bus, and how long a level has to last.
 #[derive(Clone, Copy)]
@@ -41,16 +41,6 @@ pub enum Pulling {
     AtOne,
 }
 
-impl Pulling {
-    /// Whether a line at this level pulls. One that is unknown does not.
-    pub fn is_at(self, level: Level) -> bool {
-        match self {
-            Pulling::AtZero => level == Level::Low,
-            Pulling::AtOne => level == Level::High,
-        }
-    }
-}
-
 /// A controller, and the line of a dump that has what it pulls itself: a name, a path or a code.
 #[derive(Clone, Copy)]
 pub struct Drive<'a> {
@@ -66,6 +56,12 @@ pub struct Drives<'a> {
 }
 
 impl Drives<'_> {
+    /// Those of no controller.
+    pub const NONE: Drives<'static> = Drives {
+        all: &[],
+        pulling: Pulling::AtZero,
+    };
+
     /// Whether there is none.
     pub fn is_empty(self) -> bool {
         self.all.is_empty()

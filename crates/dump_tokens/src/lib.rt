@@ -1,5 +1,6 @@
-//! A dump that is read for people: block by block (`reading`), cut into `tokens`, each with its place; `parts` has what each
-//! says there. The reader of `vcd_read` decides what a dump says; here its tokens are shown, named and counted.
+//! A dump that is read for people: `parts` has what each of its tokens says where it stands, and `reading` reads a file once
+//! more. The reader of `vcd_read` cuts a dump into tokens and decides what it says; here its tokens are shown, named and
+//! counted.
 //!
 //! Times of a dump (IEEE 1364-2005, 18.2.3.6) are numbers in the unit that its `$timescale` names; people also write them
 //! with a unit of their own. `units` has the parts of a second, `times` reads what people write, and `scales` what stands in
@@ -13,7 +14,6 @@ mod quiet;
 pub mod reading;
 mod scales;
 mod times;
-pub mod tokens;
 mod units;
 mod windows;
 

@@ -59,6 +59,11 @@ impl Parts {
         }
     }
 
+    /// Whether the `$end` of `$enddefinitions` comes next.
+    pub fn ends_definitions(&self) -> bool {
+        matches!(self.context, Context::EndDefinitions)
+    }
+
     /// What the next token says, if it says something by itself.
     pub fn next<'t>(&mut self, token: &'t [u8]) -> Option<Part<'t>> {
         match self.context {

@@ -1,8 +1,8 @@
 // Lines below the wire of a rehearsal.
 
 use crate::cells::{Cell, cells_of};
-use bus_rows::{ALIKE, Labels, begin, begin_titled, beside, pad, room_after};
-use growing_text::{Lines, Text};
+use bus_rows::{ALIKE, Labels, begin_titled, beside, pad, room_after, say};
+use growing_text::{Lines, Part, Text};
 use message_tree::Item;
 use plan_findings::Track;
 use std::alloc::{AllocError, Global};
@@ -82,11 +82,8 @@ fn bytes_in(block: &[Cell]) -> usize {
 // That blocks with so many bytes are left out, in which nobody loses.
 fn tell_alike(lines: &mut Lines, bytes: usize) {
     if bytes != 0 {
-        begin(lines);
-        lines.word("..");
-        lines.number(bytes as u64, "");
-        lines.words(ALIKE);
-        lines.end();
+        let parts = [Part::Number(bytes as u64), Part::Words(ALIKE)];
+        say(lines, ".. {} {}", &parts);
     }
 }
 
@@ -142,7 +139,7 @@ fn tell_slots(alloc: Global, lines: &mut Lines, columns: usize, block: &[Cell]) 
         column = column.saturating_add(cell.width()).saturating_add(1);
     }
     begin_titled(lines, "slot", columns);
-    lines.words_made(line.finish());
+    lines.word_made(line.finish());
     lines.end();
 }
 
@@ -154,7 +151,7 @@ fn tell_bytes(alloc: Global, lines: &mut Lines, columns: usize, wire: &[Item], b
         column = column.saturating_add(cell.width()).saturating_add(1);
     }
     begin_titled(lines, "bus", columns);
-    lines.words_made(line.finish());
+    lines.word_made(line.finish());
     lines.end();
 }
 
@@ -169,7 +166,7 @@ fn tell_wire(alloc: Global, lines: &mut Lines, columns: usize, wire: &[Item], bl
         column = column.saturating_add(cell.width()).saturating_add(1);
     }
     begin_titled(lines, "wire", columns);
-    lines.words_made(line.finish());
+    lines.word_made(line.finish());
     lines.end();
 }
 
@@ -198,7 +195,7 @@ fn tell_track(
         return;
     }
     begin_titled(lines, label, columns);
-    lines.words_made(line.finish());
+    lines.word_made(line.finish());
     tell_fate(lines, track, block, is_last);
     lines.end();
 }
@@ -215,10 +212,13 @@ fn puts_in<'a>(track: &'a Track, cell: &Cell) -> &'a str {
 fn tell_fate(lines: &mut Lines, track: &Track, block: &[Cell], is_last: bool) {
     match track.lost {
         Some(slot) if is_lost(track, block) => {
-            lines.words(" lost in slot");
-            lines.number(slot as u64, "");
+            lines.word("");
+            lines.tell("lost in slot {}", &[Part::Number(slot as u64)]);
         }
-        None if is_last => lines.words(" won"),
+        None if is_last => {
+            lines.word("");
+            lines.word("won");
+        }
         _ => {}
     }
 }

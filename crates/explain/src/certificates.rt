@@ -1,11 +1,15 @@
 // Lines below the answer to a certificate.
 
 use crate::group_lines::{tell_alone, tell_two};
-use bus_rows::{BYTES, Side, begin, row_of, say, say_all, tell_places, tell_rows};
-use growing_text::{Lines, Text};
+use bus_rows::{BYTES, Side, row_of, say, tell_places, tell_rows};
+use growing_text::{Lines, Part};
 use plan_findings::{Break, Mistake, Reason};
 use plan_words::PlanWords;
 use std::alloc::{AllocError, Global};
+
+const COUNTS: &str = "the plan has {} pairs, and the certificate has {} lines of proofs";
+
+const SAYS: &str = "its second line says that it has {}";
 
 const NOT_SO: &str = "what the certificate says is not so";
 
@@ -40,24 +44,25 @@ pub(crate) fn below_mistake(
                 tell_two_rows(alloc, &mut lines, words, *participants, sides)?;
             }
             if let Some(found) = found {
-                tell_break(alloc, &mut lines, *found);
+                tell_break(&mut lines, *found);
             }
             tell_places(alloc, &mut lines, words, *participants);
-            tell_two(alloc, &mut lines, words, *participants, NOT_SO);
+            tell_two(alloc, &mut lines, words, *participants, NOT_SO)?;
         }
         Mistake::Count {
             pairs,
             says,
             proofs,
         } => {
-            tell_counts(&mut lines, *pairs, *proofs);
+            let counts = [Part::Number(u64::from(*pairs)), Part::Number(*proofs)];
+            say(&mut lines, COUNTS, &counts);
             if let Some(said) = other_count(*says, *proofs) {
-                tell_said(&mut lines, said);
+                say(&mut lines, SAYS, &[Part::Number(u64::from(said))]);
             }
         }
         Mistake::Text => {}
     }
-    say(&mut lines, advice_on(mistake));
+    say(&mut lines, advice_on(mistake), &[]);
     lines.finish()
 }
 
@@ -75,13 +80,6 @@ fn other_count(says: Option<u32>, proofs: u64) -> Option<u32> {
         Some(said) if u64::from(said) != proofs => Some(said),
         _ => None,
     }
-}
-
-fn tell_said(lines: &mut Lines, said: u32) {
-    begin(lines);
-    lines.words("its second line says that it has");
-    lines.number(u64::from(said), "");
-    lines.end();
 }
 
 // What both send up to where their proof breaks off.
@@ -106,15 +104,13 @@ fn tell_sides(lines: &mut Lines, labels: (&str, &str), first: &Side, second: &Si
     tell_rows(lines, &rows, BYTES);
 }
 
-fn tell_break(alloc: Global, lines: &mut Lines, found: Break) {
-    let mut text = Text::new(alloc);
-    text.push("slot ");
-    text.push_number(u64::from(found.slot));
-    text.push(", word ");
-    text.push_number(u64::from(found.word));
-    text.push(" of its proof: ");
-    text.push(words_of(found.reason));
-    say_all(lines, text);
+fn tell_break(lines: &mut Lines, found: Break) {
+    let parts = [
+        Part::Number(u64::from(found.slot)),
+        Part::Number(u64::from(found.word)),
+        Part::Words(words_of(found.reason)),
+    ];
+    say(lines, "slot {}, word {} of its proof: {}", &parts);
 }
 
 fn words_of(reason: Reason) -> &'static str {
@@ -128,14 +124,4 @@ fn words_of(reason: Reason) -> &'static str {
         Reason::ReadsNeverMeet => "the two never read the same number of bytes",
         Reason::UnknownWord => "a proof has no such word there",
     }
-}
-
-fn tell_counts(lines: &mut Lines, pairs: u32, proofs: u64) {
-    begin(lines);
-    lines.words("the plan has");
-    lines.number(u64::from(pairs), "");
-    lines.words("pairs, and the certificate has");
-    lines.number(proofs, "");
-    lines.words("lines of proofs");
-    lines.end();
 }

@@ -1,10 +1,10 @@
 // Lines of unsafe pairs, and below the count of them.
 
 use bus_rows::{
-    ALIKE, Meeting, Rule, Side, begin, bus_row, deed, row_of, say, say_all, tell_places, tell_rows,
+    ALIKE, Meeting, Rule, Side, bus_row, deed, row_of, say, say_all, tell_places, tell_rows,
 };
-use growing_text::{Lines, Text};
-use plan_findings::{Offer, push_ranges};
+use growing_text::{Lines, Part, Sentence};
+use plan_findings::{Offer, tell_ranges};
 use plan_words::PlanWords;
 use std::alloc::{AllocError, Global};
 
@@ -37,37 +37,36 @@ fn tell_sides(alloc: Global, lines: &mut Lines, labels: (&str, &str), meeting: &
         row_of(labels.1, &second.bytes, second.next),
     ];
     tell_rows(lines, &rows, ALIKE);
-    tell_reason(alloc, lines, meeting);
+    tell_reason(lines, meeting);
     tell_open(alloc, lines, labels.0, first);
     tell_open(alloc, lines, labels.1, second);
 }
 
-fn tell_reason(alloc: Global, lines: &mut Lines, meeting: &Meeting) {
-    let mut words = Text::new(alloc);
-    words.push("slot ");
-    words.push_number(meeting.slot as u64);
-    words.push(", ");
-    words.push(match meeting.rule() {
+fn tell_reason(lines: &mut Lines, meeting: &Meeting) {
+    let rule = match meeting.rule() {
         Rule::Standard => "UM10204 3.1.8",
         Rule::Interrupts => "the profile of interrupts",
-    });
-    words.push(": ");
-    words.push(deed(meeting.first.next));
-    words.push(" meets ");
-    words.push(deed(meeting.second.next));
-    words.push(". Both send alike until here.");
-    say_all(lines, words);
+    };
+    say(
+        lines,
+        "slot {}, {}: {} meets {}. Both send alike until here.",
+        &[
+            Part::Number(meeting.slot as u64),
+            Part::Words(rule),
+            Part::Words(deed(meeting.first.next)),
+            Part::Words(deed(meeting.second.next)),
+        ],
+    );
 }
 
 fn tell_open(alloc: Global, lines: &mut Lines, label: &str, side: &Side) {
     if side.open.is_empty() {
         return;
     }
-    let mut words = Text::new(alloc);
-    words.push(label);
-    words.push(" may send either bit before it in slot");
-    push_ranges(&mut words, side.open.as_slice());
-    say_all(lines, words);
+    let template = "{} may send either bit before it in slot";
+    let mut said = Sentence::of(alloc, template, &[Part::Name(label)]);
+    tell_ranges(&mut said, side.open.as_slice());
+    say_all(lines, &said);
 }
 
 /// The lines of these offers.
@@ -85,13 +84,11 @@ pub(crate) fn below_unsafe(alloc: Global, offers: &[Offer]) -> Result<String, Al
 
 /// What is offered: the items stand each on a line of its own, to be copied.
 pub(crate) fn tell_offer(lines: &mut Lines, offer: &Offer) {
-    say(lines, offer.said.as_str());
+    say_all(lines, &offer.said);
     for item in &offer.items {
-        begin(lines);
-        lines.word(item.as_str());
-        lines.end();
+        say(lines, "{}", &[Part::Name(item.as_str())]);
     }
     if !offer.after.is_empty() {
-        say(lines, offer.after.as_str());
+        say_all(lines, &offer.after);
     }
 }

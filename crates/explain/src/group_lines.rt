@@ -1,10 +1,10 @@
 // Lines of a group of unsafe pairs, and of one pair by itself.
 
 use crate::faults::{tell_offer, tell_pair};
-use bus_rows::{Meeting, begin, meeting_of, say_all};
+use bus_rows::{Meeting, meeting_of, say, say_all};
 use causes::Group;
 use certificate::Fault;
-use growing_text::{Lines, Text};
+use growing_text::{Lines, Part, Sentence};
 use plan_findings::{offer_for_group, why_unsafe};
 use plan_words::PlanWords;
 use remedies::Grouped;
@@ -19,10 +19,7 @@ pub(crate) fn tell_alone(
     fault: &Fault,
 ) -> Result<(), AllocError> {
     let (number, both) = pair;
-    begin(lines);
-    lines.word("pair");
-    lines.number(number as u64, ":");
-    lines.end();
+    say(lines, "pair {}:", &[Part::Number(u64::from(number))]);
     let meeting = meeting_of(alloc, words.plan(), both, fault.wire.as_slice())?;
     tell_pair(alloc, lines, words, both, &meeting)?;
     tell_two(
@@ -31,8 +28,7 @@ pub(crate) fn tell_alone(
         words,
         both,
         why_unsafe(fault.first, fault.second),
-    );
-    Ok(())
+    )
 }
 
 /// Between which two this stands.
@@ -41,19 +37,18 @@ pub(crate) fn tell_two(
     lines: &mut Lines,
     words: PlanWords<'_>,
     both: (u32, u32),
-    said: &str,
-) {
-    let mut text = Text::new(alloc);
-    text.push_made(words.label(alloc, both.0));
-    text.push(BETWEEN);
-    text.push_made(words.label(alloc, both.1));
-    text.push(": ");
-    text.push(said);
-    say_all(lines, text);
+    said: &'static str,
+) -> Result<(), AllocError> {
+    let first = words.label(alloc, both.0)?;
+    let second = words.label(alloc, both.1)?;
+    let parts = [
+        Part::Name(first.as_str()),
+        Part::Name(second.as_str()),
+        Part::Words(said),
+    ];
+    say(lines, "{} × {}: {}", &parts);
+    Ok(())
 }
-
-// What stands between two who meet.
-const BETWEEN: &str = " × ";
 
 // How many of those who meet are named.
 const NAMED: usize = 4;
@@ -71,7 +66,7 @@ pub(crate) fn of_group(
     let (pair, both) = example;
     let mut lines = Lines::new(alloc);
     if let Some(group) = groups.group(g) {
-        say_all(&mut lines, title_of(alloc, g, group, pair));
+        tell_title(&mut lines, g, group, pair);
         tell_pair(alloc, &mut lines, words, both, meeting)?;
         tell_alike(alloc, &mut lines, groups, g, group);
     }
@@ -82,62 +77,55 @@ pub(crate) fn of_group(
 }
 
 // `group 0, 16 pairs, such as pair 289:`, and of one pair alone `group 0, pair 289:`.
-fn title_of(alloc: Global, g: usize, group: Group, pair: u32) -> Text {
-    let mut words = Text::new(alloc);
-    words.push("group ");
-    words.push_number(g as u64);
-    words.push(", ");
-    if group.pairs != 1 {
-        push_pairs(&mut words, group.pairs);
-        words.push(", such as ");
+fn tell_title(lines: &mut Lines, g: usize, group: Group, pair: u32) {
+    let (g, pair) = (Part::Number(g as u64), Part::Number(u64::from(pair)));
+    if group.pairs == 1 {
+        say(lines, "group {}, pair {}:", &[g, pair]);
+    } else {
+        let pairs = Part::Number(group.pairs as u64);
+        say(
+            lines,
+            "group {}, {} pairs, such as pair {}:",
+            &[g, pairs, pair],
+        );
     }
-    words.push("pair ");
-    words.push_number(u64::from(pair));
-    words.push(":");
-    words
 }
 
 // Who meets in the group, how many pairs it has, and why they are unsafe.
 fn tell_alike(alloc: Global, lines: &mut Lines, groups: &Grouped, g: usize, group: Group) {
-    let mut words = Text::new(alloc);
-    push_meets(&mut words, groups, g);
-    words.push(": ");
-    push_pairs(&mut words, group.pairs);
-    words.push(", ");
-    words.push(why_unsafe(group.cause.first.kind, group.cause.second.kind));
-    say_all(lines, words);
+    let mut said = Sentence::new(alloc);
+    tell_meets(&mut said, groups, g);
+    let parts = [
+        Part::Number(group.pairs as u64),
+        Part::Words(if group.pairs == 1 { "pair" } else { "pairs" }),
+        Part::Words(why_unsafe(group.cause.first.kind, group.cause.second.kind)),
+    ];
+    said.tell(": {} {}, {}", &parts);
+    say_all(lines, &said);
 }
 
-fn push_meets(words: &mut Text, groups: &Grouped, g: usize) {
+fn tell_meets(said: &mut Sentence, groups: &Grouped, g: usize) {
     let all = groups.meets(g);
     for i in 0..all.min(NAMED) {
         let (first, second) = groups.meet(g, i);
-        words.push(if i == 0 { "" } else { ", " });
-        words.push(first);
-        words.push(BETWEEN);
-        words.push(second);
+        let template = if i == 0 { "{} × {}" } else { ", {} × {}" };
+        said.tell(template, &[Part::Name(first), Part::Name(second)]);
     }
     if NAMED < all {
-        words.push(" and ");
-        words.push_number(all.saturating_sub(NAMED) as u64);
-        words.push(" more");
+        let more = all.saturating_sub(NAMED) as u64;
+        said.tell(" and {} more", &[Part::Number(more)]);
     }
-}
-
-// `1 pair`, `2 pairs`.
-fn push_pairs(words: &mut Text, count: usize) {
-    words.push_number(count as u64);
-    words.push(if count == 1 { " pair" } else { " pairs" });
 }
 
 /// What stands above the groups that are not explained, where there are so many groups in all.
 pub(crate) fn above_rest(alloc: Global, groups: usize) -> Result<String, AllocError> {
-    let mut words = Text::new(alloc);
-    words.push("not explained (--most ");
-    words.push_number(groups as u64);
-    words.push(" explains all groups):");
     let mut lines = Lines::new(alloc);
-    say_all(&mut lines, words);
+    let groups = [Part::Number(groups as u64)];
+    say(
+        &mut lines,
+        "not explained (--most {} explains all groups):",
+        &groups,
+    );
     lines.finish()
 }
 

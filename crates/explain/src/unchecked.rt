@@ -1,10 +1,10 @@
 // What a check did not look at, in lines: messages that no controller lists, and pairs that `never` leaves out.
 
-use bus_rows::{begin, say};
-use growing_text::{Lines, Text};
+use bus_rows::{say, say_all, spelled};
+use growing_text::{Lines, Part, Sentence};
 use plan_core::Plan;
 use plan_findings::unsent_in;
-use plan_words::{FileLine, PlanWords};
+use plan_words::PlanWords;
 use remedies::kept_apart;
 use std::alloc::{AllocError, Global};
 
@@ -23,6 +23,7 @@ pub(crate) fn below_checked(alloc: Global, words: PlanWords<'_>) -> Result<Strin
         say(
             &mut lines,
             "no two participants may start together, so nothing was checked",
+            &[],
         );
     }
     tell_unsent(alloc, &mut lines, words)?;
@@ -37,14 +38,13 @@ fn tell_apart(lines: &mut Lines, words: PlanWords<'_>) {
         return;
     }
     let pairs = apart.saturating_add(u64::from(words.plan().pair_count()));
-    begin(lines);
-    lines.words("not checked:");
-    lines.number(apart, "");
-    lines.word("of");
-    lines.number(pairs, "");
-    lines.word(if pairs == 1 { "pair," } else { "pairs," });
-    lines.words("which 'never' keeps apart");
-    lines.end();
+    let parts = [
+        Part::Number(apart),
+        Part::Number(pairs),
+        Part::Words(if pairs == 1 { "pair" } else { "pairs" }),
+    ];
+    let template = "not checked: {} of {} {}, which 'never' keeps apart";
+    say(lines, template, &parts);
 }
 
 fn tell_unsent(alloc: Global, lines: &mut Lines, words: PlanWords<'_>) -> Result<(), AllocError> {
@@ -53,32 +53,26 @@ fn tell_unsent(alloc: Global, lines: &mut Lines, words: PlanWords<'_>) -> Result
         return Ok(());
     }
     let runs = runs_of(alloc, words, unsent.as_slice())?;
-    begin(lines);
-    lines.words("not checked:");
-    lines.number(unsent.len() as u64, "");
-    lines.word(if unsent.len() == 1 {
-        "message"
-    } else {
-        "messages"
-    });
-    lines.words("that no controller lists:");
-    tell_runs(alloc, lines, words, runs.as_slice());
-    lines.end();
+    let is_one = unsent.len() == 1;
+    let parts = [
+        Part::Number(unsent.len() as u64),
+        Part::Words(if is_one { "message" } else { "messages" }),
+    ];
+    let template = "not checked: {} {} that no controller lists:";
+    let mut said = Sentence::of(alloc, template, &parts);
+    tell_runs(alloc, &mut said, words, runs.as_slice());
+    say_all(lines, &said);
     Ok(())
 }
 
-fn tell_runs(alloc: Global, lines: &mut Lines, words: PlanWords<'_>, runs: &[Run]) {
-    let told = runs.len().min(NAMED);
-    for (k, run) in runs.iter().enumerate() {
-        if k < told {
-            let is_last = k.saturating_add(1) == told;
-            tell_run(alloc, lines, words, *run, if is_last { "" } else { "," });
-        }
+fn tell_runs(alloc: Global, said: &mut Sentence, words: PlanWords<'_>, runs: &[Run]) {
+    for (k, run) in runs.iter().take(NAMED).enumerate() {
+        said.tell(if k == 0 { " " } else { ", " }, &[]);
+        tell_run(alloc, said, words, *run);
     }
-    if told < runs.len() {
-        lines.word("and");
-        lines.number(runs.len().saturating_sub(told) as u64, "");
-        lines.word("more");
+    if NAMED < runs.len() {
+        let more = runs.len().saturating_sub(NAMED) as u64;
+        said.tell(" and {} more", &[Part::Number(more)]);
     }
 }
 
@@ -114,34 +108,19 @@ fn are_of_one(words: PlanWords<'_>, last: u32, next: u32) -> bool {
     family.is_some() && family == words.family_of(next) && last.saturating_add(1) == next
 }
 
-// Messages by the names of the first and the last one, and where they stand, if briefs have them, with this right after it.
-fn tell_run(alloc: Global, lines: &mut Lines, words: PlanWords<'_>, run: Run, after: &str) {
+// Messages by the names of the first and the last one, and where they stand, if briefs have them.
+fn tell_run(alloc: Global, said: &mut Sentence, words: PlanWords<'_>, run: Run) {
     let (first, last) = run;
-    let mut names = Text::new(alloc);
-    names.push(name_of(words.plan(), first));
+    said.tell("{}", &[Part::Name(name_of(words.plan(), first))]);
     if first != last {
-        names.push(" to ");
-        names.push(name_of(words.plan(), last));
+        said.tell(" to {}", &[Part::Name(name_of(words.plan(), last))]);
     }
-    match words.message_at(first) {
-        Some(place) => {
-            lines.words_made(names.finish());
-            lines.word_made(in_brackets(alloc, place, after));
-        }
-        None => {
-            names.push(after);
-            lines.words_made(names.finish());
+    if let Some(place) = words.message_at(first) {
+        match spelled(alloc, place) {
+            Ok(place) => said.tell(" ({})", &[Part::Name(place.as_str())]),
+            Err(_) => said.cut(),
         }
     }
-}
-
-fn in_brackets(alloc: Global, place: FileLine<'_>, after: &str) -> Result<String, AllocError> {
-    let mut text = Text::new(alloc);
-    text.push("(");
-    place.push_to(&mut text);
-    text.push(")");
-    text.push(after);
-    text.finish()
 }
 
 fn name_of(plan: &Plan, message: u32) -> &str {

@@ -44,11 +44,24 @@ pub fn open_file<'a, R: Files + Input + AllocGlobal>(
     }
 }
 
-/// What was read of it, where that can be read once more: a file, or what was kept of standard input.
-pub fn reread<R, F: Drop, S: Drop>(source: Source<'_, R, F, S>) -> Option<Reread<F>> {
+/// What is left of it once it was read: the error of the last read, where that failed, and what can be read once more: a file, or
+/// what was kept of standard input.
+pub fn closed<R, F: Drop, S: Drop>(
+    source: Source<'_, R, F, S>,
+) -> (Option<io::Error>, Option<Reread<F>>) {
     match source {
-        Opened::File(file) => Some(Reread::File(file.into_inner().into_inner())),
-        Opened::Standard(input) => Some(Reread::Kept(Cursor::new(input.into_inner().into_kept()?))),
+        Opened::File(file) => {
+            let (file, error) = file.into_inner().into_parts();
+            (error, Some(Reread::File(file)))
+        }
+        Opened::Standard(input) => {
+            let (input, kept) = input.into_inner().into_parts();
+            let (_, error) = input.into_parts();
+            match kept {
+                Some(kept) => (error, Some(Reread::Kept(Cursor::new(kept)))),
+                None => (error, None),
+            }
+        }
     }
 }
 

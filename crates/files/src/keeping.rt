@@ -22,13 +22,10 @@ impl<D> Keeping<D> {
         }
     }
 
-    /// All that was read, where it was kept.
-    pub fn into_kept(self) -> Option<Vec<u8>>
-    where
-        D: Drop,
-    {
-        let Keeping { kept, .. } = self;
-        kept
+    /// The device, and all that was read, where it was kept.
+    pub fn into_parts(self) -> (D, Option<Vec<u8>>) {
+        let Keeping { device, kept } = self;
+        (device, kept)
     }
 
     fn keep(&mut self, bytes: &[u8]) {

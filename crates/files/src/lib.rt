@@ -12,7 +12,7 @@ mod outputs;
 mod progress;
 
 pub use inputs::{
-    FileId, FilesRead, Source, identity_of, is_standard_input, missing, open_file, reread,
+    FileId, FilesRead, Source, closed, identity_of, is_standard_input, missing, open_file,
 };
 pub use keeping::{Keeping, Reread};
 pub use outputs::{Form, Sheet};

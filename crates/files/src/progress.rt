@@ -112,31 +112,47 @@ fn unit_of(bytes: u64) -> (u64, &'static str)
     }
 }
 
-/// A reader that tells how much of it was read.
+/// A reader that tells how much of it was read, and keeps the error of its last read.
 #[derive(Drop)]
 pub struct Told<'a, R, D> {
     rt: &'a R,
     device: D,
     count: Count,
+    error: Option<io::Error>,
 }
 
 impl<'a, R, D> Told<'a, R, D> {
     /// Nothing was read yet.
     pub fn new(rt: &'a R, device: D, count: Count) -> Told<'a, R, D> {
-        Told { rt, device, count }
+        Told {
+            rt,
+            device,
+            count,
+            error: None,
+        }
     }
 
-    /// The device that was read.
-    pub fn into_inner(self) -> D {
-        self.device
+    /// The device that was read, and the error of the last read, where that failed.
+    pub fn into_parts(self) -> (D, Option<io::Error>) {
+        let Told { device, error, .. } = self;
+        (device, error)
     }
 }
 
 impl<R: Clock + Eprint, D: Read> Read for Told<'_, R, D> {
     fn read(&mut self, buf: &mut [u8]) -> io::Result<usize> {
-        let count = self.device.read(buf)?;
-        self.count.add(self.rt, count);
-        Ok(count)
+        match self.device.read(buf) {
+            Ok(count) => {
+                self.error = None;
+                self.count.add(self.rt, count);
+                Ok(count)
+            }
+            Err(error) => {
+                let kind = error.kind();
+                self.error = Some(error);
+                Err(io::Error::from(kind))
+            }
+        }
     }
 }
 

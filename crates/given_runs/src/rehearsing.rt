@@ -19,6 +19,7 @@ ghost use Rattle.verdicts.specs.Certificates.{IsCertificateText};
 use bench_run::{NoGate, Outcome, Unplayed, outcome_report, rehearse, status_of_outcome};
 use given_plans::{GivenPlan, Halted, Provenance, find_among};
 use plan_core::Plan;
+use plays::RefusedStarters;
 use run_parts::devices::reading::READS;
 use run_parts::{Input, Output, RunError, Status, read_within, write_lines};
 use std::alloc::{AllocError, Global};
@@ -35,10 +36,11 @@ pub struct GivenOutcome {
     pub provenance: Provenance,
 }
 
-/// Why a rehearsal goes no further, and the plan, where its starters are refused.
+/// Why a rehearsal goes no further. Where its starters are refused: for which of them, and the plan.
 #[derive(Drop)]
 pub struct Unrehearsed {
     pub halted: Halted,
+    pub refused: Option<RefusedStarters>,
     pub given: Option<GivenPlan>,
 }
 
@@ -48,6 +50,7 @@ impl From<Halted> for Unrehearsed {
     fn from(halted: Halted) -> Unrehearsed {
         Unrehearsed {
             halted,
+            refused: None,
             given: None,
         }
     }
@@ -160,9 +163,14 @@ fn stopped_by(unplayed: Unplayed, provenance: Provenance) -> Unrehearsed
     ensures no_text { IfSome result.halted.text (λ it. ⊥) }
     ensures back { IfSome result.given (λ it. (unplayed.plan ≡ Some it.plan) × (it.provenance ≡ provenance)) }
 {
-    let Unplayed { error, plan } = unplayed;
+    let Unplayed {
+        error,
+        refused,
+        plan,
+    } = unplayed;
     Unrehearsed {
         halted: Halted::from(error),
+        refused,
         given: given_by(plan, provenance),
     }
 }

@@ -3,6 +3,7 @@
 ghost use Rattle.std.specs.Prelude.{◌≡◌};
 ghost use Rattle.growing_text.specs.Lines.{lines_cut};
 
+use crate::sentences::{Part, Sentence};
 use crate::texts::Text;
 use std::alloc::{AllocError, Global};
 
@@ -12,6 +13,7 @@ pub const COLUMNS: usize = 80;
 /// Words in lines of 80 columns. A longer word has a line of its own, and one with blanks in it is not broken either.
 #[derive(Drop)]
 pub struct Lines {
+    alloc: Global,
     text: Text,
     column: usize,
     // what a line begins with that goes on from the one before
@@ -22,6 +24,7 @@ impl Lines {
     /// No line yet.
     pub fn new(alloc: Global) -> Lines {
         Lines {
+            alloc,
             text: Text::new(alloc),
             column: 0,
             margin: "",
@@ -70,18 +73,19 @@ impl Lines {
         self.column = self.column.saturating_add(width);
     }
 
-    /// Each word of these, which stand between blanks, by itself.
-    pub fn words(&mut self, words: &str) {
-        for word in words.split(' ') {
-            self.word(word);
-        }
+    /// The words of a template: each blank in it parts two words, and each `{}` stands for the next of these parts.
+    pub fn tell(&mut self, template: &'static str, parts: &[Part<'_>]) {
+        let sentence = Sentence::of(self.alloc, template, parts);
+        self.sentence(&sentence);
     }
 
-    /// Each word of these, where there was memory to make them.
-    pub fn words_made(&mut self, words: Result<String, AllocError>) {
-        match words {
-            Ok(words) => self.words(words.as_str()),
-            Err(_) => self.cut(),
+    /// Each word of a sentence.
+    pub fn sentence(&mut self, sentence: &Sentence) {
+        for word in sentence.words() {
+            self.word(word.as_str());
+        }
+        if !sentence.is_whole() {
+            self.cut();
         }
     }
 

@@ -1,7 +1,7 @@
 // After a file that cannot be read or written, and after other refusals that have no place in a text.
 
 use crate::lines::Lines;
-use crate::paths::quoted;
+use crate::paths::push_path;
 use crate::values::Hints;
 use std::alloc::{AllocError, Global};
 use std::fmt::Display;
@@ -51,12 +51,11 @@ pub fn on_writing(
     let end = if error.is_some() { ":" } else { "" };
     match output {
         Some(path) => {
-            let path = quoted(alloc, path)?;
-            said(
-                alloc,
-                format_args!("the output {path} was not written{end}"),
-                error,
-            )
+            let mut lines = Lines::new(alloc);
+            lines.part("the output ");
+            push_path(alloc, &mut lines, path);
+            lines.say(format_args!(" was not written{end}"));
+            with_error(lines, error)
         }
         None => {
             let words = format_args!("standard output did not take the whole report{end}");
@@ -80,7 +79,6 @@ pub enum NoWaves {
 
 /// After a run that has no waves for the file of this path.
 pub fn on_no_waves(alloc: Global, path: &str, why: NoWaves) -> Result<Hints, AllocError> {
-    let path = quoted(alloc, path)?;
     let mut lines = Lines::new(alloc);
     match why {
         NoWaves::Safe => lines.part("the plan is safe"),
@@ -88,7 +86,9 @@ pub fn on_no_waves(alloc: Global, path: &str, why: NoWaves) -> Result<Hints, All
         NoWaves::NoPair(pair) => lines.part(format_args!("the plan has no pair {pair}")),
         NoWaves::Unplayed => lines.part("nothing was rehearsed"),
     }
-    lines.say(format_args!(": there is nothing to draw, so {path} was not written"));
+    lines.part(": there is nothing to draw, so ");
+    push_path(alloc, &mut lines, path);
+    lines.say(" was not written");
     lines.finish()
 }
 
@@ -97,8 +97,9 @@ pub fn on_fault(alloc: Global, output: Option<&str>) -> Result<Hints, AllocError
     let mut lines = Lines::new(alloc);
     lines.part("the plan is not safe: what was written");
     if let Some(path) = output {
-        let path = quoted(alloc, path)?;
-        lines.part(format_args!(", {path},"));
+        lines.part(", ");
+        push_path(alloc, &mut lines, path);
+        lines.part(",");
     }
     lines.say(" is a fault, and no proof");
     lines.say("'twire check PLAN --explain' shows the unsafe pairs");
@@ -151,12 +152,11 @@ fn on_file(
         let words = format_args!("{argument}, the {what} from standard input, {words}");
         return said(alloc, words, error);
     }
-    let path = quoted(alloc, path)?;
-    said(
-        alloc,
-        format_args!("{argument}, the {what} {path}, {words}"),
-        error,
-    )
+    let mut lines = Lines::new(alloc);
+    lines.part(format_args!("{argument}, the {what} "));
+    push_path(alloc, &mut lines, path);
+    lines.say(format_args!(", {words}"));
+    with_error(lines, error)
 }
 
 // A sentence, and the words of the system.
@@ -167,6 +167,10 @@ fn said<W: Display + Drop>(
 ) -> Result<Hints, AllocError> {
     let mut lines = Lines::new(alloc);
     lines.say(words);
+    with_error(lines, error)
+}
+
+fn with_error(mut lines: Lines, error: Option<&Error>) -> Result<Hints, AllocError> {
     if let Some(error) = error {
         lines.say(error);
     }

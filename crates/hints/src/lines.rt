@@ -1,19 +1,18 @@
 // Hints as they are put together, from parts.
 
 use crate::values::{Hint, Hints};
+use growing_text::Sentence;
 use std::alloc::{AllocError, Global};
 use std::fmt::Display;
-
-/// A blank within a word, at which no sentence is broken. It stands in parts alone: a hint has a blank in its place.
-pub const BLANK: char = '\0';
+use std::mem;
 
 /// Hints, one after another. That an allocation failed for one of them is told once, by `finish`.
 #[derive(Drop)]
 pub struct Lines {
     alloc: Global,
     hints: Hints,
-    // the parts of the hint that has not ended
-    parts: String,
+    // the hint that has not ended
+    open: Sentence,
     has_failed: bool,
 }
 
@@ -23,7 +22,7 @@ impl Lines {
         Lines {
             alloc,
             hints: Hints::new(alloc),
-            parts: String::new(alloc),
+            open: Sentence::new(alloc),
             has_failed: false,
         }
     }
@@ -35,11 +34,8 @@ impl Lines {
     }
 
     /// One more sentence, which belongs to the one before.
-    pub fn item(&mut self, words: &str) {
-        match words_of(self.alloc, words) {
-            Ok(words) => self.add(Hint::Item(words)),
-            Err(_) => self.fail(),
-        }
+    pub fn item(&mut self, words: &'static str) {
+        self.add(Hint::Item(Sentence::of(self.alloc, words, &[])));
     }
 
     /// One more line, which belongs to the one before. It is not broken.
@@ -53,32 +49,40 @@ impl Lines {
         self.add(Hint::Marks { column, width });
     }
 
-    /// A part of a sentence or of a detail, which is said where that ends.
+    /// A part of a sentence or of a detail, which is said where that ends. Its blanks part words.
     pub fn part<W: Display + Drop>(&mut self, words: W) {
-        if write!(self.parts, "{words}").is_err() {
-            self.fail();
-        }
-    }
-
-    /// Ends a sentence, which is said on as many lines as it takes.
-    pub fn end(&mut self) {
-        match words_of(self.alloc, self.parts.as_str()) {
-            Ok(words) => self.add(Hint::Sentence(words)),
+        match format!(in self.alloc; "{words}") {
+            Ok(words) => self.open.say(words.as_str()),
             Err(_) => self.fail(),
         }
     }
 
+    /// The same of what is one word, with the parts beside it: no sentence is broken at a blank in it.
+    pub fn word(&mut self, word: &str) {
+        self.open.go_on(word);
+    }
+
+    /// Ends a sentence, which is said on as many lines as it takes.
+    pub fn end(&mut self) {
+        let sentence = self.take();
+        self.add(Hint::Sentence(sentence));
+    }
+
     /// Ends a detail.
     pub fn end_detail(&mut self) {
-        match self.parts.replace(self.alloc, BLANK, " ") {
+        match self.take().text(self.alloc) {
             Ok(line) => self.add(Hint::Detail(line)),
             Err(_) => self.fail(),
         }
     }
 
-    // One more hint. Those parts that there were are said.
+    // What was said of the hint that ends.
+    fn take(&mut self) -> Sentence {
+        mem::replace(&mut self.open, Sentence::new(self.alloc))
+    }
+
+    // One more hint.
     fn add(&mut self, hint: Hint) {
-        self.parts.clear();
         if self.hints.push(hint).is_err() {
             self.fail();
         }
@@ -101,13 +105,4 @@ impl Lines {
             Ok(self.hints)
         }
     }
-}
-
-// The words of a sentence, which blanks part.
-fn words_of(alloc: Global, sentence: &str) -> Result<Vec<String>, AllocError> {
-    let mut words = Vec::new(alloc);
-    for word in sentence.split(' ') {
-        words.push(word.replace(alloc, BLANK, " ")?)?;
-    }
-    Ok(words)
 }

@@ -3,7 +3,7 @@
 use crate::expected::words_of;
 use crate::likeness::Nearest;
 use crate::lines::Lines;
-use crate::paths::quoted;
+use crate::paths::push_path;
 use crate::texts::{Earlier, RefusedIn};
 use crate::words::push_meant;
 use origins::{ItemKind, Kind, NameAt, NamedTexts, Role, Span};
@@ -263,13 +263,8 @@ fn push_place(alloc: Global, lines: &mut Lines, refused: &RefusedIn<'_>, stand: 
     let line = stand.line;
     lines.part(format_args!(", on line {line}"));
     if let Some(brief) = refused.earlier.get(stand.file as usize) {
-        match quoted(alloc, brief.file) {
-            Ok(file) => {
-                lines.part(" of ");
-                lines.part(file.as_str());
-            }
-            Err(_) => lines.fail(),
-        }
+        lines.part(" of ");
+        push_path(alloc, lines, brief.file);
     }
 }
 

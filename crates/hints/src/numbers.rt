@@ -1,6 +1,6 @@
 // Numbers that stand in the place of an address or of a data byte of a brief, and are none, with what would be right there.
 
-use crate::lines::{BLANK, Lines};
+use crate::lines::Lines;
 
 /// A number that is no address, or no data byte, of a brief.
 #[derive(Clone, Copy)]
@@ -98,8 +98,15 @@ const MOST_OF_TEN_BITS: u16 = 0x3FF;
 fn push_ten_bits(lines: &mut Lines, word: &str, value: u16) {
     let [high, low] = value.to_be_bytes();
     let header = 0x78 | high;
+    lines.part(format_args!(
+        "an address has seven bits, at most 0x7F; if {word} is a ten-bit address, it is sent by '"
+    ));
+    // (these words stand on one line)
+    lines.word("write ");
+    lines.part(format_args!("0x{header:02X}"));
+    lines.word(" ");
     lines.say(format_args!(
-        "an address has seven bits, at most 0x7F; if {word} is a ten-bit address, it is sent by 'write{BLANK}0x{header:02X}{BLANK}0x{low:02X}', the header 0b{header:07b} and the byte 0x{low:02X} after it, as in the recipes of the guide"
+        "0x{low:02X}', the header 0b{header:07b} and the byte 0x{low:02X} after it, as in the recipes of the guide"
     ));
 }
 

@@ -1,10 +1,10 @@
 // Names of files, as they can be pasted into a shell. What a terminal does not show as it is is escaped.
 
-use crate::lines::BLANK;
+use crate::lines::Lines;
 use growing_text::{Text, is_hidden, push_visible};
 use std::alloc::{AllocError, Global};
 
-/// A file as a word of a command. Where a blank stands in it, no hint is broken.
+/// A file as a word of a command.
 pub fn file_word(alloc: Global, path: &str) -> Result<String, AllocError> {
     let mut text = Text::new(alloc);
     if !path.is_empty() && path.chars().all(is_plain) {
@@ -28,11 +28,14 @@ fn is_plain(c: char) -> bool {
     c.is_ascii_alphanumeric() || "-_./:@%+,".contains(c)
 }
 
-/// A file in a sentence, where it stands in quotation marks.
-pub(crate) fn quoted(alloc: Global, path: &str) -> Result<String, AllocError> {
+/// Says a file in a sentence, where it stands in quotation marks, as one word.
+pub(crate) fn push_path(alloc: Global, lines: &mut Lines, path: &str) {
     let mut text = Text::new(alloc);
     push_quoted(&mut text, path);
-    text.finish()
+    match text.finish() {
+        Ok(path) => lines.word(path.as_str()),
+        Err(_) => lines.fail(),
+    }
 }
 
 fn push_quoted(text: &mut Text, path: &str) {
@@ -48,7 +51,6 @@ fn push_quoted(text: &mut Text, path: &str) {
     push_start(text, path);
     for c in path.chars() {
         match c {
-            ' ' => text.push_char(BLANK),
             '\'' | '\\' if before == "$'" => {
                 text.push_char('\\');
                 text.push_char(c);

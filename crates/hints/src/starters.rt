@@ -6,11 +6,10 @@ use crate::marking::push_name;
 use crate::values::Hints;
 use plan_core::{Participant, Plan};
 use plan_words::PlanWords;
-use plays::{OpenError, check_starters};
+use plays::RefusedStarters;
 use std::alloc::{AllocError, Global};
 
-/// What to say of these starters, labels of this plan that commas part, where no bench is opened for them. Else there
-/// is nothing to say.
+/// What to say of starters of this plan, for which no bench is opened.
 ///
 /// # Errors
 ///
@@ -18,44 +17,23 @@ use std::alloc::{AllocError, Global};
 pub fn on_starters(
     alloc: Global,
     words: PlanWords<'_>,
-    starters: &str,
+    refused: &RefusedStarters,
 ) -> Result<Hints, AllocError> {
     let mut lines = Lines::new(alloc);
     let plan = words.plan();
-    match refusal_of(alloc, plan, starters)? {
-        Some(OpenError::NoStarter) => push_none(alloc, &mut lines, plan),
-        Some(OpenError::Unknown) => push_unknown(alloc, &mut lines, words, starters),
-        Some(OpenError::SameController) => push_same(alloc, &mut lines, plan, starters),
-        Some(OpenError::Never) => push_never(alloc, &mut lines, words, starters),
-        Some(OpenError::NoMemory) | None => {}
+    match refused {
+        RefusedStarters::Nobody => push_none(alloc, &mut lines, plan),
+        RefusedStarters::Unknown(label) => push_unknown(alloc, &mut lines, words, label.as_str()),
+        RefusedStarters::OneController(one, other) => {
+            push_two(alloc, &mut lines, plan, *one, *other);
+            lines.say("a controller starts one message at a time");
+        }
+        RefusedStarters::Apart(one, other) if words.has_briefs() => {
+            push_apart(alloc, &mut lines, words, *one, *other);
+        }
+        RefusedStarters::Apart(one, other) => push_item(&mut lines, plan, *one, *other),
     }
     lines.finish()
-}
-
-/// The label for which no bench is opened, since the plan does not have it.
-///
-/// # Errors
-///
-/// Where an allocation fails.
-pub fn unknown_starter<'a>(
-    alloc: Global,
-    plan: &Plan,
-    starters: &'a str,
-) -> Result<Option<&'a str>, AllocError> {
-    match refusal_of(alloc, plan, starters)? {
-        Some(OpenError::Unknown) => Ok(first_absent(plan, starters)),
-        _ => Ok(None),
-    }
-}
-
-fn refusal_of(alloc: Global, plan: &Plan, starters: &str) -> Result<Option<OpenError>, AllocError> {
-    let mut numbers = Vec::new(alloc);
-    if !starters.is_empty() {
-        for label in starters.split(',') {
-            numbers.push(plan.find(label).unwrap_or(plan.participants()))?;
-        }
-    }
-    Ok(check_starters(plan, numbers.as_slice()).err())
 }
 
 fn push_none(alloc: Global, lines: &mut Lines, plan: &Plan) {
@@ -63,23 +41,20 @@ fn push_none(alloc: Global, lines: &mut Lines, plan: &Plan) {
     push_nearest(alloc, lines, plan, "");
 }
 
-// The first label that the plan does not have, and what the plan calls it where it is one of the briefs, or else those
-// that are like it.
-fn push_unknown(alloc: Global, lines: &mut Lines, words: PlanWords<'_>, starters: &str) {
+// A label that the plan does not have, and what the plan calls it where it is one of the briefs, or else those that are like it.
+fn push_unknown(alloc: Global, lines: &mut Lines, words: PlanWords<'_>, label: &str) {
+    lines.part("no participant of the plan has the label '");
+    push_name(lines, label.as_bytes());
+    lines.say("'");
     let plan = words.plan();
-    if let Some(label) = first_absent(plan, starters) {
-        lines.part("no participant of the plan has the label '");
-        push_name(lines, label.as_bytes());
-        lines.say("'");
-        match called_so(alloc, words, label) {
-            Ok(Some(i)) => {
-                lines.part("this is its label in the briefs; the plan calls it ");
-                push_label(alloc, lines, plan, i);
-                lines.end();
-            }
-            Ok(None) => push_nearest(alloc, lines, plan, label),
-            Err(_) => lines.fail(),
+    match called_so(alloc, words, label) {
+        Ok(Some(i)) => {
+            lines.part("this is its label in the briefs; the plan calls it ");
+            push_label(alloc, lines, plan, i);
+            lines.end();
         }
+        Ok(None) => push_nearest(alloc, lines, plan, label),
+        Err(_) => lines.fail(),
     }
 }
 
@@ -92,15 +67,6 @@ fn called_so(alloc: Global, words: PlanWords<'_>, wanted: &str) -> Result<Option
         }
     }
     Ok(None)
-}
-
-fn first_absent<'a>(plan: &Plan, starters: &'a str) -> Option<&'a str> {
-    for label in starters.split(',') {
-        if plan.find(label).is_none() {
-            return Some(label);
-        }
-    }
-    None
 }
 
 fn push_nearest(alloc: Global, lines: &mut Lines, plan: &Plan, wanted: &str) {
@@ -135,13 +101,6 @@ fn add_label(
     Ok(())
 }
 
-fn push_same(alloc: Global, lines: &mut Lines, plan: &Plan, starters: &str) {
-    if let Some((first, second)) = first_two(plan, starters, Clash::OneController) {
-        push_two(alloc, lines, plan, first, second);
-    }
-    lines.say("a controller starts one message at a time");
-}
-
 // Two starters of one controller, or one that stands there twice.
 fn push_two(alloc: Global, lines: &mut Lines, plan: &Plan, first: u32, second: u32) {
     push_label(alloc, lines, plan, first);
@@ -165,17 +124,6 @@ fn push_label(alloc: Global, lines: &mut Lines, plan: &Plan, i: u32) {
             lines.part(format_args!("'{label}'"));
         }
         Err(_) => lines.fail(),
-    }
-}
-
-fn push_never(alloc: Global, lines: &mut Lines, words: PlanWords<'_>, starters: &str) {
-    let plan = words.plan();
-    match first_two(plan, starters, Clash::Never) {
-        Some((first, second)) if words.has_briefs() => {
-            push_apart(alloc, lines, words, first, second);
-        }
-        Some((first, second)) => push_item(lines, plan, first, second),
-        None => {}
     }
 }
 
@@ -245,46 +193,4 @@ fn controller_of(plan: &Plan, i: u32) -> Option<u32> {
         Participant::Sending { controller, .. } => Some(controller),
         Participant::Interrupt(_) => None,
     }
-}
-
-// Why two starters cannot start together.
-#[derive(Clone, Copy)]
-enum Clash {
-    OneController,
-    Never,
-}
-
-fn has_clash(plan: &Plan, clash: Clash, first: u32, second: u32) -> bool {
-    let count = plan.participants();
-    if first >= count || second >= count {
-        return false;
-    }
-    match clash {
-        Clash::OneController => first == second || plan.same_controller(first, second),
-        Clash::Never => plan.forbids(first, second),
-    }
-}
-
-// The first starter that cannot start with one before it, after that one.
-fn first_two(plan: &Plan, starters: &str, clash: Clash) -> Option<(u32, u32)> {
-    for (k, label) in starters.split(',').enumerate() {
-        if let Some(starter) = plan.find(label) {
-            if let Some(other) = before(plan, starters, k, clash, starter) {
-                return Some((other, starter));
-            }
-        }
-    }
-    None
-}
-
-// The first of so many starters that cannot start with this one.
-fn before(plan: &Plan, starters: &str, count: usize, clash: Clash, starter: u32) -> Option<u32> {
-    for label in starters.split(',').take(count) {
-        if let Some(other) = plan.find(label) {
-            if has_clash(plan, clash, other, starter) {
-                return Some(other);
-            }
-        }
-    }
-    None
 }

@@ -5,7 +5,7 @@ use crate::kinds::{Kind, LOOKED_AT, is_binary, kind_of, push_kind};
 use crate::lines::Lines;
 use crate::marking::{first_line, last_line, push_marked};
 use crate::names::{push_twice, push_unknown};
-use crate::paths::quoted;
+use crate::paths::push_path;
 use crate::values::Hints;
 use crate::wording::{bad_count, foreign, push_limit, push_over, push_version};
 use crate::words::{RANGES, is_like_brief, push_reason, reason_of_characters};
@@ -371,7 +371,8 @@ fn push_span(alloc: Global, lines: &mut Lines, refused: &RefusedIn<'_>, span: Sp
     let what = called(refused.language);
     lines.part(format_args!("line {line} of the {what}"));
     if let Some(file) = refused.file {
-        push_file(alloc, lines, file);
+        lines.part(" ");
+        push_path(alloc, lines, file);
     }
     lines.say(":");
     let before = refused.part(0, start);
@@ -382,16 +383,6 @@ fn push_span(alloc: Global, lines: &mut Lines, refused: &RefusedIn<'_>, span: Sp
         refused.part(start, end),
         first_line(after),
     );
-}
-
-fn push_file(alloc: Global, lines: &mut Lines, file: &str) {
-    match quoted(alloc, file) {
-        Ok(file) => {
-            lines.part(" ");
-            lines.part(file.as_str());
-        }
-        Err(_) => lines.fail(),
-    }
 }
 
 // What is wrong with what the grammar does not allow, and what could stand there.

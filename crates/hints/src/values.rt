@@ -1,6 +1,6 @@
 // What is said to people, as values, and how these are written as lines.
 
-use growing_text::{COLUMNS, Lines, Text};
+use growing_text::{COLUMNS, Lines, Sentence, Text};
 use std::alloc::{AllocError, Global};
 
 // What each line begins with.
@@ -26,11 +26,10 @@ pub struct Hints {
 /// One of the things that are said.
 #[derive(Drop)]
 pub enum Hint {
-    /// The words of a sentence, which is broken between two of them where a line would be longer than 80 columns. A word may
-    /// have blanks in it, as a file in quotation marks.
-    Sentence(Vec<String>),
+    /// A sentence, which is broken between two words where a line would be longer than 80 columns.
+    Sentence(Sentence),
     /// The same of a sentence that belongs to the one before.
-    Item(Vec<String>),
+    Item(Sentence),
     /// A line that is shown as it is.
     Detail(String),
     /// The marks below a place of the line before: after so many columns, so many.
@@ -82,7 +81,7 @@ impl Hint {
     pub fn text(&self, alloc: Global) -> Result<String, AllocError> {
         let mut text = Text::new(alloc);
         match self {
-            Hint::Sentence(words) | Hint::Item(words) => push_words(&mut text, words.as_slice()),
+            Hint::Sentence(sentence) | Hint::Item(sentence) => text.push_made(sentence.text(alloc)),
             Hint::Detail(line) => text.push(line.as_str()),
             Hint::Marks { column, width } => push_marks(&mut text, *column, *width, false),
         }
@@ -91,8 +90,8 @@ impl Hint {
 
     fn push_lines(&self, alloc: Global, text: &mut Text, is_colored: bool) {
         match self {
-            Hint::Sentence(words) => text.push_made(broken(alloc, HEAD, words.as_slice())),
-            Hint::Item(words) => text.push_made(broken(alloc, ITEM_HEAD, words.as_slice())),
+            Hint::Sentence(sentence) => text.push_made(broken(alloc, HEAD, sentence)),
+            Hint::Item(sentence) => text.push_made(broken(alloc, ITEM_HEAD, sentence)),
             Hint::Detail(line) => {
                 text.push(DETAIL_HEAD);
                 text.push(line.as_str());
@@ -107,25 +106,13 @@ impl Hint {
     }
 }
 
-// The words on lines that begin so.
-fn broken(alloc: Global, head: &'static str, words: &[String]) -> Result<String, AllocError> {
+// The sentence on lines that begin so.
+fn broken(alloc: Global, head: &'static str, sentence: &Sentence) -> Result<String, AllocError> {
     let mut lines = Lines::new(alloc);
     lines.begin(head, head);
-    for word in words {
-        lines.word(word.as_str());
-    }
+    lines.sentence(sentence);
     lines.end();
     lines.finish()
-}
-
-// The words with a blank between two of them.
-fn push_words(text: &mut Text, words: &[String]) {
-    let mut before = "";
-    for word in words {
-        text.push(before);
-        text.push(word.as_str());
-        before = " ";
-    }
 }
 
 fn push_marks(text: &mut Text, column: usize, width: usize, is_colored: bool) {

@@ -13,7 +13,7 @@ use plan_core::Plan;
 use plan_words::{BriefFiles, PlanWords};
 use report::check_found;
 use run_ends::{Halt, NamedSources, Sources};
-use run_parts::{RunError, Watched};
+use run_parts::Watched;
 use std::alloc::{AllocError, Global};
 use std::thread::Threads;
 use verdicts::{Checked, NoGate};
@@ -97,7 +97,7 @@ fn wrong_in<R: Threads + Sync>(rt: &R, alloc: Global, parts: &[Part]) -> Result<
     let mut texts = texts_of(alloc, parts, names.as_slice())?;
     match texts.find(alloc) {
         Ok(given) => wrong_in_plan(rt, alloc, given, &texts),
-        Err(Halt::Text(RunError::Plan(error), Some(source))) => {
+        Err(Halt::Text(error, source)) => {
             let diagnostic = source.diagnose(alloc, error, named(&texts))?;
             Ok(Found {
                 all: vec![in alloc; diagnostic]?,

@@ -37,7 +37,7 @@ impl Reading {
     ) -> Result<Reading, AllocError> {
         match texts.find(alloc) {
             Ok(given) => Ok(Reading::Plan(given)),
-            Err(Halt::Text(_, Some(source))) => Ok(Reading::Refused(names_after(source, parts))),
+            Err(Halt::Text(_, source)) => Ok(Reading::Refused(names_after(source, parts))),
             Err(_) => Err(AllocError),
         }
     }

@@ -3,7 +3,7 @@
 use crate::paths::Sent;
 use crate::trees::{Node, Tree};
 use crate::words::push_data;
-use growing_text::{Lines, Text};
+use growing_text::{Lines, Part, Text};
 use std::alloc::{AllocError, Global};
 
 // How many bytes of one line are told.
@@ -70,12 +70,13 @@ fn push_times(line: &mut Lines, kind: Kind) {
     if kind.times == 1 {
         return line.word("once:");
     }
-    line.number(kind.times, "");
-    line.words(if kind.is_whole {
-        "times, always this value:"
+    let what = if kind.is_whole {
+        "this value"
     } else {
-        "times, always these bits:"
-    });
+        "these bits"
+    };
+    let parts = [Part::Number(kind.times), Part::Words(what)];
+    line.tell("{} times, always {}:", &parts);
 }
 
 fn data_word(alloc: Global, node: &Node) -> Result<String, AllocError> {

@@ -76,7 +76,7 @@ fn push_place(
         push_waiting(line, waiting, Waiting::Place(place));
     }
     if let After::On(place) = node.refused {
-        line.words("else (");
+        line.tell("else (", &[]);
         push_waiting(line, waiting, Waiting::Close);
         push_waiting(line, waiting, Waiting::Place(place));
     }

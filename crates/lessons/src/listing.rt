@@ -30,23 +30,21 @@ pub(crate) fn controllers_of(
 ) -> Result<Vec<Controller>, AllocError> {
     let senders = senders_of(alloc, trees, items)?;
     let mut controllers: Vec<Controller> = Vec::new(alloc);
-    if let Some(driving) = seen.driving {
-        for (number, drive) in driving.drives().iter().enumerate() {
-            let name = free_name(alloc, seen, &controllers, drive.controller, true)?;
-            let own = listed(
-                alloc,
-                seen,
-                name,
-                drive.controller,
-                senders.as_slice(),
-                Some(number),
-            )?;
-            push_some(&mut controllers, own)?;
-        }
+    for (number, drive) in seen.drives.all.iter().enumerate() {
+        let name = free_name(alloc, seen, &controllers, drive.controller, true)?;
+        let own = listed(
+            alloc,
+            seen,
+            name,
+            drive.controller,
+            senders.as_slice(),
+            Some(number),
+        )?;
+        push_some(&mut controllers, own)?;
     }
     let name = free_name(alloc, seen, &controllers, "seen", false)?;
     let rest = listed(alloc, seen, name, "seen", senders.as_slice(), None)?;
-    if seen.before.is_none() && seen.driving.is_none() {
+    if seen.before.is_none() && seen.drives.is_empty() {
         controllers.push(rest)?;
     } else {
         push_some(&mut controllers, rest)?;
@@ -155,13 +153,8 @@ fn is_given(seen: &Sights<'_>, controllers: &Vec<Controller>, name: &str) -> boo
 }
 
 fn is_followed(seen: &Sights<'_>, name: &str) -> bool {
-    match seen.driving {
-        Some(driving) => driving
-            .drives()
-            .iter()
-            .any(|drive| drive.controller == name),
-        None => false,
-    }
+    let mut drives = seen.drives.all.iter();
+    drives.any(|drive| drive.controller == name)
 }
 
 fn numbered(alloc: Global, base: &str, number: u64) -> Result<String, AllocError> {
@@ -187,7 +180,7 @@ fn push_note(alloc: Global, line: &mut Lines, seen: &Sights<'_>, controller: &Co
         line.word(controller.base.as_str());
         line.word("of");
     } else {
-        line.words("the controllers of");
+        line.tell("the controllers of", &[]);
     }
     line.word_made(plain_word(alloc, before.file));
     line.end();

@@ -9,10 +9,10 @@ ghost use Rattle.lessons.specs.Seen.{HasEveryTime, IsAmong, IsStopped, Sees};
 use crate::before::{BriefBefore, Explained, Room, room_alone};
 use crate::fitting::has_marks;
 use crate::paths::{NoPath, Step, key_of, path_of};
-use capture_check::{Mark, Transaction, Until};
+use capture_check::{Drove, Mark, Transaction, Until};
 use decoding::TransactionSink;
-use drives::{Driving, Drove};
-use dump_tokens::{Scale, View, Window};
+use drives::is_collision;
+use dump_tokens::{Drives, Scale, View, Window};
 use run_parts::RunError;
 use std::alloc::{AllocError, Global};
 use std::collections::BTreeMap;
@@ -54,8 +54,8 @@ pub struct Sights<'a> {
     pub(crate) explained: u64,
     /// The messages among these that no controller of the brief lists, or not those by whom they were seen.
     pub(crate) unlisted: Vec<Unlisted>,
-    /// The controllers whose lines are followed, where there are some.
-    pub(crate) driving: Option<&'a Driving<'a>>,
+    /// The controllers whose lines are followed.
+    pub(crate) drives: Drives<'a>,
     // by the bytes of a path: its number, or the message of the brief before that explains it
     numbers: BTreeMap<Vec<u8>, usize>,
     in_brief: BTreeMap<Vec<u8>, InBrief>,
@@ -80,7 +80,7 @@ impl<'a> Sights<'a> {
             before,
             explained: 0,
             unlisted: Vec::new(alloc),
-            driving: None,
+            drives: Drives::NONE,
             numbers: BTreeMap::new(alloc),
             in_brief: BTreeMap::new(alloc),
             sights: Vec::new(alloc),
@@ -90,8 +90,8 @@ impl<'a> Sights<'a> {
     }
 
     /// The same where lines of controllers are followed, which share the messages out.
-    pub fn with_drives(self, driving: Option<&'a Driving<'a>>) -> Sights<'a> {
-        Sights { driving, ..self }
+    pub fn with_drives(self, drives: Drives<'a>) -> Sights<'a> {
+        Sights { drives, ..self }
     }
 
     /// How many messages there is room for.
@@ -294,11 +294,11 @@ impl<'a> Sights<'a> {
 
     // Those of these controllers that do not list a message in the brief.
     fn not_listing(&self, message: u32, by: u32) -> u32 {
-        let (Some(before), Some(driving)) = (self.before, self.driving) else {
+        let Some(before) = self.before else {
             return 0;
         };
         let mut others = 0u32;
-        for (number, drive) in driving.drives().iter().enumerate() {
+        for (number, drive) in self.drives.all.iter().enumerate() {
             let bit = bit_of(number);
             if by & bit != 0 && !before.lists(drive.controller, message) {
                 others |= bit;
@@ -403,7 +403,7 @@ pub(crate) fn listing(by: u32) -> u32 {
 }
 
 // Which controllers a transaction is of: those who made its STOP.
-fn by(drove: Option<&Drove>) -> u32 {
+fn by(drove: &Option<Drove>) -> u32 {
     match drove {
         Some(drove) => drove.last(),
         None => 0,
@@ -411,9 +411,9 @@ fn by(drove: Option<&Drove>) -> u32 {
 }
 
 // Whether those who made its STOP have sent different bits, so that nobody has sent what the bus shows.
-fn is_collision(drove: Option<&Drove>, transaction: &Transaction) -> bool {
-    match drove {
-        Some(drove) => drove.is_collision(transaction.marks.as_slice()),
+fn has_collided(transaction: &Transaction) -> bool {
+    match &transaction.drove {
+        Some(drove) => is_collision(drove, transaction.marks.as_slice()),
         None => false,
     }
 }
@@ -424,13 +424,12 @@ impl TransactionSink for Sights<'_> {
     ghost sink = { seeing_sink };
 
     fn take(&mut self, transactions: &[Transaction]) -> Result<(), RunError> {
-        let drove = match self.driving {
-            Some(driving) => driving.take_ended(self.alloc),
-            None => Vec::new(self.alloc),
-        };
-        for (number, transaction) in transactions.iter().enumerate() {
-            let drove = drove.get(number);
-            self.see(transaction, by(drove), is_collision(drove, transaction))?;
+        for transaction in transactions {
+            self.see(
+                transaction,
+                by(&transaction.drove),
+                has_collided(transaction),
+            )?;
         }
         Ok(())
     }

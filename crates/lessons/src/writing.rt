@@ -95,7 +95,7 @@ fn push_explained(alloc: Global, line: &mut Lines, seen: &Sights<'_>) {
     if let Some(before) = seen.before {
         line.begin("#", "#  ");
         line.number(seen.explained, "");
-        line.words("transactions are those of messages in");
+        line.tell("transactions are those of messages in", &[]);
         line.word_made(plain_word(alloc, before.file));
         line.end();
     }
@@ -105,7 +105,7 @@ fn push_odd(alloc: Global, line: &mut Lines, odd: Odd, scale: Option<Scale>) {
     line.begin("# in no message:", "#  ");
     line.number(odd.times, ",");
     push_first(alloc, line, odd.first, scale);
-    line.words(why(odd.why));
+    line.tell(why(odd.why), &[]);
     line.end();
 }
 
@@ -183,7 +183,7 @@ fn push_sight(alloc: Global, line: &mut Lines, begin: &str, sight: &Sight, scale
 
 // When something was first seen, in parts of a second where it is told what the numbers of the dump count.
 fn push_first(alloc: Global, line: &mut Lines, time: u64, scale: Option<Scale>) {
-    line.words("first at");
+    line.tell("first at", &[]);
     match scale {
         Some(scale) => line.word_made(first_word(alloc, time, scale)),
         None => line.number(time, ":"),

@@ -2,7 +2,7 @@
 // with four spaces, and one that would be too long is broken between words.
 
 use crate::scores::{Score, Scores};
-use growing_text::{Lines, Text};
+use growing_text::{Lines, Part, Sentence};
 use std::alloc::{AllocError, Global};
 
 // What stands before the space of the first word of a line.
@@ -60,7 +60,8 @@ pub fn order_summary(
         }
     }
     tell_waiting(alloc, &mut lines, scores, called)?;
-    say(&mut lines, if pairs == 0 { NO_PAIR } else { NO_FREQUENCY });
+    let last = if pairs == 0 { NO_PAIR } else { NO_FREQUENCY };
+    say(&mut lines, &Sentence::of(alloc, last, &[]));
     lines.finish()
 }
 
@@ -69,15 +70,9 @@ const NO_PAIR: &str = "no two participants may start together";
 const NO_FREQUENCY: &str =
     "'wins' counts pairs, and is no frequency: how often two start together is not known";
 
-fn say(lines: &mut Lines, words: &str) {
+fn say(lines: &mut Lines, sentence: &Sentence) {
     lines.begin(MARGIN, MARGIN);
-    lines.words(words);
-    lines.end();
-}
-
-fn say_all(lines: &mut Lines, words: Text) {
-    lines.begin(MARGIN, MARGIN);
-    lines.words_made(words.finish());
+    lines.sentence(sentence);
     lines.end();
 }
 
@@ -92,46 +87,44 @@ fn tell_two(
     score: Score,
 ) {
     let (one, other) = (called.side(two.0), called.side(two.1));
-    let mut words = Text::new(alloc);
-    words.push(one);
-    words.push(" × ");
-    words.push(other);
-    words.push(": ");
-    words.push_number(u64::from(score.pairs()));
-    words.push(if score.pairs() == 1 {
-        " pair"
-    } else {
-        " pairs"
-    });
-    let next = push_part(&mut words, "; ", one, " wins ", score.wins);
-    let next = push_part(&mut words, next, other, " wins ", score.loses);
-    let next = push_part(&mut words, next, "either", " may win ", score.may_win);
-    let next = push_part(
-        &mut words,
+    let pairs = u64::from(score.pairs());
+    let mut said = Sentence::of(
+        alloc,
+        "{} × {}: {} {}",
+        &[
+            Part::Name(one),
+            Part::Name(other),
+            Part::Number(pairs),
+            Part::Words(if pairs == 1 { "pair" } else { "pairs" }),
+        ],
+    );
+    let next = tell_part(&mut said, "; ", "{} wins {}", one, score.wins);
+    let next = tell_part(&mut said, next, "{} wins {}", other, score.loses);
+    let next = tell_part(&mut said, next, "{} may win {}", "either", score.may_win);
+    let next = tell_part(
+        &mut said,
         next,
+        "{} always end together {}",
         "both",
-        " always end together ",
         score.alike,
     );
-    push_part(&mut words, next, "unsafe", " ", score.unsafe_pairs);
-    say_all(lines, words);
+    tell_part(&mut said, next, "{} {}", "unsafe", score.unsafe_pairs);
+    say(lines, &said);
 }
 
-// Who does what in how many pairs, if in any. Answers what stands before the next part.
-fn push_part(
-    words: &mut Text,
+// Who does what in how many pairs, if in any, after what parts it from the words before. Answers that of the next part.
+fn tell_part(
+    said: &mut Sentence,
     before: &'static str,
+    template: &'static str,
     who: &str,
-    does: &str,
     pairs: u32,
 ) -> &'static str {
     if pairs == 0 {
         return before;
     }
-    words.push(before);
-    words.push(who);
-    words.push(does);
-    words.push_number(u64::from(pairs));
+    said.tell(before, &[]);
+    said.tell(template, &[Part::Name(who), Part::Number(u64::from(pairs))]);
     ", "
 }
 
@@ -148,23 +141,22 @@ fn tell_losers(
 ) -> Result<(), AllocError> {
     let (one, other) = (called.side(two.0), called.side(two.1));
     if score.never_wins() {
-        let mut words = Text::new(alloc);
-        words.push(one);
-        words.push(" never wins against ");
-        words.push(other);
-        say_all(lines, words);
+        let both = [Part::Name(one), Part::Name(other)];
+        say(
+            lines,
+            &Sentence::of(alloc, "{} never wins against {}", &both),
+        );
         return Ok(());
     }
     let losers = losers_of(alloc, scores, two)?;
     if !losers.is_empty() {
-        let mut words = named(alloc, called, losers.as_slice());
-        words.push(if losers.len() == 1 {
-            " never wins against "
-        } else {
-            " never win against "
-        });
-        words.push(other);
-        say_all(lines, words);
+        let mut said = named(alloc, called, losers.as_slice());
+        let win = if losers.len() == 1 { "wins" } else { "win" };
+        said.tell(
+            " never {} against {}",
+            &[Part::Words(win), Part::Name(other)],
+        );
+        say(lines, &said);
     }
     Ok(())
 }
@@ -193,13 +185,10 @@ fn tell_waiting(
 ) -> Result<(), AllocError> {
     let waiting = waiting_in(alloc, scores)?;
     if !waiting.is_empty() {
-        let mut words = named(alloc, called, waiting.as_slice());
-        words.push(if waiting.len() == 1 {
-            " waits in each pair that somebody wins"
-        } else {
-            " wait in each pair that somebody wins"
-        });
-        say_all(lines, words);
+        let mut said = named(alloc, called, waiting.as_slice());
+        let wait = if waiting.len() == 1 { "waits" } else { "wait" };
+        said.tell(" {} in each pair that somebody wins", &[Part::Words(wait)]);
+        say(lines, &said);
     }
     Ok(())
 }
@@ -215,18 +204,15 @@ fn waiting_in(alloc: Global, scores: &Scores) -> Result<Vec<usize>, AllocError> 
 }
 
 // The first of these participants, and how many more there are.
-fn named(alloc: Global, called: Called<'_>, who: &[usize]) -> Text {
-    let mut words = Text::new(alloc);
-    for (k, p) in who.iter().enumerate() {
-        if k < NAMED {
-            words.push(if k == 0 { "" } else { ", " });
-            words.push(called.participant(*p));
-        }
+fn named(alloc: Global, called: Called<'_>, who: &[usize]) -> Sentence {
+    let mut said = Sentence::new(alloc);
+    for (k, p) in who.iter().take(NAMED).enumerate() {
+        let template = if k == 0 { "{}" } else { ", {}" };
+        said.tell(template, &[Part::Name(called.participant(*p))]);
     }
     if NAMED < who.len() {
-        words.push(" and ");
-        words.push_number(who.len().saturating_sub(NAMED) as u64);
-        words.push(" more");
+        let more = who.len().saturating_sub(NAMED) as u64;
+        said.tell(" and {} more", &[Part::Number(more)]);
     }
-    words
+    said
 }

@@ -78,7 +78,7 @@ impl<'a> Groups<'a> {
 
     fn offer(&self, g: usize) -> Result<Option<Offered>, AllocError> {
         match offer_for_group(self.alloc, self.words, self.groups, g)? {
-            Some(offer) => Ok(Some(Offered::from(offer))),
+            Some(offer) => Ok(Some(Offered::of(self.alloc, offer)?)),
             None => Ok(None),
         }
     }

@@ -15,10 +15,15 @@ pub(crate) struct Offered {
     after: String,
 }
 
-impl From<Offer> for Offered {
-    fn from(offer: Offer) -> Offered {
+impl Offered {
+    /// An offer, whose sentences are texts.
+    pub(crate) fn of(alloc: Global, offer: Offer) -> Result<Offered, AllocError> {
         let Offer { said, items, after } = offer;
-        Offered { said, items, after }
+        Ok(Offered {
+            said: said.text(alloc)?,
+            items,
+            after: after.text(alloc)?,
+        })
     }
 }
 
@@ -33,7 +38,7 @@ pub(crate) fn all_offered(
     let mut offered = Vec::new(alloc);
     if let Some(mends) = mends {
         for offer in offers_for_all(alloc, words, &checked.faults, mends, groups)? {
-            offered.push(Offered::from(offer))?;
+            offered.push(Offered::of(alloc, offer)?)?;
         }
     }
     Ok(offered)

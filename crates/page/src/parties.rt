@@ -1,7 +1,7 @@
 // Who takes part, as the page has it: all names, and what each participant sends.
 
 use crate::nodes::{Node, address, nodes_of};
-use growing_text::Text;
+use bus_rows::spelled;
 use message_tree::Address;
 use order::{Order, Total};
 use plan_core::{Participant, Plan};
@@ -225,12 +225,10 @@ impl<'a> Participants<'a> {
 
 // Where the message of a participant stands, or the interrupt that it is.
 fn place_of(alloc: Global, words: PlanWords<'_>, p: u32) -> Result<Option<String>, AllocError> {
-    let Some(place) = words.item_at(p) else {
-        return Ok(None);
-    };
-    let mut text = Text::new(alloc);
-    place.push_to(&mut text);
-    Ok(Some(text.finish()?))
+    match words.item_at(p) {
+        Some(place) => Ok(Some(spelled(alloc, place)?)),
+        None => Ok(None),
+    }
 }
 
 fn taking_part<'a>(label: String, place: Option<String>, participant: Participant) -> Party<'a> {

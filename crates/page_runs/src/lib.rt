@@ -16,7 +16,7 @@ use plan_core::Plan;
 use plan_words::PlanWords;
 use remedies::{Mends, grouped_of, mends_of};
 use report::{check_found, check_report, status_of};
-use run_ends::{Ended, Halt, Recorded, Remark, Sources, halted, open_dump};
+use run_ends::{Ended, Findings, Halt, Recorded, Sources, halted, open_dump};
 use run_parts::{Input, Output, RunError, Status, Watched, write_lines};
 use signals::{Dump, Recorder};
 use spellings::print_plan;
@@ -62,7 +62,8 @@ pub fn write_page_with<R: AllocGlobal + Threads + Sync, I: Input, J: Input, O: O
     write_page(rt.alloc(), title, &checked, words, Some(capture), out)?;
     Ok(Ended {
         status: worse(status_of(checked.faults.is_safe()), seen),
-        remark: Remark::recording(rt.alloc(), Recorded::Other, rises),
+        findings: Findings::Recording(Recorded::Other, rises, None),
+        wave: None,
     })
 }
 
@@ -83,7 +84,7 @@ fn recording_of<R: AllocGlobal + Threads + Sync, J: Input, O: Output>(
 ) -> Result<(Recording, Status, Rises), Halt> {
     let mut dump = open_dump(rt.alloc(), vcd, bus)?;
     let selection = Selection::new(bus.view, dump.scale());
-    let recorder = Recorder::new(rt.alloc(), dump.scl(), dump.sda())?;
+    let recorder = Recorder::new(rt.alloc());
     match record(rt, words, &mut dump, report, selection, recorder) {
         Ok(recorded) => Ok(recorded),
         Err(error) => Err(halted(dump, error)),
@@ -110,7 +111,7 @@ fn record<R: AllocGlobal + Threads + Sync, J: Input, O: Output>(
         plan: words.plan(),
         sink: both,
     };
-    let ended = dump.decode_with(alloc, &mut explaining, &mut recorder);
+    let ended = dump.decode_beside(alloc, &mut explaining, &mut recorder);
     let Explaining { sink, .. } = explaining;
     let Both {
         lines,

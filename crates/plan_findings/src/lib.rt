@@ -19,7 +19,7 @@ mod whys;
 pub use breaks::{Break, Reason};
 pub use details::Detail;
 pub use mistakes::{Mistake, mistake_of};
-pub use offers::{Offer, offer_for_group, offers_for_all, push_ranges};
+pub use offers::{Offer, offer_for_group, offers_for_all, tell_ranges};
 pub use tracks::{Track, WireTracks, tracks_of};
 pub use unchecked::{is_all_checked, unsent_in};
 pub use whys::why_unsafe;

@@ -1,7 +1,7 @@
 // What is offered to mend unsafe pairs, in words.
 
 use crate::rewritten::push_families;
-use growing_text::Text;
+use growing_text::{Part, Sentence, Text};
 use plan_words::PlanWords;
 use remedies::{Common, GroupMends, Grouped, Kept, Mends, Never};
 use std::alloc::{AllocError, Global};
@@ -17,11 +17,11 @@ const NAMED: usize = 6;
 #[derive(Drop)]
 pub struct Offer {
     /// What does.
-    pub said: String,
+    pub said: Sentence,
     /// The `never` items that stand below it, as a plan or a brief has them.
     pub items: Vec<String>,
     /// What is said after these. It may be nothing.
-    pub after: String,
+    pub after: Sentence,
 }
 
 // How many pairs items leave unchecked, of which plan, and whether its text has to begin otherwise to have them.
@@ -46,46 +46,39 @@ impl Price {
         self.pairs < self.unchecked.saturating_mul(2)
     }
 
-    // `3 of 7 pairs`.
-    fn push_pairs(self, text: &mut Text) {
-        text.push_number(self.unchecked);
-        text.push(" of ");
-        text.push_number(self.pairs);
-        text.push(if self.pairs == 1 { " pair" } else { " pairs" });
+    // A template of `3 of 7 pairs`.
+    fn tell(self, said: &mut Sentence, template: &'static str) {
+        let parts = [
+            Part::Number(self.unchecked),
+            Part::Number(self.pairs),
+            Part::Words(if self.pairs == 1 { "pair" } else { "pairs" }),
+        ];
+        said.tell(template, &parts);
     }
 
     /// Adds what stands before so many items.
-    pub(crate) fn push_before(self, text: &mut Text, items: usize) {
-        if !self.is_high() {
-            text.push(if items == 1 { ":" } else { " all of:" });
-            return;
+    pub(crate) fn tell_before(self, said: &mut Sentence, items: usize) {
+        match (self.is_high(), items) {
+            (false, 1) => said.tell(":", &[]),
+            (false, _) => said.tell(" all of:", &[]),
+            (true, 1) => self.tell(said, " this, which leaves {} of {} {} unchecked:"),
+            (true, _) => self.tell(said, " all of these, which leave {} of {} {} unchecked:"),
         }
-        text.push(if items == 1 {
-            " this, which leaves "
-        } else {
-            " all of these, which leave "
-        });
-        self.push_pairs(text);
-        text.push(" unchecked:");
     }
 
     /// What is said after the items.
-    pub(crate) fn after(self, alloc: Global) -> Result<String, AllocError> {
-        let mut text = Text::new(alloc);
+    pub(crate) fn after(self, alloc: Global) -> Sentence {
+        let mut said = Sentence::new(alloc);
         match (self.is_high(), self.is_first_version) {
             (true, false) => {}
-            (true, true) => text.push("(the first line becomes 'plan 2')"),
-            (false, is_first_version) => {
-                text.push("(leaves ");
-                self.push_pairs(&mut text);
-                text.push(if is_first_version {
-                    " unchecked; the first line becomes 'plan 2')"
-                } else {
-                    " unchecked)"
-                });
-            }
+            (true, true) => said.tell("(the first line becomes 'plan 2')", &[]),
+            (false, true) => self.tell(
+                &mut said,
+                "(leaves {} of {} {} unchecked; the first line becomes 'plan 2')",
+            ),
+            (false, false) => self.tell(&mut said, "(leaves {} of {} {} unchecked)"),
         }
-        text.finish()
+        said
     }
 }
 
@@ -123,76 +116,69 @@ fn push_for_each(
     if mends.pairs <= mends.interrupted.len() {
         return Ok(());
     }
-    let who = match (mends.pairs, mends.interrupted.is_empty()) {
+    let who: &'static str = match (mends.pairs, mends.interrupted.is_empty()) {
         (1, _) => "it",
         (_, true) => "each",
         (_, false) => "each without an interrupt",
     };
-    let mut ways = Text::new(alloc);
-    push_common(&mut ways, mends.pairs == 1, common);
-    let is_nothing = ways.is_empty() && mends.kept.nevers.is_empty();
+    let mut said = to_mend(alloc, who);
+    let has_ways = tell_common(&mut said, mends.pairs == 1, common);
+    let is_nothing = !has_ways && mends.kept.nevers.is_empty();
     if !is_nothing {
-        offers.push(offer_of(alloc, words, who, ways, &mends.kept)?)?;
+        offers.push(offer_of(alloc, words, said, has_ways, &mends.kept)?)?;
     }
     if !common.is_tried {
-        offers.push(untried(alloc)?)?;
+        offers.push(spoken(alloc, Sentence::of(alloc, UNTRIED, &[])))?;
     } else if is_nothing {
-        offers.push(nothing_for(alloc, who, groups)?)?;
+        offers.push(nothing_for(alloc, who, groups))?;
     }
     Ok(())
 }
 
-fn push_common(ways: &mut Text, is_one: bool, common: Common) {
+const UNTRIED: &str = "bits and shapes were not tried of each group: there are too many slots";
+
+fn to_mend(alloc: Global, who: &'static str) -> Sentence {
+    Sentence::of(alloc, "to mend {}:", &[Part::Words(who)])
+}
+
+// The ways that all groups have. Whether there are any.
+fn tell_common(said: &mut Sentence, is_one: bool, common: Common) -> bool {
+    let its = Part::Words(if is_one { "that" } else { "its" });
     if common.has_bit {
-        ways.push(if is_one {
-            " a bit before that slot, known in both and different"
-        } else {
-            " a bit before its slot, known in both and different"
-        });
-        push_own(ways, common.is_shared);
+        said.tell(" a bit before {} slot, known in both and different", &[its]);
+        tell_own(said, common.is_shared);
     }
-    if common.has_shape {
-        ways.push(match (ways.is_empty(), is_one) {
-            (false, _) => "; or the same shape from there on",
-            (true, true) => " the same shape from that slot on",
-            (true, false) => " the same shape from its slot on",
-        });
+    match (common.has_shape, common.has_bit) {
+        (false, _) => {}
+        (true, true) => said.tell("; or the same shape from there on", &[]),
+        (true, false) => said.tell(" the same shape from {} slot on", &[its]),
     }
+    common.has_bit || common.has_shape
 }
 
 // Where one message is sent on both sides, it needs both bits.
-fn push_own(ways: &mut Text, is_shared: bool) {
+fn tell_own(said: &mut Sentence, is_shared: bool) {
     if is_shared {
-        ways.push(" (in messages of their own)");
+        said.tell(" (in messages of their own)", &[]);
     }
 }
 
-fn nothing_for(alloc: Global, who: &str, groups: usize) -> Result<Offer, AllocError> {
-    let mut words = Text::new(alloc);
-    words.push("nothing was found that mends ");
-    words.push(who);
-    words.push(" and leaves a pair to check");
-    words.push(if groups == 1 {
-        ""
-    } else {
-        ": see what mends each group"
-    });
-    spoken(alloc, words)
-}
-
-fn untried(alloc: Global) -> Result<Offer, AllocError> {
-    let mut words = Text::new(alloc);
-    words.push("bits and shapes were not tried of each group: there are too many slots");
-    spoken(alloc, words)
+fn nothing_for(alloc: Global, who: &'static str, groups: usize) -> Offer {
+    let template = "nothing was found that mends {} and leaves a pair to check";
+    let mut said = Sentence::of(alloc, template, &[Part::Words(who)]);
+    if groups != 1 {
+        said.tell(": see what mends each group", &[]);
+    }
+    spoken(alloc, said)
 }
 
 // Words alone.
-fn spoken(alloc: Global, words: Text) -> Result<Offer, AllocError> {
-    Ok(Offer {
-        said: words.finish()?,
+fn spoken(alloc: Global, said: Sentence) -> Offer {
+    Offer {
+        said,
         items: Vec::new(alloc),
-        after: String::new(alloc),
-    })
+        after: Sentence::new(alloc),
+    }
 }
 
 /// What is offered to mend each pair of the group with this number, of these groups. Of the only group of a plan it is the bits
@@ -211,57 +197,58 @@ pub fn offer_for_group(
         return Ok(None);
     };
     let is_only = groups.len() == 1;
-    let mut ways = Text::new(alloc);
-    push_parting(&mut ways, mends, is_only);
+    let who = if group.pairs == 1 { "it" } else { "each" };
+    let mut said = to_mend(alloc, who);
+    let has_ways = tell_parting(&mut said, mends, is_only);
     let none = Kept {
         nevers: Vec::new(alloc),
         unchecked: 0,
     };
     let kept = if is_only { &none } else { &mends.kept };
-    if ways.is_empty() && kept.nevers.is_empty() {
+    if !has_ways && kept.nevers.is_empty() {
         return Ok(None);
     }
-    let who = if group.pairs == 1 { "it" } else { "each" };
-    Ok(Some(offer_of(alloc, words, who, ways, kept)?))
+    Ok(Some(offer_of(alloc, words, said, has_ways, kept)?))
 }
 
-fn push_parting(ways: &mut Text, mends: &GroupMends, is_only: bool) {
+// The bits and the shape that part the pairs of a group. Whether there are any.
+fn tell_parting(said: &mut Sentence, mends: &GroupMends, is_only: bool) -> bool {
     let Some(parting) = &mends.parting else {
-        return;
+        return false;
     };
-    if !parting.slots.is_empty() {
-        ways.push(" a bit in slot");
-        push_ranges(ways, parting.slots.as_slice());
-        ways.push(", known in both and different");
-        push_own(ways, mends.is_shared);
+    let has_bits = !parting.slots.is_empty();
+    let has_shape = !is_only && parting.shape;
+    if has_bits {
+        said.tell(" a bit in slot", &[]);
+        tell_ranges(said, parting.slots.as_slice());
+        said.tell(", known in both and different", &[]);
+        tell_own(said, mends.is_shared);
     }
-    if !is_only && parting.shape {
-        ways.push(if ways.is_empty() { " " } else { "; or " });
-        ways.push("the same shape from its slot on");
+    if has_shape {
+        said.tell(if has_bits { "; or " } else { " " }, &[]);
+        said.tell("the same shape from its slot on", &[]);
     }
+    has_bits || has_shape
 }
 
 /// Adds runs of slots, the first of them by first and last ones.
-pub fn push_ranges(words: &mut Text, ranges: &[(usize, usize)]) {
-    for (k, range) in ranges.iter().enumerate() {
-        if k < RANGES {
-            words.push(if k == 0 { " " } else { ", " });
-            push_range(words, *range);
-        }
+pub fn tell_ranges(said: &mut Sentence, ranges: &[(usize, usize)]) {
+    for (k, range) in ranges.iter().take(RANGES).enumerate() {
+        said.tell(if k == 0 { " " } else { ", " }, &[]);
+        tell_range(said, *range);
     }
     if RANGES < ranges.len() {
-        words.push(" and ");
-        words.push_number(ranges.len().saturating_sub(RANGES) as u64);
-        words.push(" more");
+        let more = ranges.len().saturating_sub(RANGES) as u64;
+        said.tell(" and {} more", &[Part::Number(more)]);
     }
 }
 
-fn push_range(words: &mut Text, range: (usize, usize)) {
-    let (from, to) = range;
-    words.push_number(from as u64);
-    if from != to {
-        words.push("..");
-        words.push_number(to as u64);
+fn tell_range(said: &mut Sentence, range: (usize, usize)) {
+    let (from, to) = (Part::Number(range.0 as u64), Part::Number(range.1 as u64));
+    if range.0 == range.1 {
+        said.tell("{}", &[from]);
+    } else {
+        said.tell("{}..{}", &[from, to]);
     }
 }
 
@@ -269,35 +256,29 @@ fn push_range(words: &mut Text, range: (usize, usize)) {
 fn offer_of(
     alloc: Global,
     words: PlanWords<'_>,
-    who: &str,
-    ways: Text,
+    mut said: Sentence,
+    has_ways: bool,
     kept: &Kept,
 ) -> Result<Offer, AllocError> {
-    let price = Price::new(words, kept.unchecked);
-    let has_ways = !ways.is_empty();
-    let mut text = Text::new(alloc);
-    text.push("to mend ");
-    text.push(who);
-    text.push(":");
-    text.push_made(ways.finish());
     if kept.nevers.is_empty() {
-        return spoken(alloc, text);
+        return Ok(spoken(alloc, said));
     }
-    push_or(&mut text, price, has_ways, kept.nevers.len());
+    let price = Price::new(words, kept.unchecked);
+    tell_or(&mut said, price, has_ways, kept.nevers.len());
     Ok(Offer {
-        said: text.finish()?,
+        said,
         items: items_of(alloc, kept.nevers.as_slice())?,
-        after: price.after(alloc)?,
+        after: price.after(alloc),
     })
 }
 
 // What stands before so many items, which are perhaps another way.
-fn push_or(text: &mut Text, price: Price, has_ways: bool, items: usize) {
+fn tell_or(said: &mut Sentence, price: Price, has_ways: bool, items: usize) {
     if has_ways {
-        text.push("; or");
+        said.tell("; or", &[]);
     }
     if has_ways || price.is_high() || items != 1 {
-        price.push_before(text, items);
+        price.tell_before(said, items);
     }
 }
 
@@ -329,19 +310,16 @@ fn push_interrupted(
     if pairs.is_empty() {
         return Ok(());
     }
-    let mut text = Text::new(alloc);
-    text.push("only another header mends a pair with an interrupt:");
-    for (k, pair) in pairs.iter().enumerate() {
-        if k < NAMED {
-            text.push(if k == 0 { " pair " } else { ", pair " });
-            text.push_number(u64::from(*pair));
-        }
+    let template = "only another header mends a pair with an interrupt:";
+    let mut said = Sentence::of(alloc, template, &[]);
+    for (k, pair) in pairs.iter().take(NAMED).enumerate() {
+        let template = if k == 0 { " pair {}" } else { ", pair {}" };
+        said.tell(template, &[Part::Number(u64::from(*pair))]);
     }
     if NAMED < pairs.len() {
-        text.push(" and ");
-        text.push_number(pairs.len().saturating_sub(NAMED) as u64);
-        text.push(" more");
+        let more = pairs.len().saturating_sub(NAMED) as u64;
+        said.tell(" and {} more", &[Part::Number(more)]);
     }
-    offers.push(spoken(alloc, text)?)?;
+    offers.push(spoken(alloc, said))?;
     Ok(())
 }

@@ -3,7 +3,7 @@
 
 use crate::offers::{Offer, Price, item_of};
 use brief_tokens::is_brief_word;
-use growing_text::Text;
+use growing_text::{Part, Sentence, Text};
 use message_tree::{Address, Bit, Frame, Pattern, Payload, Tail};
 use plan_core::{Name, NameError, Plan};
 use plan_words::PlanWords;
@@ -251,9 +251,9 @@ fn offer_of(
         return Ok(None);
     }
     Ok(Some(Offer {
-        said: said_of(alloc, words.plan(), run, between.len(), price)?,
+        said: said_of(alloc, words.plan(), run, between.len(), price),
         items: items_of(alloc, words, between.as_slice(), family)?,
-        after: price.after(alloc)?,
+        after: price.after(alloc),
     }))
 }
 
@@ -356,26 +356,19 @@ fn is_free(words: PlanWords<'_>, c: u32, family: &str) -> bool {
     controller.len().saturating_add(family.len()) < LABEL
 }
 
-fn said_of(
-    alloc: Global,
-    plan: &Plan,
-    run: Run,
-    items: usize,
-    price: Price,
-) -> Result<String, AllocError> {
-    let mut words = Text::new(alloc);
-    words.push(name_of(plan, run.first));
-    words.push(" to ");
-    words.push(name_of(plan, run.last()));
-    words.push(" could be written as one family (");
-    words.push(if ends_open(plan, run) { "any" } else { "BYTE" });
-    words.push("*");
-    words.push_number(u64::from(run.least));
-    words.push("..");
-    words.push_number(u64::from(run.greatest()));
-    words.push("). Then their pairs are kept apart by");
-    price.push_before(&mut words, items);
-    words.finish()
+fn said_of(alloc: Global, plan: &Plan, run: Run, items: usize, price: Price) -> Sentence {
+    let parts = [
+        Part::Name(name_of(plan, run.first)),
+        Part::Name(name_of(plan, run.last())),
+        Part::Words(if ends_open(plan, run) { "any" } else { "BYTE" }),
+        Part::Number(u64::from(run.least)),
+        Part::Number(u64::from(run.greatest())),
+    ];
+    let template =
+        "{} to {} could be written as one family ({}*{}..{}). Then their pairs are kept apart by";
+    let mut said = Sentence::of(alloc, template, &parts);
+    price.tell_before(&mut said, items);
+    said
 }
 
 // Whether the byte of which each of these messages has one more is open in all bits.

@@ -14,10 +14,9 @@ ghost use Rattle.run_parts.specs.declared.runs.Status.{Status};
 ghost use Rattle.verdicts.specs.Faults.{AreFaults, fault_list};
 ghost use Rattle.verifying.specs.Answers.{answer_status};
 
-use crate::drawings::draw_fault;
 use bus_rows::{Paint, called_by};
-use cert_check::{Answer, Answered, Judged, check_certificate_at};
-use certificate::Refusal;
+use cert_check::{Answered, Judged, check_certificate_at};
+use command_words::{Format, Look};
 use diagnostics::{Diagnostic, Messages, diagnose_check};
 use explain::{explain_answer, explain_check};
 use files::Comparing;
@@ -27,16 +26,16 @@ use given_runs::{
     order_given, verify_given,
 };
 use growing_text::Text;
-use hints::{Found, Hints, on_certificate, on_checked, on_safe};
-use lint::{Oddity, oddities};
+use hints::{Found, NoWaves};
+use lint::oddities;
 use objects::{write_answer, write_check, write_order, write_scores};
 use order::{Called, Order, order_report, order_summary, scores_of};
 use plan_core::Plan;
 use plan_findings::{Detail, Mistake, is_all_checked, mistake_of};
 use plan_words::{PlanWords, sides_of};
-use remedies::{Reasons, count_groups, kept_apart, reasons_of};
+use remedies::{count_groups, kept_apart, reasons_of};
 use report::{check_report, status_of};
-use run_ends::{Canvas, Ended, Extras, Format, Halt, Remark, Sources, Style};
+use run_ends::{Ended, Extras, Findings, Halt, Sources, Style};
 use run_parts::devices::reading::READS;
 use run_parts::{Input, Output, RunError, Status, read_within, write_lines};
 use std::alloc::{AllocError, Global};
@@ -45,48 +44,95 @@ use std::thread::Threads;
 use std::time::Clock;
 use verdicts::{Checked, Gate};
 use verifying::{answer_line, status_of_answer};
+use waves::wave_of_check;
 
 // So many unsafe pairs are seen without groups.
 const FEW: usize = 20;
 
-/// How a plan is looked at: by so many workers, explained in this detail, strictly, so that a safe plan of which not all was
-/// looked at is not good, and with the waves of an unsafe pair in a file: of the first one, or of the one with this number.
-#[derive(Clone, Copy)]
-pub struct Look<'a> {
-    pub workers: u32,
-    pub explain: Option<Detail>,
-    pub strict: bool,
-    pub wave: Option<&'a str>,
-    pub pair: Option<u32>,
-}
-
 // ---- check
 
-/// Checks the plan that the readers give. The canvas is for the waves, where they are wanted.
+/// Checks the plan that the readers give.
 pub fn check<R: Files + Print + Eprint + Clock + AllocGlobal + Threads + Sync, I: Input, O: Output>(
     rt: &R,
     plans: &mut Sources<'_, I>,
     out: &mut O,
     look: Look<'_>,
     extras: Extras,
-    canvas: Option<Canvas<'_, '_>>,
 ) -> Result<Ended, Halt>
     ensures status { IfOk result (λ it. OfGivenPlan I.reader (JudgesIn look.entry.strict it.status)
         plans.old.readers.items plans.new.readers.items) }
 {
     let gate = Comparing::new(rt, extras.watcher);
-    let Ran {
-        found,
-        status,
-        remark,
-    } = check_by_form(rt, plans, out, look, &gate, extras)?;
-    if let Some(canvas) = canvas {
-        draw_fault(rt, &found.checked, look.pair, status, canvas)?;
-    }
+    let (found, by_plan) = check_by_form(rt, plans, out, look, &gate, extras)?;
+    let status = judged(by_plan, &found.checked.plan, look.strict);
+    let wave = wave_of(rt.alloc(), &found.checked, look)?;
+    let findings = findings_of(rt.alloc(), found, plans, look, extras);
     Ok(Ended {
-        status: judged(status, &found.checked.plan, look.strict),
-        remark,
+        status,
+        findings,
+        wave,
     })
+}
+
+// The waves of an unsafe pair, where they are wanted, or why there are none.
+fn wave_of(
+    alloc: Global,
+    checked: &Checked,
+    look: Look<'_>,
+) -> Result<Option<Result<String, NoWaves>>, AllocError> {
+    if look.wave.is_none() {
+        return Ok(None);
+    }
+    Ok(Some(
+        match (wave_of_check(alloc, checked, look.pair)?, look.pair) {
+            (Some(wave), _) => Ok(wave),
+            (None, None) => Err(NoWaves::Safe),
+            (None, Some(pair)) if pair < checked.plan.pair_count() => Err(NoWaves::SafePair(pair)),
+            (None, Some(pair)) => Err(NoWaves::NoPair(pair)),
+        },
+    ))
+}
+
+// What people may be told of it. Where there is no memory for that, nothing is.
+fn findings_of<I: Input>(
+    alloc: Global,
+    found: GivenCheck,
+    plans: &Sources<'_, I>,
+    look: Look<'_>,
+    extras: Extras,
+) -> Findings
+    requires { AreFaults (plan_contents found.checked.plan) (fault_list found.checked.faults) }
+{
+    let GivenCheck {
+        checked,
+        provenance,
+    } = found;
+    let words = plans.words(&checked.plan, &provenance);
+    match counted(alloc, &checked, words, look.explain.is_some(), extras) {
+        Ok(Some(found)) => Findings::Checked(checked, provenance, found),
+        _ => Findings::Nothing,
+    }
+}
+
+// How many pairs are what, where hints are wanted.
+fn counted(
+    alloc: Global,
+    checked: &Checked,
+    words: PlanWords<'_>,
+    is_explained: bool,
+    extras: Extras,
+) -> Result<Option<Found>, AllocError>
+    requires { AreFaults (plan_contents checked.now.plan) (fault_list checked.now.faults) }
+{
+    if !extras.hints {
+        return Ok(None);
+    }
+    Ok(Some(Found {
+        unsafe_pairs: checked.faults.len(),
+        groups: groups_to_tell(alloc, checked, words, is_explained)?,
+        is_explained,
+        kept_apart: kept_apart(words),
+    }))
 }
 
 // The one place where the form is chosen.
@@ -97,23 +143,17 @@ fn check_by_form<R: AllocGlobal + Threads + Sync, I: Input, O: Output, G: Gate +
     look: Look<'_>,
     gate: &G,
     extras: Extras,
-) -> Result<Ran, Halt>
-    ensures { IfOk result (λ it. OfGivenPlan I.reader (IsOf (plan_contents it.found.checked.plan) (Judges it.status))
+) -> Result<(GivenCheck, Status), Halt>
+    ensures judged { IfOk result (λ it. OfGivenPlan I.reader (IsOf (plan_contents it.0.checked.plan) (Judges it.1))
         plans.old.readers.items plans.new.readers.items) }
+    ensures faults { IfOk result (λ it.
+        AreFaults (plan_contents it.0.checked.plan) (fault_list it.0.checked.faults)) }
 {
     if look.explain.is_none() && extras.is_exact() {
-        check_exactly(rt, plans, out, look.workers, gate, extras)
+        check_exactly(rt, plans, out, look.workers, gate)
     } else {
         check_in_form(rt, plans, out, look, gate, extras)
     }
-}
-
-// A check that was written: what it found, its status by the plan, and what is to be said to people.
-#[derive(Drop)]
-struct Ran {
-    found: GivenCheck,
-    status: Status,
-    remark: Remark,
 }
 
 // The exact report, by the run of `given_runs`.
@@ -123,22 +163,16 @@ fn check_exactly<R: AllocGlobal + Threads + Sync, I: Input, O: Output, G: Gate +
     out: &mut O,
     workers: u32,
     gate: &G,
-    extras: Extras,
-) -> Result<Ran, Halt>
+) -> Result<(GivenCheck, Status), Halt>
     ensures report { IfOk result (λ it. Reports (ReadsTexts I.reader) (DueFor CheckedPlan) O.writer
-        plans.old.readers.items out.old it.status plans.new.readers.items out.new) }
-    ensures status { IfOk result (λ it. OfGivenPlan I.reader (IsOf (plan_contents it.found.checked.plan) (Judges it.status))
+        plans.old.readers.items out.old it.1 plans.new.readers.items out.new) }
+    ensures judged { IfOk result (λ it. OfGivenPlan I.reader (IsOf (plan_contents it.0.checked.plan) (Judges it.1))
         plans.old.readers.items plans.new.readers.items) }
+    ensures faults { IfOk result (λ it.
+        AreFaults (plan_contents it.0.checked.plan) (fault_list it.0.checked.faults)) }
 {
     match check_readers(rt, plans.readers.as_mut_slice(), out, workers, gate) {
-        Ok((found, status)) => {
-            let remark = remark_later(rt.alloc(), &found, plans, extras);
-            Ok(Ran {
-                found,
-                status,
-                remark,
-            })
-        }
+        Ok(found) => Ok(found),
         Err(halted) => Err(plans.halt(halted)),
     }
 }
@@ -161,43 +195,6 @@ fn check_readers<R: AllocGlobal + Threads + Sync, I: Input, O: Output, G: Gate +
     check_given(rt, rt.alloc(), readers, out, workers, gate)
 }
 
-// What is to be said of a plan whose exact report was written. Where there is no memory for that, nothing is.
-fn remark_later<I: Input>(
-    alloc: Global,
-    found: &GivenCheck,
-    plans: &Sources<'_, I>,
-    extras: Extras,
-) -> Remark
-    requires { AreFaults (plan_contents found.now.checked.plan) (fault_list found.now.checked.faults) }
-{
-    if !extras.hints {
-        return Remark::Nothing;
-    }
-    let GivenCheck {
-        checked,
-        provenance,
-    } = found;
-    let words = plans.words(&checked.plan, provenance);
-    match odd_in(alloc, &checked.plan, provenance) {
-        Ok(odd) => Remark::hints(hints_on(alloc, checked, words, odd.as_slice(), false)),
-        Err(_) => Remark::Nothing,
-    }
-}
-
-fn odd_in<'a>(
-    alloc: Global,
-    plan: &'a Plan,
-    provenance: &'a Provenance,
-) -> Result<Vec<Oddity<'a>>, AllocError> {
-    oddities(
-        alloc,
-        plan,
-        &provenance.origins,
-        provenance.texts.as_slice(),
-        &provenance.spans,
-    )
-}
-
 // The report in another form, which has the same status.
 fn check_in_form<R: AllocGlobal + Threads + Sync, I: Input, O: Output, G: Gate + Sync>(
     rt: &R,
@@ -206,20 +203,18 @@ fn check_in_form<R: AllocGlobal + Threads + Sync, I: Input, O: Output, G: Gate +
     look: Look<'_>,
     gate: &G,
     extras: Extras,
-) -> Result<Ran, Halt>
-    ensures status { IfOk result (λ it. OfGivenPlan I.reader (IsOf (plan_contents it.found.checked.plan) (Judges it.status))
+) -> Result<(GivenCheck, Status), Halt>
+    ensures judged { IfOk result (λ it. OfGivenPlan I.reader (IsOf (plan_contents it.0.checked.plan) (Judges it.1))
         plans.old.readers.items plans.new.readers.items) }
+    ensures faults { IfOk result (λ it.
+        AreFaults (plan_contents it.0.checked.plan) (fault_list it.0.checked.faults)) }
 {
     let alloc = rt.alloc();
     match find_checked(rt, alloc, plans.readers.as_mut_slice(), look.workers, gate) {
         Ok(found) => {
             let status = status_in(&found);
-            let remark = write_in_form(alloc, &found, plans, out, look, extras)?;
-            Ok(Ran {
-                found,
-                status,
-                remark,
-            })
+            write_in_form(alloc, &found, plans, out, look, extras)?;
+            Ok((found, status))
         }
         Err(halted) => Err(plans.halt(halted)),
     }
@@ -233,7 +228,7 @@ fn status_in(found: &GivenCheck) -> Status
     status_of(found.checked.faults.is_safe())
 }
 
-// Writes what was found, and answers what is to be said to people.
+// Writes what was found. What is likely a mistake is looked for where it is shown.
 fn write_in_form<I: Input, O: Output>(
     alloc: Global,
     found: &GivenCheck,
@@ -241,7 +236,7 @@ fn write_in_form<I: Input, O: Output>(
     out: &mut O,
     look: Look<'_>,
     extras: Extras,
-) -> Result<Remark, Halt>
+) -> Result<Status, RunError>
     requires { AreFaults (plan_contents found.now.checked.plan) (fault_list found.now.checked.faults) }
 {
     let GivenCheck {
@@ -249,26 +244,10 @@ fn write_in_form<I: Input, O: Output>(
         provenance,
     } = found;
     let words = plans.words(&checked.plan, provenance);
-    let odd = odd_in(alloc, &checked.plan, provenance)?;
-    let odd = odd.as_slice();
     match extras.format {
-        Format::Messages => {
-            write_messages(alloc, checked, words, odd, look.strict, provenance, out)?;
-        }
-        _ => {
-            tell_checked(
-                alloc,
-                checked,
-                words,
-                odd,
-                out,
-                look.explain,
-                extras.style(),
-            )?;
-        }
+        Format::Messages => write_messages(alloc, checked, words, provenance, look.strict, out),
+        _ => tell_checked(alloc, checked, words, provenance, out, look, extras.style()),
     }
-    let is_explained = look.explain.is_some();
-    Ok(remark_on(alloc, checked, words, odd, is_explained, extras))
 }
 
 // Writes what is wrong as compilers do.
@@ -276,15 +255,17 @@ fn write_messages<O: Output>(
     alloc: Global,
     checked: &Checked,
     words: PlanWords<'_>,
-    odd: &[Oddity<'_>],
-    strict: bool,
     provenance: &Provenance,
+    strict: bool,
     out: &mut O,
 ) -> Result<Status, RunError>
     requires { AreFaults (plan_contents checked.now.plan) (fault_list checked.now.faults) }
 {
     let texts = provenance.texts.as_slice();
-    let found = diagnose_check(alloc, words, checked, odd, strict, texts, &provenance.spans)?;
+    let spans = &provenance.spans;
+    let odd = oddities(alloc, &checked.plan, &provenance.origins, texts, spans)?;
+    let odd = odd.as_slice();
+    let found = diagnose_check(alloc, words, checked, odd, strict, texts, spans)?;
     let lines = message_lines(alloc, words, found.as_slice(), texts)?;
     write_lines(out, lines.as_bytes(), status_of(checked.faults.is_safe()))
 }
@@ -316,41 +297,6 @@ fn judged(status: Status, plan: &Plan, strict: bool) -> Status
     }
 }
 
-fn remark_on(
-    alloc: Global,
-    checked: &Checked,
-    words: PlanWords<'_>,
-    odd: &[Oddity<'_>],
-    is_explained: bool,
-    extras: Extras,
-) -> Remark
-    requires { AreFaults (plan_contents checked.now.plan) (fault_list checked.now.faults) }
-{
-    if extras.hints {
-        Remark::hints(hints_on(alloc, checked, words, odd, is_explained))
-    } else {
-        Remark::Nothing
-    }
-}
-
-fn hints_on(
-    alloc: Global,
-    checked: &Checked,
-    words: PlanWords<'_>,
-    odd: &[Oddity<'_>],
-    is_explained: bool,
-) -> Result<Hints, AllocError>
-    requires { AreFaults (plan_contents checked.now.plan) (fault_list checked.now.faults) }
-{
-    let found = Found {
-        unsafe_pairs: checked.faults.len(),
-        groups: groups_to_tell(alloc, checked, words, is_explained)?,
-        is_explained,
-        kept_apart: kept_apart(words),
-    };
-    on_checked(alloc, words, odd, found)
-}
-
 // In how many groups the unsafe pairs are, where they are many and the report has not shown the groups.
 fn groups_to_tell(
     alloc: Global,
@@ -372,57 +318,39 @@ fn tell_checked<O: Output>(
     alloc: Global,
     checked: &Checked,
     words: PlanWords<'_>,
-    odd: &[Oddity<'_>],
+    provenance: &Provenance,
     out: &mut O,
-    explain: Option<Detail>,
+    look: Look<'_>,
     style: Style,
 ) -> Result<Status, RunError>
     requires { AreFaults (plan_contents checked.now.plan) (fault_list checked.now.faults) }
 {
-    match explain {
-        Some(detail) => {
-            let reasons = reasons_of(alloc, checked, words, detail.groups)?;
-            write_checked(
-                alloc,
-                checked,
-                words,
-                odd,
-                Some(&reasons),
-                detail,
-                style,
-                out,
-            )
-        }
-        None => write_checked(alloc, checked, words, odd, None, EXACT, style, out),
-    }
-}
-
-// Each unsafe pair, and nothing explained.
-const EXACT: Detail = Detail {
-    pairs: true,
-    groups: 0,
-};
-
-fn write_checked<O: Output>(
-    alloc: Global,
-    checked: &Checked,
-    words: PlanWords<'_>,
-    odd: &[Oddity<'_>],
-    reasons: Option<&Reasons>,
-    detail: Detail,
-    style: Style,
-    out: &mut O,
-) -> Result<Status, RunError> {
+    let detail = Detail {
+        pairs: !look.summary,
+        groups: look.explain.unwrap_or(0),
+    };
+    let reasons = match look.explain {
+        Some(groups) => Some(reasons_of(alloc, checked, words, groups)?),
+        None => None,
+    };
     let status = status_of(checked.faults.is_safe());
-    match style {
-        Style::Objects => write_check(alloc, checked, words, odd, reasons, detail, out)?,
-        Style::Lines(Paint::Plain) if reasons.is_none() => {
-            let report = check_report(alloc, checked)?;
-            return write_lines(out, report.as_bytes(), status);
+    match (style, reasons.as_ref()) {
+        (Style::Objects, reasons) => {
+            let texts = provenance.texts.as_slice();
+            let spans = &provenance.spans;
+            let odd = oddities(alloc, &checked.plan, &provenance.origins, texts, spans)?;
+            write_check(alloc, checked, words, odd.as_slice(), reasons, detail, out)?;
+            Ok(status)
         }
-        Style::Lines(paint) => explain_check(alloc, checked, words, reasons, detail, paint, out)?,
+        (Style::Lines(Paint::Plain), None) => {
+            let report = check_report(alloc, checked)?;
+            write_lines(out, report.as_bytes(), status)
+        }
+        (Style::Lines(paint), reasons) => {
+            explain_check(alloc, checked, words, reasons, detail, paint, out)?;
+            Ok(status)
+        }
     }
-    Ok(status)
 }
 
 // ---- verify
@@ -463,10 +391,11 @@ fn verify_exactly<I: Input, J: Input, O: Output>(
         (plans.old.readers.items, cert.old) it.status (plans.new.readers.items, cert.new)) }
 {
     match answer_exactly(alloc, plans.readers.as_mut_slice(), cert, out) {
-        Ok((found, status)) => {
-            let remark = remark_on_given(alloc, &found, plans, extras);
-            Ok(Ended { status, remark })
-        }
+        Ok((found, status)) => Ok(Ended {
+            status,
+            findings: Findings::Answered(found.answered, found.provenance),
+            wave: None,
+        }),
         Err(halted) => Err(plans.halt(halted)),
     }
 }
@@ -499,9 +428,12 @@ fn verify_in_form<I: Input, J: Input, O: Output>(
 {
     match find_answered(alloc, plans.readers.as_mut_slice(), cert) {
         Ok(found) => {
-            let status = tell_given(alloc, &found, plans, out, extras)?;
-            let remark = remark_on_given(alloc, &found, plans, extras);
-            Ok(Ended { status, remark })
+            let status = tell_given(alloc, &found, plans, None, out, extras)?;
+            Ok(Ended {
+                status,
+                findings: Findings::Answered(found.answered, found.provenance),
+                wave: None,
+            })
         }
         Err(halted) => Err(plans.halt(halted)),
     }
@@ -511,44 +443,18 @@ fn tell_given<I: Input, O: Output>(
     alloc: Global,
     found: &GivenAnswer,
     plans: &Sources<'_, I>,
+    mistake: Option<Mistake>,
     out: &mut O,
     extras: Extras,
 ) -> Result<Status, RunError>
     ensures { IfOk result (λ it. it ≡ answer_status found.now.answered.answer) }
 {
     let GivenAnswer {
-        answered: Answered {
-            plan,
-            answer,
-            refusal,
-        },
+        answered,
         provenance,
     } = found;
-    let words = plans.words(plan, provenance);
-    tell_answer(alloc, words, *answer, refusal.as_ref(), None, out, extras)
-}
-
-fn remark_on_given<I: Input>(
-    alloc: Global,
-    found: &GivenAnswer,
-    plans: &Sources<'_, I>,
-    extras: Extras,
-) -> Remark {
-    let GivenAnswer {
-        answered: Answered {
-            plan,
-            answer,
-            refusal,
-        },
-        provenance,
-    } = found;
-    remark_on_answer(
-        alloc,
-        plans.words(plan, provenance),
-        *answer,
-        refusal.as_ref(),
-        extras,
-    )
+    let words = plans.words(&answered.plan, provenance);
+    tell_answer(alloc, words, answered, mistake, out, extras)
 }
 
 fn verify_kept<I: Input, J: Input, O: Output>(
@@ -561,46 +467,54 @@ fn verify_kept<I: Input, J: Input, O: Output>(
     ensures { IfOk result (λ it. IsAnswered I.reader J.reader
         (plans.old.readers.items, cert.old) it.status (plans.new.readers.items, cert.new)) }
 {
-    let GivenPlan { plan, provenance } = plans.find(alloc)?;
+    let given = plans.find(alloc)?;
     let cert = read_within(alloc, cert, READS)?;
-    let words = plans.words(&plan, &provenance);
-    explain_kept(alloc, &plan, words, cert.as_slice(), out, extras)
+    explain_kept(alloc, given, plans, cert.as_slice(), out, extras)
 }
 
 // Says what this certificate says of the plan, and why, where it is wrong.
-fn explain_kept<O: Output>(
+fn explain_kept<I: Input, O: Output>(
     alloc: Global,
-    plan: &Plan,
-    words: PlanWords<'_>,
+    given: GivenPlan,
+    plans: &Sources<'_, I>,
     cert: &[u8],
     out: &mut O,
     extras: Extras,
 ) -> Result<Ended, Halt>
     ensures { IfOk result (λ it. (answer : Answer) × (it.status ≡ answer_status answer)
-        × IsAnswer (plan_contents plan.now) cert.now answer) }
+        × IsAnswer (plan_contents given.plan) cert.now answer) }
 {
-    let Judged { answer, refusal } = check_certificate_at(alloc, plan, cert)?;
-    let mistake = mistake_of(alloc, plan, cert, answer)?;
-    let refusal = refusal.as_ref();
+    let GivenPlan { plan, provenance } = given;
+    let Judged { answer, refusal } = check_certificate_at(alloc, &plan, cert)?;
+    let mistake = mistake_of(alloc, &plan, cert, answer)?;
+    let found = GivenAnswer {
+        answered: Answered {
+            plan,
+            answer,
+            refusal,
+        },
+        provenance,
+    };
+    let status = tell_given(alloc, &found, plans, mistake, out, extras)?;
     Ok(Ended {
-        status: tell_answer(alloc, words, answer, refusal, mistake, out, extras)?,
-        remark: remark_on_answer(alloc, words, answer, refusal, extras),
+        status,
+        findings: Findings::Answered(found.answered, found.provenance),
+        wave: None,
     })
 }
 
-/// Writes the answer to a certificate of the plan of these words, which may be refused there, and what is wrong with
-/// it, where that was found.
-pub fn tell_answer<O: Output>(
+/// Writes the answer to a certificate of the plan of these words, and what is wrong with it, where that was found.
+pub(crate) fn tell_answer<O: Output>(
     alloc: Global,
     words: PlanWords<'_>,
-    answer: Answer,
-    refusal: Option<&Refusal>,
+    answered: &Answered,
     mistake: Option<Mistake>,
     out: &mut O,
     extras: Extras,
 ) -> Result<Status, RunError>
-    ensures { IfOk result (λ it. it ≡ answer_status answer) }
+    ensures { IfOk result (λ it. it ≡ answer_status answered.now.answer) }
 {
+    let (answer, refusal) = (answered.answer, answered.refusal.as_ref());
     let status = status_of_answer(answer);
     match extras.style() {
         Style::Objects => write_answer(alloc, words, answer, refusal, mistake, out)?,
@@ -611,23 +525,6 @@ pub fn tell_answer<O: Output>(
         Style::Lines(paint) => explain_answer(alloc, words, answer, mistake, paint, out)?,
     }
     Ok(status)
-}
-
-/// What is to be said to people of the answer to a certificate of the plan of these words, which may be refused there.
-pub fn remark_on_answer(
-    alloc: Global,
-    words: PlanWords<'_>,
-    answer: Answer,
-    refusal: Option<&Refusal>,
-    extras: Extras,
-) -> Remark {
-    match answer {
-        Answer::Safe if extras.hints => Remark::hints(on_safe(alloc, words, kept_apart(words))),
-        Answer::Wrong(fault) if extras.hints => {
-            Remark::hints(on_certificate(alloc, fault, refusal))
-        }
-        _ => Remark::Nothing,
-    }
 }
 
 // ---- order
@@ -659,7 +556,8 @@ fn order_exactly<R: AllocGlobal + Threads + Sync, I: Input, O: Output>(
     match order_given(rt, rt.alloc(), plans.readers.as_mut_slice(), out) {
         Ok(status) => Ok(Ended {
             status,
-            remark: Remark::Nothing,
+            findings: Findings::Nothing,
+            wave: None,
         }),
         Err(halted) => Err(plans.halt(halted)),
     }
@@ -683,7 +581,8 @@ fn order_in_form<R: AllocGlobal + Threads + Sync, I: Input, O: Output>(
             write_orders(rt.alloc(), words, &order, out, explain, style)?;
             Ok(Ended {
                 status,
-                remark: Remark::Nothing,
+                findings: Findings::Nothing,
+                wave: None,
             })
         }
         Err(halted) => Err(plans.halt(halted)),

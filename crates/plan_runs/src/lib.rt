@@ -1,14 +1,13 @@
 //! The runs over plans: each finds a value, and writes it in the form that is wanted.
 //!
 //! `checking` has `check`, `verify` and `order`, `rehearsals` has `bench`, and `rewriting` the runs that write a plan or a
-//! certificate. `drawings` has what goes into the file for waves.
+//! certificate.
 #![tactic(auto)]
 
 mod checking;
-mod drawings;
 mod rehearsals;
 mod rewriting;
 
-pub use checking::{Look, check, order, verify};
-pub use rehearsals::{Play, bench, bench_alone};
-pub use rewriting::{Layout, Rewriting};
+pub use checking::{check, order, verify};
+pub use rehearsals::{bench, bench_alone};
+pub use rewriting::rewrite;

@@ -10,44 +10,31 @@ ghost use Rattle.plan_runs.specs.Statuses.{IsAnswered, OfGivenPlan};
 ghost use Rattle.report.specs.Checks.{Judges};
 ghost use Rattle.run_parts.specs.Runs.{Reports};
 
-use crate::checking::{remark_on_answer, tell_answer};
-use crate::drawings::draw_outcome;
-use bench_run::{Outcome, Rehearsal, outcome_report, status_of_outcome};
+use crate::checking::tell_answer;
+use bench_run::{Outcome, outcome_report, status_of_outcome};
 use bus_bench::opening::MOST_SLOTS;
 use cert_check::Answered;
+use command_words::Play;
 use explain::explain_rehearsal;
-use given_plans::GivenPlan;
 use given_runs::{
     GivenOutcome, Unrehearsed, bench_given, find_rehearsed, find_self_rehearsed, self_bench_given,
 };
-use hints::{Hints, on_no_answers, on_starters, unknown_starter};
+use hints::NoWaves;
 use message_tree::Item;
 use objects::write_rehearsal;
 use plan_core::Plan;
 use plan_findings::mistake_of;
 use plan_words::PlanWords;
-use run_ends::{Canvas, Ended, Extras, Halt, Remark, Sources, Style};
+use run_ends::{Ended, Extras, Findings, Halt, Sources, Style};
 use run_parts::{Input, Output, RunError, Status, write_lines};
 use std::alloc::{AllocError, Global};
 use std::rt::Files;
 use std::sync::Wait;
 use std::thread::Threads;
 use std::time::Clock;
+use waves::wave_of_bench;
 
-/// Who starts, what they send for open bits, and what the targets answer: bits by slot, and what follows them.
-#[derive(Clone, Copy)]
-pub struct Play<'a> {
-    pub starters: &'a str,
-    pub fill: bool,
-    pub answers: &'a str,
-    pub rest: bool,
-    pub explain: bool,
-    /// The file for the waves.
-    pub wave: Option<&'a str>,
-}
-
-/// Rehearses the plan that the first readers give, with the certificate of the second. The canvas is for the waves, where they
-/// are wanted.
+/// Rehearses the plan that the first readers give, with the certificate of the second.
 pub fn bench<
     R: Files + Print + Eprint + AllocGlobal + Threads + Wait + Clock + Sync,
     I: Input,
@@ -60,21 +47,18 @@ pub fn bench<
     out: &mut O,
     play: Play<'_>,
     extras: Extras,
-    canvas: Option<Canvas<'_, '_>>,
 ) -> Result<Ended, Halt>
     ensures status { IfOk result (λ it. IsAnswered I.reader J.reader
         (plans.old.readers.items, cert.old) it.status (plans.new.readers.items, cert.new)) }
 {
     let answers = bits_of(rt.alloc(), play.answers, play.rest)?;
-    let Told {
-        found,
+    let (found, status) = bench_by_form(rt, plans, cert, out, play, answers.as_slice(), extras)?;
+    let wave = wave_of(rt.alloc(), &found.outcome, play)?;
+    Ok(Ended {
         status,
-        remark,
-    } = bench_by_form(rt, plans, cert, out, play, answers.as_slice(), extras)?;
-    if let Some(canvas) = canvas {
-        draw_outcome(rt, &found.outcome, canvas)?;
-    }
-    Ok(Ended { status, remark })
+        findings: findings_of(found),
+        wave,
+    })
 }
 
 /// Rehearses the plan that the readers give by the certificate that is made of it here.
@@ -88,29 +72,50 @@ pub fn bench_alone<
     out: &mut O,
     play: Play<'_>,
     extras: Extras,
-    canvas: Option<Canvas<'_, '_>>,
 ) -> Result<Ended, Halt>
     ensures status { IfOk result (λ it. OfGivenPlan I.reader (Judges it.status)
         plans.old.readers.items plans.new.readers.items) }
 {
     let answers = bits_of(rt.alloc(), play.answers, play.rest)?;
-    let Told {
-        found,
+    let (found, status) = alone_by_form(rt, plans, out, play, answers.as_slice(), extras)?;
+    let wave = wave_of(rt.alloc(), &found.outcome, play)?;
+    Ok(Ended {
         status,
-        remark,
-    } = alone_by_form(rt, plans, out, play, answers.as_slice(), extras)?;
-    if let Some(canvas) = canvas {
-        draw_outcome(rt, &found.outcome, canvas)?;
-    }
-    Ok(Ended { status, remark })
+        findings: findings_of(found),
+        wave,
+    })
 }
 
-// A rehearsal that was written: what came of it, its status, and what is to be said to people.
-#[derive(Drop)]
-struct Told {
-    found: GivenOutcome,
-    status: Status,
-    remark: Remark,
+// The waves of a rehearsal, where they are wanted, or why there are none.
+fn wave_of(
+    alloc: Global,
+    outcome: &Outcome,
+    play: Play<'_>,
+) -> Result<Option<Result<String, NoWaves>>, AllocError> {
+    Ok(match outcome {
+        _ if play.wave.is_none() => None,
+        Outcome::Played(rehearsal) => Some(Ok(wave_of_bench(alloc, rehearsal)?)),
+        Outcome::NotAccepted(_) => Some(Err(NoWaves::Unplayed)),
+    })
+}
+
+// What people may be told of it.
+fn findings_of(found: GivenOutcome) -> Findings {
+    let GivenOutcome {
+        outcome,
+        provenance,
+        ..
+    } = found;
+    match outcome {
+        Outcome::Played(it) => {
+            if is_unanswered(it.played.wire.as_slice()) {
+                Findings::Unanswered
+            } else {
+                Findings::Nothing
+            }
+        }
+        Outcome::NotAccepted(answered) => Findings::Answered(answered, provenance),
+    }
 }
 
 // ---- by a certificate
@@ -124,12 +129,12 @@ fn bench_by_form<R: AllocGlobal + Threads + Wait + Clock + Sync, I: Input, J: In
     play: Play<'_>,
     answers: &[bool],
     extras: Extras,
-) -> Result<Told, Halt>
+) -> Result<(GivenOutcome, Status), Halt>
     ensures { IfOk result (λ it. IsAnswered I.reader J.reader
-        (plans.old.readers.items, cert.old) it.status (plans.new.readers.items, cert.new)) }
+        (plans.old.readers.items, cert.old) it.1 (plans.new.readers.items, cert.new)) }
 {
     if !play.explain && extras.is_exact() {
-        bench_exactly(rt, plans, cert, out, play, answers, extras)
+        bench_exactly(rt, plans, cert, out, play, answers)
     } else {
         bench_in_form(rt, plans, cert, out, play, answers, extras)
     }
@@ -143,13 +148,12 @@ fn bench_exactly<R: AllocGlobal + Threads + Wait + Clock + Sync, I: Input, J: In
     out: &mut O,
     play: Play<'_>,
     answers: &[bool],
-    extras: Extras,
-) -> Result<Told, Halt>
+) -> Result<(GivenOutcome, Status), Halt>
     ensures report { IfOk result (λ it.
         Reports (ReadsTextsAndOne I.reader J.reader) (DueForBoth (RehearsedPlan play.entry.starters.now answers.now play.entry.fill)) O.writer
-        (plans.old.readers.items, cert.old) out.old it.status (plans.new.readers.items, cert.new) out.new) }
+        (plans.old.readers.items, cert.old) out.old it.1 (plans.new.readers.items, cert.new) out.new) }
     ensures status { IfOk result (λ it. IsAnswered I.reader J.reader
-        (plans.old.readers.items, cert.old) it.status (plans.new.readers.items, cert.new)) }
+        (plans.old.readers.items, cert.old) it.1 (plans.new.readers.items, cert.new)) }
 {
     let Play { starters, fill, .. } = play;
     match bench_readers(
@@ -161,15 +165,8 @@ fn bench_exactly<R: AllocGlobal + Threads + Wait + Clock + Sync, I: Input, J: In
         fill,
         answers,
     ) {
-        Ok((found, status)) => {
-            let remark = remark_on_found(rt.alloc(), &found, plans, extras);
-            Ok(Told {
-                found,
-                status,
-                remark,
-            })
-        }
-        Err(stopped) => Err(halt_of(rt.alloc(), stopped, plans, play, extras)),
+        Ok(found) => Ok(found),
+        Err(stopped) => Err(halt_of(stopped, plans)),
     }
 }
 
@@ -201,9 +198,9 @@ fn bench_in_form<R: AllocGlobal + Threads + Wait + Clock + Sync, I: Input, J: In
     play: Play<'_>,
     answers: &[bool],
     extras: Extras,
-) -> Result<Told, Halt>
+) -> Result<(GivenOutcome, Status), Halt>
     ensures { IfOk result (λ it. IsAnswered I.reader J.reader
-        (plans.old.readers.items, cert.old) it.status (plans.new.readers.items, cert.new)) }
+        (plans.old.readers.items, cert.old) it.1 (plans.new.readers.items, cert.new)) }
 {
     let Play { starters, fill, .. } = play;
     match find_by(
@@ -216,14 +213,9 @@ fn bench_in_form<R: AllocGlobal + Threads + Wait + Clock + Sync, I: Input, J: In
     ) {
         Ok((found, status)) => {
             write_in_form(rt.alloc(), &found, plans, out, play.explain, extras)?;
-            let remark = remark_on_found(rt.alloc(), &found, plans, extras);
-            Ok(Told {
-                found,
-                status,
-                remark,
-            })
+            Ok((found, status))
         }
-        Err(stopped) => Err(halt_of(rt.alloc(), stopped, plans, play, extras)),
+        Err(stopped) => Err(halt_of(stopped, plans)),
     }
 }
 
@@ -258,12 +250,12 @@ fn alone_by_form<R: AllocGlobal + Threads + Wait + Clock + Sync, I: Input, O: Ou
     play: Play<'_>,
     answers: &[bool],
     extras: Extras,
-) -> Result<Told, Halt>
-    ensures { IfOk result (λ it. OfGivenPlan I.reader (Judges it.status)
+) -> Result<(GivenOutcome, Status), Halt>
+    ensures { IfOk result (λ it. OfGivenPlan I.reader (Judges it.1)
         plans.old.readers.items plans.new.readers.items) }
 {
     if !play.explain && extras.is_exact() {
-        alone_exactly(rt, plans, out, play, answers, extras)
+        alone_exactly(rt, plans, out, play, answers)
     } else {
         alone_in_form(rt, plans, out, play, answers, extras)
     }
@@ -276,12 +268,11 @@ fn alone_exactly<R: AllocGlobal + Threads + Wait + Clock + Sync, I: Input, O: Ou
     out: &mut O,
     play: Play<'_>,
     answers: &[bool],
-    extras: Extras,
-) -> Result<Told, Halt>
+) -> Result<(GivenOutcome, Status), Halt>
     ensures report { IfOk result (λ it.
         Reports (ReadsTexts I.reader) (DueFor (SelfRehearsedPlan play.entry.starters.now answers.now play.entry.fill)) O.writer
-        plans.old.readers.items out.old it.status plans.new.readers.items out.new) }
-    ensures status { IfOk result (λ it. OfGivenPlan I.reader (Judges it.status)
+        plans.old.readers.items out.old it.1 plans.new.readers.items out.new) }
+    ensures status { IfOk result (λ it. OfGivenPlan I.reader (Judges it.1)
         plans.old.readers.items plans.new.readers.items) }
 {
     let Play { starters, fill, .. } = play;
@@ -293,15 +284,8 @@ fn alone_exactly<R: AllocGlobal + Threads + Wait + Clock + Sync, I: Input, O: Ou
         fill,
         answers,
     ) {
-        Ok((found, status)) => {
-            let remark = remark_on_found(rt.alloc(), &found, plans, extras);
-            Ok(Told {
-                found,
-                status,
-                remark,
-            })
-        }
-        Err(stopped) => Err(halt_of(rt.alloc(), stopped, plans, play, extras)),
+        Ok(found) => Ok(found),
+        Err(stopped) => Err(halt_of(stopped, plans)),
     }
 }
 
@@ -329,22 +313,17 @@ fn alone_in_form<R: AllocGlobal + Threads + Wait + Clock + Sync, I: Input, O: Ou
     play: Play<'_>,
     answers: &[bool],
     extras: Extras,
-) -> Result<Told, Halt>
-    ensures { IfOk result (λ it. OfGivenPlan I.reader (Judges it.status)
+) -> Result<(GivenOutcome, Status), Halt>
+    ensures { IfOk result (λ it. OfGivenPlan I.reader (Judges it.1)
         plans.old.readers.items plans.new.readers.items) }
 {
     let Play { starters, fill, .. } = play;
     match find_alone(rt, plans.readers.as_mut_slice(), starters, fill, answers) {
         Ok((found, status)) => {
             write_in_form(rt.alloc(), &found, plans, out, play.explain, extras)?;
-            let remark = remark_on_found(rt.alloc(), &found, plans, extras);
-            Ok(Told {
-                found,
-                status,
-                remark,
-            })
+            Ok((found, status))
         }
-        Err(stopped) => Err(halt_of(rt.alloc(), stopped, plans, play, extras)),
+        Err(stopped) => Err(halt_of(stopped, plans)),
     }
 }
 
@@ -417,15 +396,7 @@ fn write_refusal<O: Output>(
     } else {
         None
     };
-    tell_answer(
-        alloc,
-        words,
-        it.answer,
-        it.refusal.as_ref(),
-        mistake,
-        out,
-        extras,
-    )?;
+    tell_answer(alloc, words, it, mistake, out, extras)?;
     Ok(())
 }
 
@@ -445,30 +416,6 @@ fn plan_of(outcome: &Outcome) -> &Plan {
     }
 }
 
-// What is to be said of what came of it.
-fn remark_on_found<I: Input>(
-    alloc: Global,
-    found: &GivenOutcome,
-    plans: &Sources<'_, I>,
-    extras: Extras,
-) -> Remark {
-    match &found.outcome {
-        Outcome::Played(rehearsal) => remark_on(alloc, rehearsal, extras),
-        Outcome::NotAccepted(it) => {
-            let words = plans.words(&it.plan, &found.provenance);
-            remark_on_answer(alloc, words, it.answer, it.refusal.as_ref(), extras)
-        }
-    }
-}
-
-fn remark_on(alloc: Global, rehearsal: &Rehearsal, extras: Extras) -> Remark {
-    if extras.hints && is_unanswered(rehearsal.played.wire.as_slice()) {
-        Remark::hints(on_no_answers(alloc))
-    } else {
-        Remark::Nothing
-    }
-}
-
 // Whether targets were to answer, and none acknowledged.
 fn is_unanswered(wire: &[Item]) -> bool {
     wire.contains(&Item::Heard(true)) && !wire.contains(&Item::Heard(false))
@@ -477,62 +424,16 @@ fn is_unanswered(wire: &[Item]) -> bool {
 // ---- where it goes no further
 
 // How the run ends.
-fn halt_of<I: Input>(
-    alloc: Global,
-    stopped: Unrehearsed,
-    plans: &Sources<'_, I>,
-    play: Play<'_>,
-    extras: Extras,
-) -> Halt {
-    let Unrehearsed { halted, given } = stopped;
-    match given {
-        Some(given) => halt_at_starters(alloc, halted.error, &given, plans, play, extras),
-        None => plans.halt(halted),
+fn halt_of<I: Input>(stopped: Unrehearsed, plans: &Sources<'_, I>) -> Halt {
+    let Unrehearsed {
+        halted,
+        refused,
+        given,
+    } = stopped;
+    match (refused, given) {
+        (Some(refused), Some(given)) => Halt::Starters(halted.error, refused, given),
+        _ => plans.halt(halted),
     }
-}
-
-// The plan is given, and no bench was opened for its starters.
-fn halt_at_starters<I: Input>(
-    alloc: Global,
-    error: RunError,
-    given: &GivenPlan,
-    plans: &Sources<'_, I>,
-    play: Play<'_>,
-    extras: Extras,
-) -> Halt {
-    if error == RunError::NoMemory {
-        return Halt::Run(error);
-    }
-    let words = plans.words(&given.plan, &given.provenance);
-    match said_of(alloc, words, play, extras) {
-        Ok(Said { label, hints }) => Halt::Starters(error, label, hints),
-        Err(_) => Halt::Run(RunError::NoMemory),
-    }
-}
-
-// What is to be said of starters where they are refused: the label that the plan does not have, and hints.
-#[derive(Drop)]
-struct Said {
-    label: Option<String>,
-    hints: Hints,
-}
-
-fn said_of(
-    alloc: Global,
-    words: PlanWords<'_>,
-    play: Play<'_>,
-    extras: Extras,
-) -> Result<Said, AllocError> {
-    let label = match unknown_starter(alloc, words.plan(), play.starters)? {
-        Some(label) => Some(String::from_str(alloc, label)?),
-        None => None,
-    };
-    let hints = if extras.says_why() {
-        on_starters(alloc, words, play.starters)?
-    } else {
-        Hints::new(alloc)
-    };
-    Ok(Said { label, hints })
 }
 
 // The bits of all slots. Past the end of the answers a bench takes 1.

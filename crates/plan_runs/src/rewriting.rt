@@ -6,58 +6,34 @@ ghost use Rattle.given_runs.specs.Due.{CertifiedPlan, PrintedPlan};
 ghost use Rattle.run_parts.specs.Devices.{by_parts};
 ghost use Rattle.run_parts.specs.Runs.{Reports};
 
+use command_words::{Layout, Rewriting};
 use given_runs::{
     Formatted, Unabbreviated, brief_given, certify_given, expand_given, find_formatted, print_given,
 };
 use growing_text::{Text, push_shown};
-use hints::on_no_brief;
 use plan_text::NoBrief;
-use run_ends::{Ended, Halt, Remark, Sources, Takes};
+use run_ends::{Ended, Findings, Halt, Sources, Takes};
 use run_parts::{Input, Output, RunError, Status, write_lines};
-use spellings::brief_word;
 use std::alloc::{AllocError, Global};
 
-/// A run that writes a text in another form.
-#[derive(Clone, Copy)]
-pub enum Rewriting {
-    Certify,
-    Print,
-    Brief,
-    Expand,
-    Format(Layout),
-}
-
-/// What becomes of a text that is laid out.
-#[derive(Clone, Copy, PartialEq, Eq)]
-pub enum Layout {
-    /// It is written.
-    Written,
-    /// It is written where it is not the text as it was.
-    Changed,
-    /// It is compared with the text as it was.
-    Compared,
-}
-
-impl Rewriting {
-    /// The run: over what gives a plan to certify and to print, and else over briefs to expand, a plan text, or a text of either
-    /// language to lay out.
-    ///
-    /// # Errors
-    ///
-    /// Those of the runs of `given_runs`, with the text that is refused, and with what is to be said of a plan that has no brief.
-    pub fn run<I: Input, O: Output>(
-        self,
-        alloc: Global,
-        sources: &mut Sources<'_, I>,
-        out: &mut O,
-    ) -> Result<Ended, Halt> {
-        match self {
-            Rewriting::Certify => certify(alloc, sources, out),
-            Rewriting::Print => print(alloc, sources, out),
-            Rewriting::Expand => expand(alloc, sources, out),
-            Rewriting::Brief => brief(alloc, sources, out),
-            Rewriting::Format(layout) => format(alloc, sources, out, layout),
-        }
+/// Writes a text in another form: what gives a plan to certify and to print, and else briefs to expand, a plan text, or a text of
+/// either language to lay out.
+///
+/// # Errors
+///
+/// Those of the runs of `given_runs`, with the text that is refused, and with what makes a plan have no brief.
+pub fn rewrite<I: Input, O: Output>(
+    alloc: Global,
+    sources: &mut Sources<'_, I>,
+    out: &mut O,
+    rewriting: Rewriting,
+) -> Result<Ended, Halt> {
+    match rewriting {
+        Rewriting::Certify => certify(alloc, sources, out),
+        Rewriting::Print => print(alloc, sources, out),
+        Rewriting::Expand => expand(alloc, sources, out),
+        Rewriting::Brief => brief(alloc, sources, out),
+        Rewriting::Format(layout) => format(alloc, sources, out, layout),
     }
 }
 
@@ -72,17 +48,18 @@ fn certify<I: Input, O: Output>(
     match certify_given(alloc, sources.readers.as_mut_slice(), out) {
         Ok(status) => Ok(Ended {
             status,
-            remark: on_certificate(status),
+            findings: findings_in(status),
+            wave: None,
         }),
         Err(halted) => Err(sources.halt(halted)),
     }
 }
 
 // That what was written is the certificate of a fault.
-fn on_certificate(status: Status) -> Remark {
+fn findings_in(status: Status) -> Findings {
     match status {
-        Status::Bad => Remark::Fault,
-        _ => Remark::Nothing,
+        Status::Bad => Findings::Fault,
+        _ => Findings::Nothing,
     }
 }
 
@@ -97,7 +74,8 @@ fn print<I: Input, O: Output>(
     match print_given(alloc, sources.readers.as_mut_slice(), out) {
         Ok(status) => Ok(Ended {
             status,
-            remark: Remark::Nothing,
+            findings: Findings::Nothing,
+            wave: None,
         }),
         Err(halted) => Err(sources.halt(halted)),
     }
@@ -114,7 +92,8 @@ fn expand<I: Input, O: Output>(
     match expand_given(alloc, sources.readers.as_mut_slice(), out) {
         Ok(status) => Ok(Ended {
             status,
-            remark: Remark::Nothing,
+            findings: Findings::Nothing,
+            wave: None,
         }),
         Err(halted) => Err(Halt::of(halted, Takes::One)),
     }
@@ -129,10 +108,7 @@ fn brief<I: Input, O: Output>(
     match brief_given(alloc, sources.first()?, out) {
         Ok(status) => Ok(Ended::quietly(status)),
         Err(Unabbreviated { halted, plan }) => match (halted.error, plan) {
-            (error @ RunError::Brief(NoBrief::Name), Some(plan)) => {
-                let hints = on_no_brief(alloc, brief_word(&plan))?;
-                Err(Halt::Said(error, hints))
-            }
+            (RunError::Brief(NoBrief::Name), Some(plan)) => Err(Halt::NoBrief(plan)),
             _ => Err(Halt::of(halted, Takes::One)),
         },
     }
@@ -174,8 +150,8 @@ fn finish_layout<O: Output>(
             let line = change_line(alloc, file, first_other_line(text, laid_out))?;
             Ok(Ended::quietly(write_lines(out, line.as_bytes(), Status::Bad)?))
         }
-        Layout::Changed if is_same => Ok(Ended::quietly(Status::Good)),
-        Layout::Changed | Layout::Written => {
+        Layout::InPlace if is_same => Ok(Ended::quietly(Status::Good)),
+        Layout::InPlace | Layout::Written => {
             Ok(Ended::quietly(write_lines(out, laid_out, Status::Good)?))
         }
     }

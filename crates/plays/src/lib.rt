@@ -11,5 +11,5 @@ pub mod tally;
 
 pub use puts::Put;
 pub use run_errors::OpenError;
-pub use starters::check_starters;
+pub use starters::{RefusedStarters, check_starters, refused_among};
 pub use tally::Tally;

@@ -8,6 +8,20 @@ ghost use Rattle.plays.specs.Starters.{shares_controller, refusal_behind, starte
 
 use plan_core::Plan;
 use run_errors::OpenError;
+use std::alloc::{AllocError, Global};
+
+/// Why no bench is opened for starters, and for which of them.
+#[derive(Drop)]
+pub enum RefusedStarters {
+    /// There is none.
+    Nobody,
+    /// The plan has no participant with this label.
+    Unknown(String),
+    /// These two are of one controller, or one participant.
+    OneController(u32, u32),
+    /// A `never` keeps these two apart.
+    Apart(u32, u32),
+}
 
 /// Whether these participants of the plan may start together. It takes no memory.
 ///
@@ -71,4 +85,50 @@ fn is_forbidden(plan: &Plan, before: &[u32], starter: u32) -> bool
         }
     }
     false
+}
+
+/// The same as `check_starters` in words of these labels of theirs, where it refuses them: the first starter that cannot start, with
+/// the first one before it with which it cannot.
+///
+/// # Errors
+///
+/// Where an allocation fails.
+pub fn refused_among(
+    alloc: Global,
+    plan: &Plan,
+    labels: &[&str],
+    starters: &[u32],
+) -> Result<Option<RefusedStarters>, AllocError> {
+    if starters.is_empty() {
+        return Ok(Some(RefusedStarters::Nobody));
+    }
+    for (k, starter) in starters.iter().enumerate() {
+        if *starter >= plan.participants() {
+            let label = labels.get(k).copied().unwrap_or("");
+            return Ok(Some(RefusedStarters::Unknown(String::from_str(alloc, label)?)));
+        }
+        let clash = clash_with(plan, &starters[..k], *starter);
+        if clash.is_some() {
+            return Ok(clash);
+        }
+    }
+    Ok(None)
+}
+
+// Why this starter cannot start with those before it.
+fn clash_with(plan: &Plan, before: &[u32], starter: u32) -> Option<RefusedStarters>
+    requires known { All (λ y. y < participant_count (plan_contents plan.now)) before.now }
+    requires within { starter < participant_count (plan_contents plan.now) }
+{
+    for other in before {
+        if *other == starter || plan.same_controller(*other, starter) {
+            return Some(RefusedStarters::OneController(*other, starter));
+        }
+    }
+    for other in before {
+        if plan.forbids(*other, starter) {
+            return Some(RefusedStarters::Apart(*other, starter));
+        }
+    }
+    None
 }

@@ -1,9 +1,9 @@
 // A capture that comes in parts, from its samples to its transactions, without short pulses.
 
 use crate::filtering::Filter;
-use capture_check::{Follower, Rises, Transaction};
+use capture_check::{Beside, Follower, Rises, Transaction};
 use std::alloc::{AllocError, Global};
-use vcd_read::Sample;
+use vcd_read::{Further, Sample};
 
 /// The bus, followed from sample to sample as if the short pulses of its lines had not been.
 #[derive(Drop)]
@@ -40,45 +40,53 @@ impl QuietFollower {
         }
     }
 
-    /// The transactions that are known to have ended, of these samples and those before, in order. Where an allocation
-    /// fails, what was followed so far is lost.
-    pub fn follow(
+    /// The transactions that are known to have ended, of these samples and those before, in order. Another is told of what was
+    /// read, also of further lines, and of the samples that are left. Where an allocation fails, what was followed so far is
+    /// lost.
+    pub fn follow<B: Beside>(
         &mut self,
         alloc: Global,
         samples: &[Sample],
+        further: &[Further],
+        beside: &mut B,
     ) -> Result<Vec<Transaction>, AllocError>
         ensures found { IfOk result (λ found. (more : List Sample) →
             map recorded found.items ++ quiet_behind self.new more ≡ quiet_behind self.old (samples.now ++ more)) }
         ensures least { OnOk result (least_in self.new ≡ least_in self.old) }
         ensures handed_out { OnOk result (HasHandedOut self.old → HasHandedOut self.new) }
     {
+        beside.hear(samples, further)?;
         match &mut self.filter {
-            None => self.follower.follow(alloc, samples),
+            None => self.follower.follow(alloc, samples, beside),
             Some(filter) => {
                 self.left.clear();
                 filter.feed(samples, &mut self.left)?;
-                self.follower.follow(alloc, self.left.as_slice())
+                self.follower.follow(alloc, self.left.as_slice(), beside)
             }
         }
     }
 
     /// The transactions that are left, with these last samples, and the one that goes on at the end of the capture, if any.
     /// Then nothing is known of the bus, as at first; what was counted is kept.
-    pub fn follow_to_end(
+    pub fn follow_to_end<B: Beside>(
         &mut self,
         alloc: Global,
         samples: &[Sample],
+        further: &[Further],
+        beside: &mut B,
     ) -> Result<Vec<Transaction>, AllocError>
         ensures found { IfOk result (λ found. map recorded found.items ≡ quiet_behind self.old samples.now) }
         ensures left { OnOk result ((more : List Sample) →
             quiet_behind self.new more ≡ quiet_transactions (least_in self.old) more) }
     {
+        beside.hear(samples, further)?;
         match &mut self.filter {
-            None => self.follower.follow_to_end(alloc, samples),
+            None => self.follower.follow_to_end(alloc, samples, beside),
             Some(filter) => {
                 self.left.clear();
                 filter.feed_to_end(samples, &mut self.left)?;
-                self.follower.follow_to_end(alloc, self.left.as_slice())
+                let left = self.left.as_slice();
+                self.follower.follow_to_end(alloc, left, beside)
             }
         }
     }

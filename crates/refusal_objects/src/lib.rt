@@ -183,24 +183,20 @@ fn opened_word(opened: Opened) -> &'static str {
     }
 }
 
-/// The object of the refusal of a time with a unit, of which a dump does not say what it counts.
+/// The object of a refusal of this code, which speaks of this controller.
 ///
 /// # Errors
 ///
 /// Where an allocation fails.
-pub fn timescale_object(alloc: Global, reason: &str) -> Result<String, AllocError> {
-    object_of(alloc, reason, coded("timescale"))
-}
-
-/// The object of the refusal of a line that was to be what this controller pulls.
-///
-/// # Errors
-///
-/// Where an allocation fails.
-pub fn drive_object(alloc: Global, controller: &str, reason: &str) -> Result<String, AllocError> {
+pub fn word_object(
+    alloc: Global,
+    code: &'static str,
+    controller: Option<&str>,
+    reason: &str,
+) -> Result<String, AllocError> {
     let refusal = Refusal {
-        controller: Some(controller),
-        ..coded("drives")
+        controller,
+        ..coded(code)
     };
     object_of(alloc, reason, refusal)
 }

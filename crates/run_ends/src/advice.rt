@@ -1,409 +1,133 @@
-// Further lines for people on standard error, after a refusal or a report.
+// What is said to people on standard error of a run that has ended: made here of what it has found, or of why it was refused.
 
-use crate::endings::{Recorded, Remark};
-use crate::extras::Extras;
+use crate::endings::{Findings, Halt, NoDrive, Recorded, RefusedSource};
+use crate::errands::Errand;
 use crate::inputs::{Inputs, NamedSources};
-use crate::messages::refused_at;
-use crate::styles::Format;
-use crate::voices::{Voice, refused, refused_drive, refused_timescale, say, say_these};
+use crate::messages::{dump_message, text_message};
+use crate::sources::words_of;
+use crate::voices::{refused, refused_by_word, say, say_message, say_these};
+use cert_check::{Answer, Answered};
+use command_words::Format;
 use diagnostics::reason_of;
 use dump_findings::Seen;
 use dump_hints::{
-    Names, on_bytes, on_choice, on_dump, on_recording, on_rises, on_signals, on_silence,
+    Names, on_bytes, on_choice, on_denied_line, on_dump, on_like_line, on_no_controller,
+    on_no_line, on_no_name, on_recording, on_rises, on_same_line, on_signals, on_silence,
     on_unexplained,
 };
-use dump_tokens::BusLines;
-use growing_text::Text;
+use dump_tokens::Drive;
+use given_plans::Provenance;
 use hints::{
-    Hints, Named, file_word, on_closed_input, on_fault, on_memory, on_no_timescale, on_opening,
-    on_reading, on_text, on_workers, on_writing,
+    Found, Hints, NoWaves, on_certificate, on_checked, on_fault, on_memory, on_no_answers,
+    on_no_brief, on_no_timescale, on_no_waves, on_reading, on_safe, on_starters, on_text,
+    on_workers, on_writing,
 };
+use lint::oddities;
+use plan_core::Plan;
 use plan_text::PlanError;
+use plays::RefusedStarters;
 use refusal_objects::Detail;
+use remedies::kept_apart;
 use run_parts::{RunError, Status};
+use spellings::brief_word;
 use std::alloc::{AllocError, Global};
 use std::io::{self, Read, Seek};
-use std::time::Clock;
-use vcd_read::Probe;
 
-/// What hints say of a run beside its files.
-#[derive(Clone, Copy)]
-pub struct About<'a> {
-    /// How the lines of a dump were to be found, without the command.
-    pub names: Names<'a>,
-    /// That command, a file, an option and a file, as they can be given once more. Some may be empty.
-    pub words: [&'a str; 4],
-    /// Further files of a brief.
-    pub further: &'a [&'a str],
-}
+// ---- after a report
 
-impl<'a> About<'a> {
-    /// A run over plans alone.
-    pub fn plans() -> About<'a> {
-        About {
-            names: names_of(no_lines(), ""),
-            words: ["", "", "", ""],
-            further: &[],
-        }
-    }
-
-    /// A run over a dump.
-    pub fn recording(names: Names<'a>, words: [&'a str; 4]) -> About<'a> {
-        About {
-            names,
-            words,
-            further: &[],
-        }
-    }
-
-    /// The same with further files of a brief.
-    pub fn with(self, further: &'a [&'a str]) -> About<'a> {
-        About { further, ..self }
-    }
-}
-
-/// How the two lines are to be found in this dump.
-pub fn names_of<'a>(lines: BusLines<'a>, vcd: &'a str) -> Names<'a> {
-    let BusLines {
-        scl,
-        sda,
-        scope,
-        min_pulse,
-    } = lines;
-    Names {
-        scl,
-        sda,
-        scope,
-        min_pulse,
-        command: "",
-        vcd,
-    }
-}
-
-/// No lines.
-pub fn no_lines() -> BusLines<'static> {
-    BusLines {
-        scl: Probe::Coded(""),
-        sda: Probe::Coded(""),
-        scope: None,
-        min_pulse: None,
-    }
-}
-
-/// What is to be said of what a run has found. `named` are the files that it was over, or those
-/// that were to give its plan. `output` is the file that was to be written in place of standard output, and `error` why
-/// it was not. Hints are written by this voice.
-#[derive(Drop)]
-pub struct Closing<'a> {
-    pub remark: Remark,
-    pub named: NamedSources<'a>,
-    pub output: Option<&'a str>,
-    pub error: Option<io::Error>,
-    pub about: About<'a>,
-    pub voice: Voice,
-}
-
-/// After a file that cannot be opened, with the error of the system.
-pub fn advise_on_opening<R: Eprint + AllocGlobal>(
+/// Says that there are no waves, where that is so.
+pub(crate) fn advise_on_waves<R: Eprint + AllocGlobal>(
     rt: &R,
-    file: Named<'_>,
-    error: &io::Error,
-    voice: Voice,
+    why: Option<NoWaves>,
+    errand: Errand<'_>,
 ) {
-    say(rt, on_opening(rt.alloc(), file, error), voice.uncolored());
+    if let (Some(why), Some(file)) = (why, errand.request.wave()) {
+        say(rt, on_no_waves(rt.alloc(), file, why), errand.extras);
+    }
 }
 
-/// After standard input, where it is closed.
-pub fn advise_on_closed_input<R: Eprint + AllocGlobal>(rt: &R, file: Named<'_>, voice: Voice) {
-    say(rt, on_closed_input(rt.alloc(), file), voice.uncolored());
-}
-
-/// After a run that has ended with this status.
-pub fn advise<R: Eprint + AllocGlobal, F: Read + Seek + Drop>(
+/// Says what a run has found that has ended with this status. What it has read is there once more where it can be.
+pub(crate) fn advise<R: Eprint + AllocGlobal, F: Read + Seek + Drop>(
     rt: &R,
     status: Status,
-    read: Inputs<'_, F>,
-    closing: Closing<'_>,
+    findings: Findings,
+    again: Option<F>,
+    errand: Errand<'_>,
 ) {
     let alloc = rt.alloc();
-    let command = made(alloc, command_of(alloc, closing.about));
-    let vcd = made(alloc, file_word(alloc, closing.about.names.vcd));
-    let names = Names {
-        command: command.as_str(),
-        vcd: vcd.as_str(),
-        ..closing.about.names
-    };
-    advise_on_report(rt, read, names, status, closing);
-}
-
-/// After a run that was refused: the line of the refusal, with its reason in words where that is no line, and hints where they are
-/// wanted. Its status.
-pub fn refuse<R: Eprint + AllocGlobal, F: Read + Seek + Drop>(
-    rt: &R,
-    error: RunError,
-    read: Inputs<'_, F>,
-    closing: Closing<'_>,
-    extras: Extras,
-) {
-    let last = Last {
-        file: read.last.path,
-        path: read.path,
-    };
-    if !extras.says_why() {
-        return tell(rt, error, last, &closing, "", extras);
-    }
-    let alloc = rt.alloc();
-    let own = own_reason(alloc, error, read.error.as_ref(), &closing, extras.format);
-    if let (Some(reason), false) = (&own, extras.hints) {
-        return tell(rt, error, last, &closing, reason.as_str(), extras);
-    }
-    let found = hints_after(alloc, read, error, &closing);
-    let hints = hints_of(&closing.remark, &found);
-    let reason = match own {
-        Some(reason) => reason,
-        None => made(alloc, reason_of(alloc, hints)),
-    };
-    tell(rt, error, last, &closing, reason.as_str(), extras);
-    if extras.hints {
-        say_these(rt, hints, voice_of(error, closing.voice));
-    }
-}
-
-// The hints that a run has itself, or else those that were found.
-fn hints_of<'a>(remark: &'a Remark, found: &'a Hints) -> &'a Hints {
-    match remark {
-        Remark::Hints(hints) | Remark::Starters(_, hints) => hints,
-        _ => found,
-    }
-}
-
-// What a run has read: the file that it read last, and the path of its dump, where it is over one.
-#[derive(Clone, Copy)]
-struct Last<'a> {
-    file: &'a str,
-    path: &'a str,
-}
-
-// The line of a refusal, or what stands for it.
-fn tell<R: Eprint + AllocGlobal>(
-    rt: &R,
-    error: RunError,
-    last: Last<'_>,
-    closing: &Closing<'_>,
-    reason: &str,
-    extras: Extras,
-) {
-    let remark = &closing.remark;
-    let detail = match error {
-        RunError::Read => Detail::File(last.file),
-        _ => remark.detail(rt.alloc(), error, closing.named),
-    };
-    match extras.format {
-        Format::Messages => {
-            refused_at(rt, error, remark, closing.named, last.path, detail, reason)
+    let hints = match findings {
+        Findings::Nothing => return,
+        Findings::Checked(checked, provenance, found) => {
+            on_plan(alloc, &checked.plan, &provenance, found, errand)
         }
-        Format::Lines | Format::Objects => refused(rt, error, detail, reason, extras.voice()),
-    }
-}
-
-// The reason of a refusal that is not what hints say first. The message of a text has its own words.
-fn own_reason(
-    alloc: Global,
-    error: RunError,
-    why: Option<&io::Error>,
-    closing: &Closing<'_>,
-    format: Format,
-) -> Option<String> {
-    match (error, &closing.remark) {
-        (RunError::Read, _) => Some(reading_reason(alloc, why)),
-        (RunError::Plan(_), Remark::Text(_)) if format == Format::Messages => {
-            Some(String::new(alloc))
-        }
-        (RunError::Plan(error), Remark::Text(source)) => {
-            match source.diagnose(alloc, error, closing.named) {
-                Ok(diagnostic) => Some(diagnostic.message),
-                Err(_) => Some(String::new(alloc)),
+        Findings::Answered(answered, provenance) => on_answer(
+            alloc,
+            &answered,
+            &provenance,
+            errand,
+        ),
+        Findings::Unanswered => on_no_answers(alloc),
+        Findings::Fault => on_fault(alloc, errand.form().path()),
+        Findings::Recording(recorded, rises, alike) => {
+            let command = made(alloc, errand.command(alloc));
+            let vcd = made(alloc, errand.vcd(alloc));
+            let names = errand.names(command.as_str(), vcd.as_str());
+            say(rt, on_rises(alloc, names, rises), errand.extras);
+            if let Some(number) = alike {
+                say(
+                    rt,
+                    on_like_line(alloc, drive_of(errand, number)),
+                    errand.extras,
+                );
             }
+            on_recorded(alloc, again, names, status, recorded)
         }
-        _ => None,
-    }
-}
-
-/// Why a file cannot be read, in words.
-pub(crate) fn reading_reason(alloc: Global, error: Option<&io::Error>) -> String {
-    let words = match error {
-        Some(error) if error.kind() == io::ErrorKind::NotFound => {
-            String::from_str(alloc, "no such file")
-        }
-        Some(error) => format!(in alloc; "{error}"),
-        None => String::from_str(alloc, "it gave an error in reading, or has no end"),
     };
-    made(alloc, words)
+    say(rt, hints, errand.extras);
 }
 
-// What hints say of a refusal, beside what the run has to say. Without memory for them there are none.
-fn hints_after<F: Read + Seek + Drop>(
+fn on_plan(
     alloc: Global,
-    read: Inputs<'_, F>,
-    error: RunError,
-    closing: &Closing<'_>,
-) -> Hints {
-    let vcd = made(alloc, file_word(alloc, closing.about.names.vcd));
-    let command = made(alloc, command_of(alloc, closing.about));
-    let names = Names {
-        command: command.as_str(),
-        vcd: vcd.as_str(),
-        ..closing.about.names
-    };
-    match on_text_refused(alloc, read, names, error, closing) {
-        Ok(hints) => hints,
-        Err(_) => Hints::new(alloc),
-    }
-}
-
-// After a report.
-fn advise_on_report<R: Eprint + AllocGlobal, F: Read + Seek + Drop>(
-    rt: &R,
-    read: Inputs<'_, F>,
-    names: Names<'_>,
-    status: Status,
-    closing: Closing<'_>,
-) {
-    let alloc = rt.alloc();
-    let Closing {
-        remark,
-        output,
-        voice,
-        ..
-    } = closing;
-    match remark {
-        Remark::Recording(recorded, rises, lines) => {
-            say(rt, on_rises(alloc, names, rises), voice);
-            say(rt, Ok(lines), voice);
-            let hints = on_recorded(alloc, read.other, names, status, recorded);
-            say(rt, hints, voice);
-        }
-        remark => say(rt, on_report(alloc, remark, output), voice),
-    }
-}
-
-/// The refusal of a time with a unit, of which a dump does not say what it counts, and its status.
-pub fn no_timescale<R: Clock + Eprint + AllocGlobal>(rt: &R, extras: Extras) {
-    extras.watcher.clear(rt);
-    let alloc = rt.alloc();
-    let hints = match on_no_timescale(alloc) {
-        Ok(hints) => hints,
-        Err(_) => Hints::new(alloc),
-    };
-    let reason = made(alloc, reason_of(alloc, &hints));
-    refused_timescale(rt, reason.as_str(), extras.voice());
-    if extras.hints {
-        say_these(rt, &hints, extras.voice().uncolored());
-    }
-}
-
-/// The refusal of a line that was to be what this controller pulls, and its status.
-pub fn no_drive<R: Clock + Eprint + AllocGlobal>(
-    rt: &R,
-    controller: &str,
-    hints: Hints,
-    extras: Extras,
-) {
-    extras.watcher.clear(rt);
-    let reason = made(rt.alloc(), reason_of(rt.alloc(), &hints));
-    refused_drive(rt, controller, reason.as_str(), extras.voice());
-    if extras.hints {
-        say_these(rt, &hints, extras.voice().uncolored());
-    }
-}
-
-// A command, files, an option and a file, to be given once more with other options.
-fn command_of(alloc: Global, about: About<'_>) -> Result<String, AllocError> {
-    let [command, first, option, second] = about.words;
-    let mut text = Text::new(alloc);
-    text.push(command);
-    push_file(alloc, &mut text, first);
-    for file in about.further {
-        text.push(" --with");
-        push_file(alloc, &mut text, file);
-    }
-    if !option.is_empty() {
-        text.push(" ");
-        text.push(option);
-    }
-    push_file(alloc, &mut text, second);
-    text.finish()
-}
-
-fn push_file(alloc: Global, text: &mut Text, file: &str) {
-    if !file.is_empty() {
-        text.push(" ");
-        text.push_made(file_word(alloc, file));
-    }
-}
-
-// A text for hints. Without memory there is none.
-fn made(alloc: Global, text: Result<String, AllocError>) -> String {
-    match text {
-        Ok(text) => text,
-        Err(_) => String::new(alloc),
-    }
-}
-
-// Places have marks, and devices have none.
-fn voice_of(error: RunError, voice: Voice) -> Voice {
-    match error {
-        RunError::Read | RunError::Write | RunError::Workers | RunError::NoMemory => {
-            voice.uncolored()
-        }
-        _ => voice,
-    }
-}
-
-// After a text that was refused, and what the system refused.
-fn on_text_refused<F: Read + Seek + Drop>(
-    alloc: Global,
-    read: Inputs<'_, F>,
-    names: Names<'_>,
-    ended: RunError,
-    closing: &Closing<'_>,
+    plan: &Plan,
+    provenance: &Provenance,
+    found: Found,
+    errand: Errand<'_>,
 ) -> Result<Hints, AllocError> {
-    match ended {
-        RunError::Plan(refusal) => {
-            on_refused_text(alloc, refusal, &closing.remark, closing.named)
-        }
-        RunError::Vcd(refusal) => {
-            on_dump(alloc, read.other, names, refusal, closing.remark.wrong())
-        }
-        RunError::Read => on_reading(alloc, read.last, read.error.as_ref()),
-        RunError::Write => on_writing(alloc, closing.output, closing.error.as_ref()),
-        RunError::Workers => on_workers(alloc),
-        _ => on_memory(alloc),
-    }
-}
-
-fn on_refused_text(
-    alloc: Global,
-    error: PlanError,
-    remark: &Remark,
-    named: NamedSources<'_>,
-) -> Result<Hints, AllocError> {
-    let Remark::Text(source) = remark else {
-        return Ok(Hints::new(alloc));
-    };
-    let earlier = source.earlier(alloc, named)?;
-    on_text(
+    let odd = oddities(
         alloc,
-        source.refused_in(error, source.file(named), earlier.as_slice()),
-    )
+        plan,
+        &provenance.origins,
+        provenance.texts.as_slice(),
+        &provenance.spans,
+    )?;
+    let words = words_of(errand.named().files(), plan, provenance);
+    on_checked(alloc, words, odd.as_slice(), found)
 }
 
-fn on_report(alloc: Global, remark: Remark, output: Option<&str>) -> Result<Hints, AllocError> {
-    match remark {
-        Remark::Hints(hints) => Ok(hints),
-        Remark::Starters(_label, hints) => Ok(hints),
-        Remark::Fault => on_fault(alloc, output),
-        _ => Ok(Hints::new(alloc)),
+fn on_answer(
+    alloc: Global,
+    answered: &Answered,
+    provenance: &Provenance,
+    errand: Errand<'_>,
+) -> Result<Hints, AllocError> {
+    match answered.answer {
+        Answer::Safe => {
+            let words = words_of(errand.named().files(), &answered.plan, provenance);
+            on_safe(alloc, words, kept_apart(words))
+        }
+        Answer::Wrong(fault) => on_certificate(alloc, fault, answered.refusal.as_ref()),
+        Answer::Unsafe => Ok(Hints::new(alloc)),
+    }
+}
+
+// The line of the controller with this number, which was given.
+fn drive_of<'a>(errand: Errand<'a>, number: usize) -> Drive<'a> {
+    match errand.request.drive(number) {
+        Some(drive) => drive,
+        None => Drive {
+            controller: "",
+            line: "",
+        },
     }
 }
 
@@ -443,5 +167,166 @@ fn on_bus<F: Read + Seek + Drop>(
         on_unexplained(alloc, vcd, names)
     } else {
         on_choice(alloc, vcd, names)
+    }
+}
+
+// ---- after a refusal
+
+/// Says why a run was refused, with its reason in words where that is no line, and hints where they are wanted. What was not
+/// written, where that is why: the file, if it is none of the standard streams, and the error of the system.
+pub(crate) fn refuse<R: Eprint + AllocGlobal, F: Read + Seek + Drop>(
+    rt: &R,
+    halt: &Halt,
+    read: Inputs<'_, F>,
+    file: Option<&str>,
+    error: Option<io::Error>,
+    errand: Errand<'_>,
+) {
+    let last = read.last.path;
+    if !errand.extras.says_why() {
+        return tell(rt, halt, last, "", errand);
+    }
+    let alloc = rt.alloc();
+    let own = own_reason(alloc, halt, read.error.as_ref(), errand);
+    let hints = match hints_on(alloc, halt, read, file, error.as_ref(), errand) {
+        Ok(hints) => hints,
+        Err(_) => Hints::new(alloc),
+    };
+    let reason = match own {
+        Some(reason) => reason,
+        None => made(alloc, reason_of(alloc, &hints)),
+    };
+    tell(rt, halt, last, reason.as_str(), errand);
+    if errand.extras.hints {
+        say_these(rt, &hints, errand.extras);
+    }
+}
+
+// The line of a refusal, or what stands for it. This file was read last.
+fn tell<R: Eprint + AllocGlobal>(
+    rt: &R,
+    halt: &Halt,
+    last: &str,
+    reason: &str,
+    errand: Errand<'_>,
+) {
+    let (alloc, format, named) = (rt.alloc(), errand.extras.format, errand.named());
+    let detail = match halt {
+        Halt::NoTimescale => return refused_by_word(rt, "timescale", None, reason, format),
+        Halt::NoDrive(number, _) => {
+            let controller = Some(drive_of(errand, *number).controller);
+            return refused_by_word(rt, "drives", controller, reason, format);
+        }
+        Halt::Text(error, source) if format == Format::Messages => {
+            return say_message(rt, text_message(alloc, *error, source, named));
+        }
+        Halt::Dump(error, wrong) if format == Format::Messages => {
+            let file = errand.last_path();
+            return say_message(
+                rt,
+                dump_message(alloc, *error, wrong.as_ref(), file, reason),
+            );
+        }
+        Halt::Text(error, source) => Detail::Text(source.detail(alloc, *error, named)),
+        Halt::Dump(_, Some(wrong)) => Detail::Dump(wrong),
+        Halt::Starters(_, RefusedStarters::Unknown(label), _) => Detail::Label(label.as_str()),
+        Halt::Run(RunError::Read) => Detail::File(last),
+        _ => Detail::Nothing,
+    };
+    refused(rt, halt.error(), detail, reason, format);
+}
+
+// The reason of a refusal that is not what hints say first. The message of a text has its own words.
+fn own_reason(
+    alloc: Global,
+    halt: &Halt,
+    why: Option<&io::Error>,
+    errand: Errand<'_>,
+) -> Option<String> {
+    match halt {
+        Halt::Run(RunError::Read) => Some(reading_reason(alloc, why)),
+        Halt::Text(..) if errand.extras.format == Format::Messages => Some(String::new(alloc)),
+        Halt::Text(error, source) => match source.diagnose(alloc, *error, errand.named()) {
+            Ok(diagnostic) => Some(diagnostic.message),
+            Err(_) => Some(String::new(alloc)),
+        },
+        _ => None,
+    }
+}
+
+/// Why a file cannot be read, in words.
+pub(crate) fn reading_reason(alloc: Global, error: Option<&io::Error>) -> String {
+    let words = match error {
+        Some(error) if error.kind() == io::ErrorKind::NotFound => {
+            String::from_str(alloc, "no such file")
+        }
+        Some(error) => format!(in alloc; "{error}"),
+        None => String::from_str(alloc, "it gave an error in reading, or has no end"),
+    };
+    made(alloc, words)
+}
+
+// What hints say of a refusal.
+fn hints_on<F: Read + Seek + Drop>(
+    alloc: Global,
+    halt: &Halt,
+    read: Inputs<'_, F>,
+    file: Option<&str>,
+    error: Option<&io::Error>,
+    errand: Errand<'_>,
+) -> Result<Hints, AllocError> {
+    match halt {
+        Halt::Text(error, source) => on_refused_text(alloc, *error, source, errand.named()),
+        Halt::Dump(error, wrong) => {
+            let (command, vcd) = (errand.command(alloc)?, errand.vcd(alloc)?);
+            let names = errand.names(command.as_str(), vcd.as_str());
+            on_dump(alloc, read.again, names, *error, wrong.as_ref())
+        }
+        Halt::Starters(_, refused, given) => {
+            let files = errand.named().files();
+            on_starters(
+                alloc,
+                words_of(files, &given.plan, &given.provenance),
+                refused,
+            )
+        }
+        Halt::NoBrief(plan) => on_no_brief(alloc, brief_word(plan)),
+        Halt::NoTimescale => on_no_timescale(alloc),
+        Halt::NoDrive(number, why) => on_no_drive(alloc, drive_of(errand, *number), why),
+        Halt::Run(RunError::Read) => on_reading(alloc, read.last, read.error.as_ref()),
+        Halt::Run(RunError::Write) => on_writing(alloc, file, error),
+        Halt::Run(RunError::Workers) => on_workers(alloc),
+        Halt::Run(_) => on_memory(alloc),
+    }
+}
+
+fn on_refused_text(
+    alloc: Global,
+    error: PlanError,
+    source: &RefusedSource,
+    named: NamedSources<'_>,
+) -> Result<Hints, AllocError> {
+    let earlier = source.earlier(alloc, named)?;
+    on_text(
+        alloc,
+        source.refused_in(error, source.file(named), earlier.as_slice()),
+    )
+}
+
+fn on_no_drive(alloc: Global, drive: Drive<'_>, why: &NoDrive) -> Result<Hints, AllocError> {
+    match why {
+        NoDrive::NoLine => on_no_line(alloc, drive),
+        NoDrive::SameLine => on_same_line(alloc, drive),
+        NoDrive::Denied => on_denied_line(alloc, drive),
+        NoDrive::NoController(names) => on_no_controller(alloc, drive, names.as_slice()),
+        NoDrive::NoName => on_no_name(alloc, drive),
+    }
+}
+
+// A text for hints. Without memory there is none.
+fn made(alloc: Global, text: Result<String, AllocError>) -> String {
+    match text {
+        Ok(text) => text,
+        Err(_) => String::new(alloc),
     }
 }

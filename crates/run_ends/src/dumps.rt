@@ -25,10 +25,10 @@ pub fn halted<J: Input>(mut dump: Dump<'_, '_, J>, error: RunError) -> Halt {
     halted_by(error, dump.take_wrong())
 }
 
-/// The same by what is wrong with the dump. Where memory ran out at its refusal nothing is said of that.
+/// The same by what is wrong with the dump.
 pub fn halted_by(error: RunError, wrong: Option<Wrong>) -> Halt {
     match error {
-        RunError::Vcd(_) => Halt::Dump(error, wrong),
-        _ => Halt::Dump(error, None),
+        RunError::Vcd(error) => Halt::Dump(error, wrong),
+        _ => Halt::Run(error),
     }
 }

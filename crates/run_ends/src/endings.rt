@@ -1,51 +1,146 @@
-// How runs end.
+// How runs end: by values, of which `advice` makes what is said to people.
+
+ghost use Rattle.std.specs.Prelude.{◌≡◌};
 
 use crate::inputs::NamedSources;
 use capture_check::Rises;
+use cert_check::Answered;
 use diagnostics::{Diagnostic, diagnose_refusal};
 use dump_findings::Seen;
 use dump_tokens::Window;
-use given_plans::{Halted, RefusedText};
-use hints::{Earlier, Hints, RefusedIn, first_stand, missing_semicolon_at};
-use plan_text::PlanError;
-use refusal_objects::{Detail, EarlierAt, TextDetail};
+use given_plans::{GivenPlan, Halted, Provenance, RefusedText};
+use hints::{Earlier, Found, NoWaves, RefusedIn, first_stand, missing_semicolon_at};
+use plan_core::Plan;
+use plan_text::{NoBrief, PlanError};
+use plays::RefusedStarters;
+use refusal_objects::{EarlierAt, TextDetail};
 use run_parts::{RunError, Status};
 use std::alloc::{AllocError, Global};
-use std::io;
-use vcd_read::Wrong;
+use vcd_read::{VcdError, Wrong};
+use verdicts::Checked;
 
-/// A run that has ended with its report: its status, and what is to be said to people.
+/// A run that has its whole report.
 #[derive(Drop)]
 pub struct Ended {
     pub status: Status,
-    pub remark: Remark,
+    pub findings: Findings,
+    /// What goes into the file for waves, where there is one, or why nothing does.
+    pub wave: Option<Result<String, NoWaves>>,
 }
 
 impl Ended {
     /// With nothing to be said.
-    pub fn quietly(status: Status) -> Ended {
+    pub fn quietly(status: Status) -> Ended
+        ensures { result.status ≡ status }
+    {
         Ended {
             status,
-            remark: Remark::Nothing,
+            findings: Findings::Nothing,
+            wave: None,
         }
     }
 }
 
-/// What is to be said to people of what a run has found.
+/// What a run has found of which people may be told.
 #[derive(Drop)]
-pub enum Remark {
+pub enum Findings {
     Nothing,
-    Hints(Hints),
+    /// A plan that was checked, what it was read from, and what was found of its pairs.
+    Checked(Checked, Provenance, Found),
+    /// The answer to a certificate of a plan, and what that was read from.
+    Answered(Answered, Provenance),
+    /// That no target acknowledged anything in a rehearsal.
+    Unanswered,
     /// That what was written is the certificate of a fault.
     Fault,
-    /// What can be said of a dump, how often SCL rises in it, and what is to be said of the lines of controllers.
-    Recording(Recorded, Rises, Hints),
-    /// What is wrong with a dump that is refused.
-    Refused(Wrong),
-    /// The text of a plan or of a brief that is refused.
-    Text(RefusedSource),
-    /// The label of the first starter that the plan does not have, where one is refused for that, and hints.
-    Starters(Option<String>, Hints),
+    /// What was made of a dump, how often SCL rises in it, and which line of a controller cannot be told apart from SDA.
+    Recording(Recorded, Rises, Option<usize>),
+}
+
+/// What is made of a dump.
+#[derive(Clone, Copy)]
+pub enum Recorded {
+    /// These are its transactions that begin within these times, and who explains them was asked.
+    Bus(Window, Seen),
+    /// The same in bytes.
+    Bytes(Window, Seen),
+    /// Its signals were listed.
+    Signals,
+    /// It was made into a brief or a page.
+    Other,
+}
+
+/// Why a run ends without its report.
+#[derive(Drop)]
+pub enum Halt {
+    /// A device, memory, or what else has no place in a file.
+    Run(RunError),
+    /// A dump is refused, with what is wrong, where that is known.
+    Dump(VcdError, Option<Wrong>),
+    /// The text of a plan or of a brief is refused.
+    Text(PlanError, RefusedSource),
+    /// Starters of this plan are refused.
+    Starters(RunError, RefusedStarters, GivenPlan),
+    /// This plan has no brief, since a name of it is a word of briefs.
+    NoBrief(Plan),
+    /// A time was given with a unit, and the dump does not say what its numbers count.
+    NoTimescale,
+    /// The line of the controller with this number is none that can be followed.
+    NoDrive(usize, NoDrive),
+}
+
+/// Why the line of a controller cannot be followed.
+#[derive(Drop)]
+pub enum NoDrive {
+    /// The dump has no signal for it.
+    NoLine,
+    /// It is SDA itself.
+    SameLine,
+    /// It pulls SDA where that is HIGH.
+    Denied,
+    /// The plan has no such controller. These are its own.
+    NoController(Vec<String>),
+    /// No controller of a brief can have its name.
+    NoName,
+}
+
+impl Halt {
+    /// A run over what gives a plan goes no further, where this may stand in the place of the text that is refused.
+    pub fn of(halted: Halted, takes: Takes) -> Halt {
+        let Halted { error, text } = halted;
+        match (error, text) {
+            (RunError::Plan(error), Some(refused)) => {
+                Halt::Text(error, RefusedSource { refused, takes })
+            }
+            _ => Halt::Run(error),
+        }
+    }
+
+    /// What the libraries call it. What they have no word for is a file that cannot be used.
+    pub(crate) fn error(&self) -> RunError {
+        match self {
+            Halt::Run(error) | Halt::Starters(error, ..) => *error,
+            Halt::Dump(error, _) => RunError::Vcd(*error),
+            Halt::Text(error, _) => RunError::Plan(*error),
+            Halt::NoBrief(_) => RunError::Brief(NoBrief::Name),
+            Halt::NoTimescale | Halt::NoDrive(..) => RunError::Read,
+        }
+    }
+}
+
+impl From<RunError> for Halt {
+    fn from(error: RunError) -> Halt {
+        match error {
+            RunError::Vcd(error) => Halt::Dump(error, None),
+            _ => Halt::Run(error),
+        }
+    }
+}
+
+impl From<AllocError> for Halt {
+    fn from(_error: AllocError) -> Halt {
+        Halt::Run(RunError::NoMemory)
+    }
 }
 
 /// The text of a plan or of a brief that is refused, and what may stand in its place.
@@ -123,11 +218,11 @@ impl RefusedSource {
         diagnose_refusal(alloc, refused, self.refused.file())
     }
 
-    // What is known of the refusal. Where there is no memory for what stands already, that is not told.
-    fn detail<'a>(
+    /// What is known of the refusal. Where there is no memory for what stands already, that is not told.
+    pub(crate) fn detail<'a>(
         &'a self,
         alloc: Global,
-        error: RunError,
+        error: PlanError,
         named: NamedSources<'a>,
     ) -> TextDetail<'a> {
         let file = self.file(named);
@@ -137,12 +232,10 @@ impl RefusedSource {
             semicolon: None,
             earlier: None,
         };
-        if let RunError::Plan(error) = error {
-            if let Ok(earlier) = self.earlier(alloc, named) {
-                let refused = self.refused_in(error, file, earlier.as_slice());
-                detail.semicolon = missing_semicolon_at(refused);
-                detail.earlier = earlier_at(alloc, refused, named);
-            }
+        if let Ok(earlier) = self.earlier(alloc, named) {
+            let refused = self.refused_in(error, file, earlier.as_slice());
+            detail.semicolon = missing_semicolon_at(refused);
+            detail.earlier = earlier_at(alloc, refused, named);
         }
         detail
     }
@@ -158,122 +251,4 @@ fn earlier_at<'a>(
         file: named.path(spot.file),
         line: spot.line,
     })
-}
-
-/// What is made of a dump.
-#[derive(Clone, Copy)]
-pub enum Recorded {
-    /// These are its transactions that begin within these times, and who explains them was asked.
-    Bus(Window, Seen),
-    /// The same in bytes.
-    Bytes(Window, Seen),
-    /// Its signals were listed.
-    Signals,
-    /// It was made into a brief or a page.
-    Other,
-}
-
-impl Remark {
-    ghost use Rattle.std.specs.Prelude.{◌≡◌};
-    ghost use Rattle.hints.specs.declared.values.Hints.{Hints};
-    ghost use Rattle.run_ends.specs.declared.endings.Remark.TheVariants.{Recording};
-
-    /// These hints, where there was memory for them.
-    pub fn hints(hints: Result<Hints, AllocError>) -> Remark {
-        match hints {
-            Ok(hints) => Remark::Hints(hints),
-            Err(_) => Remark::Nothing,
-        }
-    }
-
-    /// What can be said of a dump whose controllers have no lines, and how often SCL rises in it.
-    pub fn recording(alloc: Global, recorded: Recorded, rises: Rises) -> Remark
-        ensures { (hints : Hints) × (result ≡ Recording recorded rises hints) }
-    {
-        Remark::Recording(recorded, rises, Hints::new(alloc))
-    }
-
-    /// The text of a plan or of a brief that is refused, where one is.
-    pub fn text(text: Option<RefusedSource>) -> Remark {
-        match text {
-            Some(text) => Remark::Text(text),
-            None => Remark::Nothing,
-        }
-    }
-
-    /// What is wrong with a dump, where that is known.
-    pub fn refused(wrong: Option<Wrong>) -> Remark {
-        match wrong {
-            Some(wrong) => Remark::Refused(wrong),
-            None => Remark::Nothing,
-        }
-    }
-
-    /// What is wrong with the dump.
-    pub fn wrong(&self) -> Option<&Wrong> {
-        match self {
-            Remark::Refused(wrong) => Some(wrong),
-            _ => None,
-        }
-    }
-
-    /// What is known of a refusal, beside what was read last: these files were to give a plan.
-    pub fn detail<'a>(
-        &'a self,
-        alloc: Global,
-        error: RunError,
-        named: NamedSources<'a>,
-    ) -> Detail<'a> {
-        match self {
-            Remark::Text(text) => Detail::Text(text.detail(alloc, error, named)),
-            Remark::Refused(wrong) => Detail::Dump(wrong),
-            Remark::Starters(Some(label), _) => Detail::Label(label.as_str()),
-            _ => Detail::Nothing,
-        }
-    }
-}
-
-/// Why a run ends without its report, or without its waves.
-#[derive(Drop)]
-pub enum Halt {
-    Run(RunError),
-    /// The same of a run over a dump, with what is wrong where that is refused.
-    Dump(RunError, Option<Wrong>),
-    /// The same of a run over what gives a plan. The text is there where one was refused.
-    Text(RunError, Option<RefusedSource>),
-    /// Starters are refused: the label of the first one that the plan does not have, where that is why, and what is to
-    /// be said to people.
-    Starters(RunError, Option<String>, Hints),
-    /// The same with what is to be said to people of the plan.
-    Said(RunError, Hints),
-    /// A time was given with a unit, and the dump does not say what its numbers count.
-    NoTimescale,
-    /// The line of this controller is none that can be followed, and this is to be said to people.
-    NoDrive(String, Hints),
-    /// The report was written, and the file for waves was not, for this reason of the system.
-    Undrawn(RunError, Option<io::Error>),
-}
-
-impl Halt {
-    /// A run goes no further, where this may stand in the place of the text that is refused.
-    pub fn of(halted: Halted, takes: Takes) -> Halt {
-        let Halted { error, text } = halted;
-        let source = match text {
-            Some(refused) => Some(RefusedSource { refused, takes }),
-            None => None,
-        };
-        Halt::Text(error, source)
-    }
-}
-
-impl From<RunError> for Halt {
-    fn from(error: RunError) -> Halt {
-        Halt::Run(error)
-    }
-}
-
-impl From<AllocError> for Halt {
-    fn from(_error: AllocError) -> Halt {
-        Halt::Run(RunError::NoMemory)
-    }
 }

@@ -1,8 +1,7 @@
 // What people get beside the exact report.
 
-use crate::styles::{Format, Style};
-use crate::voices::Voice;
 use bus_rows::Paint;
+use command_words::Format;
 use files::Watcher;
 
 /// What people get beside the exact report: hints, colours in the report and in hints, and how far a long run is. How reports,
@@ -14,6 +13,13 @@ pub struct Extras {
     pub colors_err: bool,
     pub format: Format,
     pub watcher: Watcher,
+}
+
+/// How what a run finds is written: as lines, perhaps with words of them in colours, or as objects, for programs.
+#[derive(Clone, Copy)]
+pub enum Style {
+    Lines(Paint),
+    Objects,
 }
 
 impl Extras {
@@ -32,17 +38,7 @@ impl Extras {
     }
 
     /// Whether somebody is told why a run was refused: people by hints, and whoever takes no lines by its words.
-    pub fn says_why(self) -> bool {
+    pub(crate) fn says_why(self) -> bool {
         self.hints || self.format != Format::Lines
-    }
-
-    /// How refusals and hints are written.
-    pub fn voice(self) -> Voice {
-        match self.format {
-            Format::Objects => Voice::Objects,
-            Format::Messages => Voice::Messages,
-            Format::Lines if self.colors_err => Voice::Colored,
-            Format::Lines => Voice::Plain,
-        }
     }
 }

@@ -1,14 +1,15 @@
 // What is read: files that the command line names, or standard input.
 
-use crate::advice::{advise_on_closed_input, advise_on_opening, reading_reason};
+use crate::advice::reading_reason;
+use crate::errands::Errand;
 use crate::extras::Extras;
 use crate::sources::Sources;
-use crate::voices::refused;
-use files::{FileId, Reread, Source, is_standard_input, missing, open_file, reread};
-use hints::Named;
+use crate::voices::{refused, say};
+use files::{FileId, Reread, Source, closed, is_standard_input, missing, open_file};
+use hints::{Named, on_closed_input, on_opening};
 use plan_words::BriefFiles;
 use refusal_objects::Detail;
-use run_parts::{Input as _, RunError};
+use run_parts::RunError;
 use std::io;
 use std::rt::Files;
 use std::time::Clock;
@@ -67,65 +68,46 @@ impl<'a> NamedSources<'a> {
     }
 }
 
-/// Opens files for reading, in this order, and says which they are. A path as `/dev/fd/3`, or standard input that is closed, may
-/// come to name the first file once that is open, so what later paths name is looked for before.
-pub fn open_sources<'a, 'n, R: Files + Input + Eprint + Clock + AllocGlobal>(
+/// The files of a run, open: those that give its plan, or its only one, and its second one.
+pub type OpenFiles<'a, 'n, R, F, S> = (
+    Sources<'n, Source<'a, R, F, S>>,
+    Option<Source<'a, R, F, S>>,
+);
+
+/// Opens the files of a run for reading, in order, and says which they are. A path as `/dev/fd/3`, or standard input that is
+/// closed, may come to name the first file once that is open, so what later paths name is looked for before.
+pub fn open_files<'a, 'n, R: Files + Input + Eprint + Clock + AllocGlobal>(
     rt: &'a R,
-    named: NamedSources<'n>,
+    errand: Errand<'n>,
     ids: &mut Vec<FileId>,
-    extras: Extras,
-) -> Option<Sources<'n, Source<'a, R, R::File, R::Reader>>> {
-    if !are_there(rt, named, extras) {
+) -> Option<OpenFiles<'a, 'n, R, R::File, R::Reader>> {
+    let (named, second, extras) = (errand.named(), errand.second(), errand.extras);
+    if !are_there(rt, named, second, extras) {
         return None;
     }
-    open_all(rt, named, ids, extras)
-}
-
-fn open_all<'a, 'n, R: Files + Input + Eprint + Clock + AllocGlobal>(
-    rt: &'a R,
-    named: NamedSources<'n>,
-    ids: &mut Vec<FileId>,
-    extras: Extras,
-) -> Option<Sources<'n, Source<'a, R, R::File, R::Reader>>> {
     let mut readers = Vec::new(rt.alloc());
     for number in 0..named.count() {
         let file = open(rt, named.at(number), ids, extras)?;
         if readers.push(file).is_err() {
-            refused(rt, RunError::NoMemory, Detail::Nothing, "", extras.voice());
+            refused(rt, RunError::NoMemory, Detail::Nothing, "", extras.format);
             return None;
         }
     }
-    Some(Sources {
+    let sources = Sources {
         readers,
         files: named.files(),
-    })
-}
-
-/// The same, and a second text after them.
-pub fn open_both<'a, 'n, R: Files + Input + Eprint + Clock + AllocGlobal>(
-    rt: &'a R,
-    named: NamedSources<'n>,
-    second: Named<'_>,
-    ids: &mut Vec<FileId>,
-    extras: Extras,
-) -> Option<
-    (
-        Sources<'n, Source<'a, R, R::File, R::Reader>>,
-        Source<'a, R, R::File, R::Reader>,
-    ),
-> {
-    if !are_there(rt, named, extras) || !is_there(rt, second, extras) {
-        return None;
+    };
+    match second {
+        Some(file) => Some((sources, Some(open(rt, file, ids, extras)?))),
+        None => Some((sources, None)),
     }
-    let sources = open_all(rt, named, ids, extras)?;
-    let second = open(rt, second, ids, extras)?;
-    Some((sources, second))
 }
 
 // Whether the paths after the first one name something.
 fn are_there<R: Files + Eprint + AllocGlobal>(
     rt: &R,
     named: NamedSources<'_>,
+    second: Option<Named<'_>>,
     extras: Extras,
 ) -> bool {
     for path in named.further {
@@ -133,7 +115,10 @@ fn are_there<R: Files + Eprint + AllocGlobal>(
             return false;
         }
     }
-    true
+    match second {
+        Some(file) => is_there(rt, file, extras),
+        None => true,
+    }
 }
 
 // Whether this path names something. Where it does not, that is told.
@@ -163,101 +148,65 @@ fn open<'a, R: Files + Input + Eprint + Clock + AllocGlobal>(
     }
 }
 
-// The line of the refusal of a file that cannot be opened.
+// The line of the refusal of a file that cannot be opened, and hints.
 fn unopened<R: Eprint + AllocGlobal>(rt: &R, file: Named<'_>, error: &io::Error, extras: Extras) {
-    let voice = extras.voice();
+    let (alloc, format) = (rt.alloc(), extras.format);
     if error.kind() == io::ErrorKind::OutOfMemory {
-        refused(rt, RunError::NoMemory, Detail::Nothing, "", voice);
-        return;
+        return refused(rt, RunError::NoMemory, Detail::Nothing, "", format);
     }
     let detail = Detail::File(file.path);
-    if is_standard_input(file.path) {
-        refused(rt, RunError::Read, detail, "it is closed", voice);
-        if extras.hints {
-            advise_on_closed_input(rt, file, voice);
-        }
-        return;
-    }
-    let reason = reading_reason(rt.alloc(), Some(error));
-    refused(rt, RunError::Read, detail, reason.as_str(), voice);
+    let hints = if is_standard_input(file.path) {
+        refused(rt, RunError::Read, detail, "it is closed", format);
+        on_closed_input(alloc, file)
+    } else {
+        let reason = reading_reason(alloc, Some(error));
+        refused(rt, RunError::Read, detail, reason.as_str(), format);
+        on_opening(alloc, file, error)
+    };
     if extras.hints {
-        advise_on_opening(rt, file, error, voice);
+        say(rt, hints, extras);
     }
 }
 
-/// What a run has read: the file that it read last, and the words of the system where that failed. A file can be read once
-/// more, and so can standard input where little was read of it.
+/// What a run has read: the file that it read last, with the error of the system where that failed, and what can be read once more
+/// of the last file: it can, and so can standard input where little was read of it.
 #[derive(Drop)]
 pub struct Inputs<'a, F> {
-    pub last: Named<'a>,
-    pub error: Option<io::Error>,
-    /// The path of the second text, or of the only one.
-    pub path: &'a str,
-    /// This text, where it can be read once more.
-    pub other: Option<F>,
+    pub(crate) last: Named<'a>,
+    pub(crate) error: Option<io::Error>,
+    pub(crate) again: Option<F>,
 }
 
-/// What a run over these texts has read.
-pub fn one_read<'a, R: Files + Clock + Eprint, S: io::Read + Drop>(
-    named: NamedSources<'a>,
-    sources: Sources<'_, Source<'_, R, R::File, S>>,
-) -> Inputs<'a, Reread<R::File>> {
-    let Sources { mut readers, .. } = sources;
-    let (last, error) = last_read(named, readers.as_mut_slice());
-    readers.truncate(1);
-    Inputs {
-        last,
-        error,
-        path: named.first.path,
-        other: match readers.pop() {
-            Some(first) => reread(first),
-            None => None,
-        },
-    }
-}
-
-/// What a run over these texts and a second one has read.
-pub fn both_read<'a, R: Files + Clock + Eprint, S: io::Read + Drop>(
-    named: NamedSources<'a>,
-    sources: Sources<'_, Source<'_, R, R::File, S>>,
-    second: Named<'a>,
-    mut source: Source<'_, R, R::File, S>,
-) -> Inputs<'a, Reread<R::File>> {
-    let Sources { mut readers, .. } = sources;
-    let (last, error) = last_read(named, readers.as_mut_slice());
-    let (last, error) = if source.failed() {
-        (second, reading_error(&mut source))
-    } else {
-        (last, error)
-    };
-    Inputs {
-        last,
-        error,
-        path: second.path,
-        other: reread(source),
-    }
-}
-
-// Which of these texts was read last, as far as a run came, and why no further.
-fn last_read<'a, R: Clock + Eprint, F: io::Read, S: io::Read>(
-    named: NamedSources<'a>,
-    readers: &mut [Source<'_, R, F, S>],
-) -> (Named<'a>, Option<io::Error>) {
-    let (mut last, mut error) = (named.first, None);
-    for (number, text) in readers.iter_mut().enumerate() {
-        if text.failed() {
-            (last, error) = (named.at(number), reading_error(text));
+impl<'a, F: Drop> Inputs<'a, Reread<F>> {
+    /// What a run over these files has read.
+    pub fn of<R, S: Drop>(
+        errand: Errand<'a>,
+        files: OpenFiles<'_, '_, R, F, S>,
+    ) -> Inputs<'a, Reread<F>> {
+        let named = errand.named();
+        let (Sources { readers, .. }, second) = files;
+        let mut inputs = Inputs {
+            last: named.first,
+            error: None,
+            again: None,
+        };
+        let mut number = 0usize;
+        for reader in readers {
+            inputs.add(named.at(number), reader);
+            number = number.saturating_add(1);
         }
+        if let (Some(file), Some(reader)) = (errand.second(), second) {
+            inputs.add(file, reader);
+        }
+        inputs
     }
-    (last, error)
-}
 
-// The words of the system for why this cannot be read, if it failed and fails again.
-fn reading_error<R: Clock + Eprint, F: io::Read, S: io::Read>(
-    source: &mut Source<'_, R, F, S>,
-) -> Option<io::Error> {
-    if !source.failed() {
-        return None;
+    fn add<R, S: Drop>(&mut self, file: Named<'a>, source: Source<'_, R, F, S>) {
+        let (error, again) = closed(source);
+        if error.is_some() {
+            self.last = file;
+            self.error = error;
+        }
+        self.again = again;
     }
-    source.read(&mut [0u8]).err()
 }

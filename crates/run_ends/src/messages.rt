@@ -1,44 +1,22 @@
 // Refusals as compilers write them.
 
-use crate::endings::{RefusedSource, Remark};
+use crate::endings::RefusedSource;
 use crate::inputs::NamedSources;
-use crate::voices::{Voice, push_words, refused};
+use crate::voices::push_words;
 use diagnostics::Messages;
 use growing_text::{Text, push_shown};
 use plan_text::PlanError;
 use plan_words::called;
-use refusal_objects::Detail;
 use run_parts::RunError;
 use std::alloc::{AllocError, Global};
 use vcd_read::{VcdError, Wrong};
 
-/// Writes the message of a refusal at its place: in one of the texts that were to give a plan, in the dump of this path, or in no
-/// text. Its status.
-pub(crate) fn refused_at<R: Eprint + AllocGlobal>(
-    rt: &R,
-    error: RunError,
-    remark: &Remark,
-    named: NamedSources<'_>,
-    dump: &str,
-    detail: Detail<'_>,
-    reason: &str,
-) {
-    let alloc = rt.alloc();
-    let message = match (error, remark) {
-        (RunError::Plan(error), Remark::Text(source)) => text_message(alloc, error, source, named),
-        (RunError::Vcd(error), _) => dump_message(alloc, error, remark.wrong(), dump, reason),
-        _ => return refused(rt, error, detail, reason, Voice::Messages),
-    };
-    match message {
-        Ok(message) => {
-            let message = message.as_str();
-            let _ = eprint!(rt; "{message}");
-        }
-        Err(_) => refused(rt, RunError::NoMemory, Detail::Nothing, "", Voice::Messages),
-    }
-}
-
-fn text_message(
+/// The message of a refusal at its place in one of the texts that were to give a plan.
+///
+/// # Errors
+///
+/// Where an allocation fails.
+pub(crate) fn text_message(
     alloc: Global,
     error: PlanError,
     source: &RefusedSource,
@@ -55,8 +33,12 @@ fn text_message(
     text.finish()
 }
 
-// A dump has its own lines and columns.
-fn dump_message(
+/// The same in the dump of this path, which has its own lines and columns.
+///
+/// # Errors
+///
+/// Where an allocation fails.
+pub(crate) fn dump_message(
     alloc: Global,
     error: VcdError,
     wrong: Option<&Wrong>,

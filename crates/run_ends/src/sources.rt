@@ -91,13 +91,18 @@ impl<'a, I: Input> Sources<'a, I> {
     where
         'a: 'p,
     {
-        PlanWords::new(
-            plan,
-            provenance.origins.as_ref(),
-            self.files,
-            provenance.spans.head(0) == Some(FIRST_VERSION),
-        )
+        words_of(self.files, plan, provenance)
     }
+}
+
+/// The plan that these files give, in the words of people.
+pub(crate) fn words_of<'p>(
+    files: BriefFiles<'p>,
+    plan: &'p Plan,
+    provenance: &'p Provenance,
+) -> PlanWords<'p> {
+    let is_first_version = provenance.spans.head(0) == Some(FIRST_VERSION);
+    PlanWords::new(plan, provenance.origins.as_ref(), files, is_first_version)
 }
 
 // What a plan of the first version begins with, in which no `never` stands.

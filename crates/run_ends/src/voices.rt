@@ -1,53 +1,31 @@
 // What goes to standard error: refusals, and hints for people.
 
+use crate::extras::Extras;
+use command_words::Format;
 use growing_text::{Text, push_shown, shown, visible};
 use hints::Hints;
 use plan_words::called;
-use refusal_objects::{
-    Detail, TextDetail, code_of, drive_object, hint_objects, refusal_object, timescale_object,
-};
+use refusal_objects::{Detail, TextDetail, code_of, hint_objects, refusal_object, word_object};
 use run_parts::RunError;
 use std::alloc::{AllocError, Global};
 
-/// How refusals and hints are written.
-#[derive(Clone, Copy)]
-pub enum Voice {
-    Plain,
-    /// The marks of hints are in colours.
-    Colored,
-    /// One object a line, for programs.
-    Objects,
-    /// Refusals as messages of a compiler.
-    Messages,
-}
-
-impl Voice {
-    /// The same without colours.
-    pub fn uncolored(self) -> Voice {
-        match self {
-            Voice::Objects | Voice::Messages => self,
-            Voice::Plain | Voice::Colored => Voice::Plain,
-        }
-    }
-}
-
-/// Writes the line of a refusal, and answers its status. An object also has the other things that are known of it, and its reason in
+/// Writes the line of a refusal. An object also has the other things that are known of it, and its reason in
 /// words, and a message has the words. Without memory for them there are none.
 pub fn refused<R: Eprint + AllocGlobal>(
     rt: &R,
     error: RunError,
     detail: Detail<'_>,
     reason: &str,
-    voice: Voice,
+    format: Format,
 ) {
-    match (voice, detail) {
-        (Voice::Objects, _) => {
+    match (format, detail) {
+        (Format::Objects, _) => {
             say_refusal(rt, refusal_object(rt.alloc(), error, detail, reason));
         }
-        (Voice::Messages, Detail::File(file)) => {
+        (Format::Messages, Detail::File(file)) => {
             say_message(rt, message(rt.alloc(), called(file), error, reason));
         }
-        (Voice::Messages, _) => say_message(rt, message(rt.alloc(), "", error, reason)),
+        (Format::Messages, _) => say_message(rt, message(rt.alloc(), "", error, reason)),
         (
             _,
             Detail::Text(
@@ -109,7 +87,8 @@ fn is_capital(c: char) -> bool {
     c.is_ascii_uppercase()
 }
 
-fn say_message<R: Eprint>(rt: &R, message: Result<String, AllocError>) {
+/// Writes the message of a refusal.
+pub(crate) fn say_message<R: Eprint>(rt: &R, message: Result<String, AllocError>) {
     let _ = match message {
         Ok(message) => eprint!(rt; "{message}"),
         Err(_) => eprintln!(rt; "twire: error: refused memory"),
@@ -124,56 +103,45 @@ fn say_refusal<R: Eprint>(rt: &R, object: Result<String, AllocError>) {
     };
 }
 
-/// Writes the line of the refusal of a time with a unit, of which a dump does not say what it counts.
-pub(crate) fn refused_timescale<R: Eprint + AllocGlobal>(rt: &R, reason: &str, voice: Voice) {
-    match voice {
-        Voice::Objects => say_refusal(rt, timescale_object(rt.alloc(), reason)),
-        Voice::Messages => {
-            let _ = eprintln!(rt; "twire: error: {reason}");
-        }
-        _ => {
-            let _ = eprintln!(rt; "refused timescale");
-        }
-    }
-}
-
-/// Writes the line of the refusal of a line that was to be what this controller pulls.
-pub(crate) fn refused_drive<R: Eprint + AllocGlobal>(
+/// Writes the line of a refusal that is none of the libraries: this word, and the controller of which it speaks.
+pub(crate) fn refused_by_word<R: Eprint + AllocGlobal>(
     rt: &R,
-    controller: &str,
+    word: &'static str,
+    controller: Option<&str>,
     reason: &str,
-    voice: Voice,
+    format: Format,
 ) {
-    match voice {
-        Voice::Objects => say_refusal(rt, drive_object(rt.alloc(), controller, reason)),
-        Voice::Messages => {
+    match format {
+        Format::Objects => say_refusal(rt, word_object(rt.alloc(), word, controller, reason)),
+        Format::Messages => {
             let _ = eprintln!(rt; "twire: error: {reason}");
         }
-        _ => {
-            let _ = match visible(rt.alloc(), controller) {
-                Ok(controller) => {
-                    let controller = controller.as_str();
-                    eprintln!(rt; "refused drives {controller}")
-                }
-                Err(_) => eprintln!(rt; "refused drives"),
+        Format::Lines => {
+            let _ = match visible(rt.alloc(), controller.unwrap_or("")) {
+                Ok(name) if controller.is_some() => eprintln!(rt; "refused {word} {name}"),
+                _ => eprintln!(rt; "refused {word}"),
             };
         }
     }
 }
 
 /// Writes hints. Where there is no memory for them, or standard error takes nothing, there are none.
-pub fn say<R: Eprint + AllocGlobal>(rt: &R, hints: Result<Hints, AllocError>, voice: Voice) {
+pub(crate) fn say<R: Eprint + AllocGlobal>(
+    rt: &R,
+    hints: Result<Hints, AllocError>,
+    extras: Extras,
+) {
     if let Ok(hints) = hints {
-        say_these(rt, &hints, voice);
+        say_these(rt, &hints, extras);
     }
 }
 
 /// The same of hints that there was memory for.
-pub(crate) fn say_these<R: Eprint + AllocGlobal>(rt: &R, hints: &Hints, voice: Voice) {
-    let text = match voice {
-        Voice::Plain | Voice::Messages => hints.text(rt.alloc(), false),
-        Voice::Colored => hints.text(rt.alloc(), true),
-        Voice::Objects => hint_objects(rt.alloc(), hints),
+pub(crate) fn say_these<R: Eprint + AllocGlobal>(rt: &R, hints: &Hints, extras: Extras) {
+    let text = match extras.format {
+        Format::Lines => hints.text(rt.alloc(), extras.colors_err),
+        Format::Messages => hints.text(rt.alloc(), false),
+        Format::Objects => hint_objects(rt.alloc(), hints),
     };
     if let Ok(text) = text {
         let _ = eprint!(rt; "{text}");

@@ -2,11 +2,10 @@
 
 use crate::blocks::{Blocks, read_blocks};
 use crate::definitions::{Definitions, Header, Listing};
-use dump_tokens::reading::Reading;
-use dump_tokens::tokens::Cutter;
 use run_parts::{Input, RunError};
 use std::alloc::Global;
 use std::io::{self, Read};
+use vcd_read::{Probe, Reader, VcdError};
 
 /// What was read of a dump, and the reader of the rest: it is read again from its beginning on.
 #[derive(Drop)]
@@ -60,40 +59,50 @@ pub fn read_beginning<'a, J: Input, L: Listing + Drop>(
     vcd: &'a mut J,
     listing: L,
 ) -> Result<(Again<'a, J>, L, Header), RunError> {
+    // no signal has an empty code, so this reader refuses each dump at the end of its definitions
+    let none = Probe::Coded("");
     let mut beginning = Beginning {
         text: Vec::new(alloc),
-        cutter: Cutter::new(alloc, Definitions::new(alloc, listing)),
+        reader: Reader::of(alloc, none, none)?,
+        definitions: Definitions::new(alloc, listing),
     };
     let is_whole = read_blocks(alloc, vcd, &mut beginning)?;
-    let Beginning { text, cutter } = beginning;
+    let Beginning {
+        text,
+        reader,
+        mut definitions,
+    } = beginning;
+    if is_whole && let Err(refused) = reader.finish(&mut definitions) {
+        definitions.end_with(refused.error);
+    }
     let again = Again {
         text,
         at: 0,
         is_whole,
         rest: vcd,
     };
-    match cutter.finish() {
-        Ok((definitions, _)) => {
-            let (listing, header) = definitions.finish();
-            Ok((again, listing, header))
-        }
-        Err(_) => Err(RunError::NoMemory),
-    }
+    let (listing, header) = definitions.finish()?;
+    Ok((again, listing, header))
 }
 
 // What was read so far, and its definitions.
 #[derive(Drop)]
 struct Beginning<L> {
     text: Vec<u8>,
-    cutter: Cutter<Definitions<L>>,
+    reader: Reader,
+    definitions: Definitions<L>,
 }
 
 impl<L: Listing> Blocks for Beginning<L> {
     fn block(&mut self, block: &[u8]) -> Result<bool, RunError> {
         self.text.extend_from_slice(block)?;
-        match self.cutter.block(block) {
-            Ok(more) => Ok(more),
-            Err(_) => Err(RunError::NoMemory),
+        match self.reader.feed_with(block, &mut self.definitions) {
+            Ok(()) => Ok(true),
+            Err(VcdError::NoMemory) => Err(RunError::NoMemory),
+            Err(refusal) => {
+                self.definitions.end_with(refusal);
+                Ok(false)
+            }
         }
     }
 }

@@ -1,10 +1,13 @@
 // The signals that the definitions of a dump declare, in their scopes (IEEE 1364-2005, 18.2.3).
 
 use crate::fits::Range;
-use dump_tokens::tokens::{KEPT, Place, Sink};
 use dump_tokens::{Part, Parts, Scale};
 use std::alloc::{AllocError, Global};
 use std::str;
+use vcd_read::{Tokens, VcdError};
+
+// A code or a name of so many bytes is not kept whole: no name of use has as many.
+const KEPT: usize = 256;
 
 /// A signal that the definitions declare.
 #[derive(Clone, Copy)]
@@ -139,8 +142,8 @@ impl Header {
     }
 }
 
-/// The definitions so far. It answers that no more tokens are wanted where they end, or where something stands that cannot
-/// stand there.
+/// The definitions so far: the tokens of a dump, up to where they end, or where something stands that cannot stand there. Where
+/// an allocation fails, no more of them are taken, and the end says so.
 #[derive(Drop)]
 pub(crate) struct Definitions<L> {
     listing: L,
@@ -158,6 +161,7 @@ pub(crate) struct Definitions<L> {
     timescale: Vec<u8>,
     is_whole: bool,
     is_wrong: bool,
+    has_failed: bool,
 }
 
 impl<L: Listing> Definitions<L> {
@@ -177,20 +181,54 @@ impl<L: Listing> Definitions<L> {
             timescale: Vec::new(alloc),
             is_whole: false,
             is_wrong: false,
+            has_failed: false,
+        }
+    }
+
+    /// They end where the next token is refused so.
+    pub(crate) fn end_with(&mut self, refusal: VcdError) {
+        match refusal {
+            VcdError::NoSignal(_) => self.is_whole = self.parts.ends_definitions(),
+            VcdError::BadToken(_) => self.is_wrong = true,
+            _ => {}
         }
     }
 
     /// Who was told of the signals, and what was said beside them.
-    pub(crate) fn finish(self) -> (L, Header)
+    pub(crate) fn finish(self) -> Result<(L, Header), AllocError>
     where
         L: Drop,
     {
+        if self.has_failed {
+            return Err(AllocError);
+        }
         let header = Header {
             scale: scale_of(self.timescale.as_slice()),
             is_whole: self.is_whole,
             is_wrong: self.is_wrong,
         };
-        (self.listing, header)
+        Ok((self.listing, header))
+    }
+
+    // The next token.
+    fn take(&mut self, token: &[u8]) -> Result<(), AllocError> {
+        match self.parts.next(token) {
+            Some(Part::Scope(name)) => self.enter(name)?,
+            Some(Part::Upscope) => {
+                if let Some(length) = self.lengths.pop() {
+                    self.path.truncate(length);
+                }
+            }
+            Some(Part::Var(seen, token)) => self.read(seen, token)?,
+            Some(Part::VarEnd) => self.tell()?,
+            Some(Part::Timescale(token)) if self.timescale.len() < KEPT => {
+                self.timescale.extend_from_slice(token)?;
+            }
+            Some(Part::Defined) => self.is_whole = true,
+            Some(Part::Wrong) => self.is_wrong = true,
+            _ => {}
+        }
+        Ok(())
     }
 
     fn enter(&mut self, name: &[u8]) -> Result<(), AllocError> {
@@ -257,24 +295,11 @@ fn scale_of(timescale: &[u8]) -> Option<Scale> {
     Scale::read(str::from_utf8(timescale).ok()?)
 }
 
-impl<L: Listing> Sink for Definitions<L> {
-    fn token(&mut self, token: &[u8], _place: Place) -> Result<bool, AllocError> {
-        match self.parts.next(token) {
-            Some(Part::Scope(name)) => self.enter(name)?,
-            Some(Part::Upscope) => {
-                if let Some(length) = self.lengths.pop() {
-                    self.path.truncate(length);
-                }
-            }
-            Some(Part::Var(seen, token)) => self.read(seen, token)?,
-            Some(Part::VarEnd) => self.tell()?,
-            Some(Part::Timescale(token)) if self.timescale.len() < KEPT => {
-                self.timescale.extend_from_slice(token)?;
-            }
-            Some(Part::Defined) => self.is_whole = true,
-            Some(Part::Wrong) => self.is_wrong = true,
-            _ => {}
+impl<L: Listing> Tokens for Definitions<L> {
+    fn token(&mut self, token: &[u8]) {
+        if self.is_whole || self.is_wrong || self.has_failed {
+            return;
         }
-        Ok(!self.is_whole && !self.is_wrong)
+        self.has_failed = self.take(token).is_err();
     }
 }

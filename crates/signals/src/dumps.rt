@@ -1,12 +1,12 @@
 // A dump with the two lines of a bus.
 
 use crate::beginning::Again;
-use crate::picking::{Line, Picked, Sought, needs_picking, pick, pick_with};
-use crate::taps::{Tap, Tapped};
-use decoding::{Ending, TransactionSink, decode};
+use crate::picking::{Line, Picked, Sought, needs_picking, pick, pick_with, probe_of};
+use capture_check::Beside;
+use decoding::{Ending, TransactionSink, decode, decode_beside};
 use dump_tokens::{Bus, BusLines, Quiet, Scale};
 use run_parts::{Input, RunError, Watched};
-use std::alloc::Global;
+use std::alloc::{AllocError, Global};
 use vcd_read::{Probe, Wrong};
 
 /// Whether the definitions of a dump have to be known before it is read for this bus.
@@ -34,6 +34,8 @@ pub struct OpenDump<'d, 'a, J> {
     pub vcd: &'d mut Watched<Again<'a, J>>,
     pub scl: Probe<'d>,
     pub sda: Probe<'d>,
+    /// The further lines that were asked for.
+    pub others: &'d [Option<Line>],
     /// How long a level has to last, in steps of the dump.
     pub least: u64,
     /// What is wrong with the dump, where it is refused.
@@ -108,10 +110,7 @@ impl<'a, 'l, J: Input> Dump<'a, 'l, J> {
 
     /// The further lines that were asked for, in that order, where they were found.
     pub fn others(&self) -> &[Option<Line>] {
-        match &self.picked {
-            Some(picked) => picked.others(),
-            None => &[],
-        }
+        others_of(&self.picked)
     }
 
     /// What the numbers of the dump count, where that was read and stands there.
@@ -165,6 +164,7 @@ impl<'a, 'l, J: Input> Dump<'a, 'l, J> {
             picked,
             wrong,
         } = self;
+        let picked: &Option<Picked> = picked;
         let (scl, sda) = match picked {
             Some(picked) => (picked.scl(), picked.sda()),
             None => (lines.scl, lines.sda),
@@ -173,6 +173,7 @@ impl<'a, 'l, J: Input> Dump<'a, 'l, J> {
             vcd: again,
             scl,
             sda,
+            others: others_of(picked),
             least,
             wrong,
         }
@@ -194,22 +195,23 @@ impl<'a, 'l, J: Input> Dump<'a, 'l, J> {
             vcd,
             scl,
             sda,
+            others: _,
             least,
             wrong,
         } = self.parts();
         decode(alloc, vcd, scl, sda, least, sink, wrong)
     }
 
-    /// The same, where a tap is given each block of the dump before the transactions that end in it are handed on.
+    /// The same, beside another who is told of what is read, also of the further lines.
     ///
     /// # Errors
     ///
-    /// That of the tap where it fails, and else those of `decode`, in the same order.
-    pub fn decode_with<S: TransactionSink, T: Tap>(
+    /// Those of `decode`, and `NoMemory` where the other one answers that.
+    pub fn decode_beside<S: TransactionSink, B: Beside>(
         &mut self,
         alloc: Global,
         sink: &mut S,
-        tap: &mut T,
+        beside: &mut B,
     ) -> Result<Ending, RunError>
         requires { S.needs }
     {
@@ -217,14 +219,29 @@ impl<'a, 'l, J: Input> Dump<'a, 'l, J> {
             vcd,
             scl,
             sda,
+            others,
             least,
             wrong,
         } = self.parts();
-        let mut tapped = Watched::new(Tapped::new(vcd, tap));
-        let ended = decode(alloc, &mut tapped, scl, sda, least, sink, wrong);
-        match tapped.into_inner().failure() {
-            Some(error) => Err(error),
-            None => ended,
-        }
+        let further = probes_of(alloc, others)?;
+        let further = further.as_slice();
+        decode_beside(alloc, vcd, scl, sda, further, least, sink, beside, wrong)
     }
+}
+
+// The further lines that were asked for, in that order, where they were found.
+fn others_of(picked: &Option<Picked>) -> &[Option<Line>] {
+    match picked {
+        Some(picked) => picked.others(),
+        None => &[],
+    }
+}
+
+// How these lines are found; one that was not found, by a code that no signal has.
+fn probes_of(alloc: Global, lines: &[Option<Line>]) -> Result<Vec<Probe<'_>>, AllocError> {
+    let mut probes = Vec::new(alloc);
+    for line in lines {
+        probes.push(probe_of(line))?;
+    }
+    Ok(probes)
 }

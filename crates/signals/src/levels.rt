@@ -3,10 +3,9 @@
 use crate::candidates::Candidates;
 use crate::codes::Codes;
 use crate::lasting::Lasting;
-use dump_tokens::tokens::{Place, Sink};
 use dump_tokens::{Limits, Part, Parts, Scale};
 use std::alloc::{AllocError, Global};
-use vcd_read::Level;
+use vcd_read::{Level, Tokens};
 
 /// Follows the changes of a dump.
 pub(crate) struct Levels {
@@ -17,6 +16,8 @@ pub(crate) struct Levels {
     given: Vec<Option<Level>>,
     touched: Vec<u32>,
     lasting: Lasting,
+    // whether an allocation has failed: then no more is taken
+    has_failed: bool,
 }
 
 // Written out, so that one call lets it go.
@@ -29,6 +30,7 @@ impl Drop for Levels {
             given: _,
             touched: _,
             lasting: _,
+            has_failed: _,
         } = self;
     }
 }
@@ -51,11 +53,26 @@ impl Levels {
             given: vec![in alloc; None; count]?,
             touched: Vec::new(alloc),
             lasting,
+            has_failed: false,
         })
+    }
+
+    /// Whether no allocation has failed.
+    ///
+    /// # Errors
+    ///
+    /// Where one has.
+    pub(crate) fn check(&self) -> Result<(), AllocError> {
+        if self.has_failed {
+            Err(AllocError)
+        } else {
+            Ok(())
+        }
     }
 
     /// What the signals have shown at the end of the dump.
     pub(crate) fn finish(mut self) -> Result<Lasting, AllocError> {
+        self.check()?;
         self.settle()?;
         let Self {
             parts: _,
@@ -64,9 +81,24 @@ impl Levels {
             given: _,
             touched: _,
             mut lasting,
+            has_failed: _,
         } = self;
         lasting.finish()?;
         Ok(lasting)
+    }
+
+    // The next token.
+    fn take(&mut self, token: &[u8]) -> Result<(), AllocError> {
+        match self.parts.next(token) {
+            // one that comes again goes on with its time stamp
+            Some(Part::Time(time)) if time != self.time => {
+                self.settle()?;
+                self.time = time;
+            }
+            Some(Part::Change(level, code)) => self.change(level, code)?,
+            _ => {}
+        }
+        Ok(())
     }
 
     fn change(&mut self, level: Level, code: &[u8]) -> Result<(), AllocError> {
@@ -97,17 +129,10 @@ impl Levels {
     }
 }
 
-impl Sink for Levels {
-    fn token(&mut self, token: &[u8], _place: Place) -> Result<bool, AllocError> {
-        match self.parts.next(token) {
-            // one that comes again goes on with its time stamp
-            Some(Part::Time(time)) if time != self.time => {
-                self.settle()?;
-                self.time = time;
-            }
-            Some(Part::Change(level, code)) => self.change(level, code)?,
-            _ => {}
+impl Tokens for Levels {
+    fn token(&mut self, token: &[u8]) {
+        if !self.has_failed {
+            self.has_failed = self.take(token).is_err();
         }
-        Ok(true)
     }
 }

@@ -2,8 +2,7 @@
 //!
 //! `blocks` reads a dump block by block. `definitions` finds the signals that its definitions declare, and `beginning` reads
 //! these ahead of the dump and gives them back before the rest. `picking` finds the two lines of a bus there, by names and a
-//! scope, with `fits`, which tells how a name fits a signal. `taps` gives what is read of a dump to somebody else as well, as to
-//! who keeps the two lines as they are `recorded`. `listing` has what `twire signals` finds: the signals (`codes` finds them
+//! scope, with `fits`, which tells how a name fits a signal. `recorded` keeps the two lines as they are. `listing` has what `twire signals` finds: the signals (`codes` finds them
 //! again by their codes), their levels by time stamps (`levels`), what these show that last (`lasting`, with `waiting` for those
 //! that have still to), and the pairs that are the two lines of a bus (`buses`, among `candidates`, with `masks` for sets of
 //! signals). What a dump says, and why it is refused, is decided by the reader of `vcd_read` alone.
@@ -23,7 +22,6 @@ mod listing;
 mod masks;
 mod picking;
 mod recorded;
-mod taps;
 mod waiting;
 
 pub use beginning::{Again, read_beginning};
@@ -34,4 +32,3 @@ pub use listing::{Listed, Pair, Signal, SignalDump, bus_options};
 pub use masks::MOST as CANDIDATES;
 pub use picking::{Line, Picked, Sought, needs_picking, pick, pick_with};
 pub use recorded::{RecordedLines, Recorder, Samples};
-pub use taps::{Tap, Tapped};

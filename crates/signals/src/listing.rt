@@ -8,8 +8,6 @@ use crate::codes::Codes;
 use crate::definitions::{Found, Header, Listing};
 use crate::lasting::Lasting;
 use crate::levels::Levels;
-use dump_tokens::reading::Reading;
-use dump_tokens::tokens::Cutter;
 use dump_tokens::{Limits, Scale, Time, Window};
 use growing_text::Text;
 use run_parts::{Input, RunError, Watched};
@@ -319,7 +317,7 @@ impl<'a, J: Input> SignalDump<'a, J> {
 #[derive(Drop)]
 struct Changes {
     reader: Reader,
-    cutter: Cutter<Levels>,
+    levels: Levels,
 }
 
 impl Changes {
@@ -335,33 +333,27 @@ impl Changes {
         let reader = Reader::of(alloc, probe, probe)?;
         let candidates = declared.candidates(alloc)?;
         let levels = Levels::new(alloc, codes, candidates, limits, scale)?;
-        Ok(Changes {
-            reader,
-            cutter: Cutter::new(alloc, levels),
-        })
+        Ok(Changes { reader, levels })
     }
 
     // What the signals of a dump have shown that its reader does not refuse.
     fn finish(self, wrong: &mut Option<Wrong>) -> Result<Lasting, RunError> {
-        let Changes { reader, cutter } = self;
-        if let Err(refused) = reader.close() {
+        let Changes { reader, mut levels } = self;
+        if let Err(refused) = reader.finish(&mut levels) {
             let error = refused.error;
             *wrong = refused.wrong();
             return Err(RunError::from(error));
         }
-        let (levels, _) = cutter.finish()?;
         Ok(levels.finish()?)
     }
 }
 
 impl Blocks for Changes {
     fn block(&mut self, block: &[u8]) -> Result<bool, RunError> {
-        self.reader.feed(block)?;
+        self.reader.feed_with(block, &mut self.levels)?;
         self.reader.clear_samples();
-        match self.cutter.block(block) {
-            Ok(_) => Ok(true),
-            Err(_) => Err(RunError::NoMemory),
-        }
+        self.levels.check()?;
+        Ok(true)
     }
 }
 

@@ -70,8 +70,8 @@ impl Line {
     }
 }
 
-// No signal has an empty code.
-fn probe_of(line: &Option<Line>) -> Probe<'_> {
+/// How a line is found. No signal has an empty code.
+pub(crate) fn probe_of(line: &Option<Line>) -> Probe<'_> {
     match line {
         Some(line) => line.probe(),
         None => Probe::Coded(""),

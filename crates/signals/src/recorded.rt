@@ -1,29 +1,23 @@
 // The two lines of a bus, kept as they are recorded.
 
 use crate::definitions::{Definitions, Found, Listing};
-use crate::taps::Tap;
+use capture_check::Beside;
 use dump_tokens::Scale;
-use dump_tokens::reading::Reading;
-use dump_tokens::tokens::Cutter;
 use pulses::Filter;
-use run_parts::RunError;
 use std::alloc::{AllocError, Global};
-use vcd_read::{Level, Probe, Reader, Sample, VcdError};
+use vcd_read::{Further, Level, Sample, Tokens};
 
-/// A tap that keeps the levels of the two lines, and what the numbers of the dump count. What is wrong with a dump is for its
+/// Keeps the levels of the two lines, and what the numbers of the dump count. What is wrong with a dump is for its
 /// decoder to say.
 pub struct Recorder {
-    reader: Reader,
     lines: RecordedLines,
-    // the definitions, until they end
-    definitions: Option<Cutter<Definitions<Nobody>>>,
+    definitions: Definitions<NoListing>,
 }
 
 // Written out, so that one call lets it go.
 impl Drop for Recorder {
     fn drop(self) {
         let Self {
-            reader: _,
             lines: _,
             definitions: _,
         } = self;
@@ -32,71 +26,48 @@ impl Drop for Recorder {
 
 // Nobody is told of the signals.
 #[derive(Drop)]
-struct Nobody;
+struct NoListing;
 
-impl Listing for Nobody {
+impl Listing for NoListing {
     fn signal(&mut self, _found: Found<'_>) -> Result<(), AllocError> {
         Ok(())
     }
 }
 
 impl Recorder {
-    /// Of the lines that are found so in the definitions of a dump.
-    ///
-    /// # Errors
-    ///
-    /// Where an allocation fails.
-    pub fn new(alloc: Global, scl: Probe<'_>, sda: Probe<'_>) -> Result<Recorder, AllocError> {
-        Ok(Recorder {
-            reader: Reader::of(alloc, scl, sda)?,
+    /// Nothing has been read.
+    pub fn new(alloc: Global) -> Recorder {
+        Recorder {
             lines: RecordedLines::new(alloc),
-            definitions: Some(Cutter::new(alloc, Definitions::new(alloc, Nobody))),
-        })
-    }
-
-    // Looks for what the numbers count.
-    fn define(&mut self, block: &[u8]) -> Result<(), AllocError> {
-        let Some(mut cutter) = self.definitions.take() else {
-            return Ok(());
-        };
-        if cutter.block(block).unwrap_or(false) {
-            self.definitions = Some(cutter);
-            return Ok(());
+            definitions: Definitions::new(alloc, NoListing),
         }
-        let (definitions, _) = cutter.finish()?;
-        let (_, header) = definitions.finish();
-        self.lines.scale = header.scale;
-        Ok(())
     }
 
     /// What was recorded, where the dump has ended.
     ///
     /// # Errors
     ///
-    /// Where an allocation fails.
+    /// Where an allocation has failed.
     pub fn finish(self) -> Result<RecordedLines, AllocError> {
         let Self {
-            reader,
             mut lines,
-            definitions: _,
+            definitions,
         } = self;
-        if let Ok(samples) = reader.end() {
-            lines.add(samples.as_slice())?;
-        }
+        let (_, header) = definitions.finish()?;
+        lines.scale = header.scale;
         Ok(lines)
     }
 }
 
-impl Tap for Recorder {
-    fn block(&mut self, block: &[u8]) -> Result<(), RunError> {
-        self.define(block)?;
-        let fed = self.reader.feed(block);
-        self.lines.add(self.reader.samples())?;
-        self.reader.clear_samples();
-        match fed {
-            Err(VcdError::NoMemory) => Err(RunError::NoMemory),
-            _ => Ok(()),
-        }
+impl Tokens for Recorder {
+    fn token(&mut self, token: &[u8]) {
+        self.definitions.token(token);
+    }
+}
+
+impl Beside for Recorder {
+    fn hear(&mut self, samples: &[Sample], _further: &[Further]) -> Result<(), AllocError> {
+        self.lines.add(samples)
     }
 }
 

@@ -30,7 +30,7 @@ pub struct CaptureLines<'a, 'w, O> {
     // where transactions are counted, and not told
     tallies: Option<Tallies>,
     // where lines of controllers are followed
-    judging: Option<Judging<'w, 'w>>,
+    judging: Option<Judging<'w>>,
     // whether the last transaction was told
     was_told: bool,
     has_stopped: bool,
@@ -88,7 +88,7 @@ impl<'a, 'w, O: Output> CaptureLines<'a, 'w, O> {
     }
 
     /// The same where lines of controllers are followed.
-    pub fn with_drives(mut self, judging: Option<Judging<'w, 'w>>) -> CaptureLines<'a, 'w, O> {
+    pub fn with_drives(mut self, judging: Option<Judging<'w>>) -> CaptureLines<'a, 'w, O> {
         self.judging = judging;
         self
     }
@@ -242,14 +242,11 @@ impl<O: Output> ExplainedSink for CaptureLines<'_, '_, O> {
 
     fn take(
         &mut self,
-        alloc: Global,
+        _alloc: Global,
         _plan: &Plan,
         transactions: &[Transaction],
         explainers: &[Vec<u32>],
     ) -> Result<(), RunError> {
-        if let Some(judging) = &mut self.judging {
-            judging.go_on(alloc);
-        }
         for (transaction, participants) in transactions.iter().zip(explainers) {
             self.transaction(transaction, participants.as_slice());
             if self.layout.stops && self.selection.seen.unexplained != 0 {

@@ -1,12 +1,11 @@
 // Lines for people below those of transactions.
 
 use bus_rows::{
-    ALIKE, BYTES, Bytes, Labels, begin, bus_row, row_of, row_of_marks, say_all, tell_item,
-    tell_rows,
+    ALIKE, BYTES, Bytes, Labels, bus_row, row_of, row_of_marks, say, tell_item, tell_rows,
 };
 use capture_check::{Mark, Transaction, Until};
 use dump_findings::{Cut, Cuts, Leaves, NEAREST, bytes_until, mark_words, nearest, offer_words};
-use growing_text::{Lines, Text};
+use growing_text::{Lines, Part};
 use plan_core::Plan;
 use plan_words::PlanWords;
 use std::alloc::{AllocError, Global};
@@ -40,7 +39,7 @@ pub(crate) fn below_transaction(
     }
     for near in near.iter() {
         if let Some(near) = near {
-            tell_leaves(alloc, &mut lines, labels, marks.get(near.slot), *near);
+            tell_leaves(&mut lines, labels, marks.get(near.slot), *near);
             tell_item(alloc, &mut lines, words, near.participant);
         }
     }
@@ -95,10 +94,8 @@ fn bus_until(
 /// What is said below a transaction after which so many bits came on the free bus, as if its STOP had been none.
 pub(crate) fn after_transaction(alloc: Global, idle: u64) -> Result<String, AllocError> {
     let mut lines = Lines::new(alloc);
-    begin(&mut lines);
-    lines.number(idle, "");
-    lines.words("bits follow on a free bus: is the STOP a glitch?");
-    lines.end();
+    let template = "{} bits follow on a free bus: is the STOP a glitch?";
+    say(&mut lines, template, &[Part::Number(idle)]);
     lines.finish()
 }
 
@@ -112,33 +109,22 @@ fn tell_cuts(lines: &mut Lines, marks: &[Mark]) {
 }
 
 fn tell_cut(lines: &mut Lines, cut: Cut) {
-    begin(lines);
-    lines.words(if cut.again {
+    let what = if cut.again {
         "the repeated START"
     } else {
         "the STOP"
-    });
-    lines.words("comes after");
-    lines.number(cut.bits, "");
-    lines.words("of a byte's nine bits: is it a glitch?");
-    lines.end();
+    };
+    let parts = [Part::Words(what), Part::Number(cut.bits)];
+    let template = "{} comes after {} of a byte's nine bits: is it a glitch?";
+    say(lines, template, &parts);
 }
 
-fn tell_leaves(
-    alloc: Global,
-    lines: &mut Lines,
-    labels: &Labels,
-    mark: Option<&Mark>,
-    near: Leaves,
-) {
-    let mut text = Text::new(alloc);
-    text.push("slot ");
-    text.push_number(near.slot as u64);
-    text.push(", ");
-    text.push(labels.of(near.participant));
-    text.push(": ");
-    text.push(offer_words(near.offered));
-    text.push(", the bus has ");
-    text.push(mark_words(mark));
-    say_all(lines, text);
+fn tell_leaves(lines: &mut Lines, labels: &Labels, mark: Option<&Mark>, near: Leaves) {
+    let parts = [
+        Part::Number(near.slot as u64),
+        Part::Name(labels.of(near.participant)),
+        Part::Words(offer_words(near.offered)),
+        Part::Words(mark_words(mark)),
+    ];
+    say(lines, "slot {}, {}: {}, the bus has {}", &parts);
 }

@@ -1,76 +1,72 @@
 // Lines for people of who drove the bus in a transaction.
 
-use bus_rows::{begin, say, say_all};
+use bus_rows::say;
 use drives::{Does, Judged, Judging, Verdict};
-use growing_text::{Lines, Text};
+use growing_text::{Lines, Part};
 use std::alloc::{AllocError, Global};
 
 /// What is said below a transaction of what the controllers did that are followed.
 pub(crate) fn below_drives(
     alloc: Global,
-    judging: &Judging<'_, '_>,
+    judging: &Judging<'_>,
     verdict: &Verdict,
 ) -> Result<String, AllocError> {
     let mut lines = Lines::new(alloc);
     for judged in verdict.all.iter() {
-        tell(
-            alloc,
-            &mut lines,
-            judging.controller(judged.number),
-            *judged,
-        );
+        tell(&mut lines, judging.controller(judged.number), *judged);
     }
     if verdict.is_denied {
         say(
             &mut lines,
             "none of the controllers that are followed pulls SDA, and no other sends this: against the plan",
+            &[],
         );
     }
     lines.finish()
 }
 
-fn tell(alloc: Global, lines: &mut Lines, controller: &str, judged: Judged) {
-    let mut text = Text::new(alloc);
-    text.push(controller);
+fn tell(lines: &mut Lines, controller: &str, judged: Judged) {
+    let name = Part::Name(controller);
     match judged.does {
-        Does::GoesOn => text.push(" starts, and goes on to the end"),
-        Does::Loses { slot } => {
-            push_slot(&mut text, " starts, and loses in slot ", slot);
-            text.push(": it sends 1, the bus has 0");
-        }
-        Does::PullsOn { slot, again } => {
-            push_slot(&mut text, " starts, and loses in slot ", slot);
-            push_slot(&mut text, ", but still pulls SDA in slot ", again);
-            text.push(": against the rules");
-        }
-        Does::Departs { slot, pulls } => {
-            push_slot(&mut text, " starts, and in slot ", slot);
-            text.push(if pulls { " pulls SDA" } else { " releases SDA" });
-            text.push(", which no message of it does there: against the plan");
-        }
-        Does::JoinsLate { slot } => {
-            push_slot(&mut text, " does not start, but pulls SDA in slot ", slot);
-            text.push(": against the rules");
-        }
+        Does::GoesOn => say(lines, "{} starts, and goes on to the end", &[name]),
+        Does::Loses { slot } => say(
+            lines,
+            "{} starts, and loses in slot {}: it sends 1, the bus has 0",
+            &[name, Part::Number(slot as u64)],
+        ),
+        Does::PullsOn { slot, again } => say(
+            lines,
+            "{} starts, and loses in slot {}, but still pulls SDA in slot {}: against the rules",
+            &[name, Part::Number(slot as u64), Part::Number(again as u64)],
+        ),
+        Does::Departs { slot, pulls } => say(
+            lines,
+            "{} starts, and in slot {} {} SDA, which no message of it does there: against the plan",
+            &[
+                name,
+                Part::Number(slot as u64),
+                Part::Words(if pulls { "pulls" } else { "releases" }),
+            ],
+        ),
+        Does::JoinsLate { slot } => say(
+            lines,
+            "{} does not start, but pulls SDA in slot {}: against the rules",
+            &[name, Part::Number(slot as u64)],
+        ),
     }
-    say_all(lines, text);
-}
-
-fn push_slot(text: &mut Text, words: &str, slot: usize) {
-    text.push(words);
-    text.push_number(slot as u64);
 }
 
 /// In how many transactions the controllers that are followed did what the rules of the plan give.
-pub(crate) fn drives_line(alloc: Global, judging: &Judging<'_, '_>) -> Result<String, AllocError> {
+pub(crate) fn drives_line(alloc: Global, judging: &Judging<'_>) -> Result<String, AllocError> {
     let mut lines = Lines::new(alloc);
-    begin(&mut lines);
-    lines.words("who drove: in");
-    lines.number(judging.right, "");
-    lines.words("transactions as the rules of the plan give, not in");
-    lines.number(judging.wrong, ";");
-    lines.words("others sent");
-    lines.number(judging.others, "");
-    lines.end();
+    say(
+        &mut lines,
+        "who drove: in {} transactions as the rules of the plan give, not in {}; others sent {}",
+        &[
+            Part::Number(judging.right),
+            Part::Number(judging.wrong),
+            Part::Number(judging.others),
+        ],
+    );
     lines.finish()
 }

@@ -1,18 +1,13 @@
 // What the program does, and the status that it ends with.
 
-use crate::tasks::{Over, OverBoth, Task, task_of};
+use crate::tasks::run_over;
 use crate::versions::version_of;
-use closings::{Errand, FilesWritten, finish};
-use command_words::{Asked, Format, Manner, Request, When, read_words};
+use command_words::{Asked, Format, Manner, Request, Rewriting, When, read_words};
 use files::{FilesRead, Form, Sheet, Watcher, is_standard_input};
 use growing_text::visible;
-use hints::Named;
 use language_server::serve;
 use refusal_objects::Detail;
-use run_ends::{
-    Extras, Format as Written, NamedSources, Voice, both_read, one_read, open_both, open_sources,
-    refused,
-};
+use run_ends::{Errand, Extras, Inputs, finish, open_files, refused};
 use run_parts::{RunError, Watched};
 use std::env::{self, VarError};
 use std::io;
@@ -39,7 +34,7 @@ pub fn run<R: Files + Env + Input + Print + Eprint + AllocGlobal + Threads + Wai
         Ok(status) => status,
         // (before it is known whether objects are wanted)
         Err(error) => {
-            refused(rt, error, Detail::Nothing, "", Voice::Plain);
+            refused(rt, error, Detail::Nothing, "", Format::Lines);
             2
         }
     }
@@ -62,10 +57,12 @@ fn run_words<R: Files + Env + Input + Print + Eprint + AllocGlobal + Threads + W
                 manner,
             },
         ) => {
-            let watcher = watcher_of(rt, request, further.as_slice(), terminals);
-            let extras = extras_of(rt, manner, terminals, watcher);
-            let task = task_of(request, drives.as_slice());
-            Ok(do_task(rt, task, further.as_slice(), extras))
+            let errand = Errand {
+                request: request.with_drives(drives.as_slice()),
+                further: further.as_slice(),
+                extras: extras_of(rt, manner, terminals),
+            };
+            Ok(do_errand(rt, watched(rt, errand, terminals)))
         }
         Ok(Asked::Serve(further)) => serve_editor(rt, further.as_slice()),
         Ok(Asked::Show(text)) => show(rt, text.as_str()),
@@ -75,64 +72,46 @@ fn run_words<R: Files + Env + Input + Print + Eprint + AllocGlobal + Threads + W
     }
 }
 
-fn extras_of<R: Env + AllocGlobal>(
-    rt: &R,
-    manner: Manner,
-    terminals: Terminals,
-    watcher: Watcher,
-) -> Extras {
+fn extras_of<R: Env + AllocGlobal>(rt: &R, manner: Manner, terminals: Terminals) -> Extras {
     let take_colors = takes_colors(rt);
     Extras {
         // (a message of a compiler says what a hint does)
-        hints: are_wanted(manner.hints, terminals.err && manner.format != Format::Gcc),
+        hints: are_wanted(
+            manner.hints,
+            terminals.err && manner.format != Format::Messages,
+        ),
         colors_out: are_wanted(manner.colors, terminals.out && take_colors),
         colors_err: are_wanted(manner.colors, terminals.err && take_colors),
-        format: written_as(manner.format),
-        watcher,
+        format: manner.format,
+        watcher: Watcher::nobody(terminals.out),
     }
 }
 
-fn written_as(format: Format) -> Written {
-    match format {
-        Format::Text => Written::Lines,
-        Format::Json => Written::Objects,
-        Format::Gcc => Written::Messages,
+// Somebody sees how far a run is that may be long. While somebody types what is read, a line beside it would be in the way.
+fn watched<'a, R: Clock>(rt: &R, errand: Errand<'a>, terminals: Terminals) -> Errand<'a> {
+    if !terminals.err || !may_be_long(errand) || terminals.input && reads_input(errand) {
+        return errand;
+    }
+    let extras = Extras {
+        watcher: Watcher::now(rt, terminals.out),
+        ..errand.extras
+    };
+    Errand { extras, ..errand }
+}
+
+fn may_be_long(errand: Errand<'_>) -> bool {
+    match errand.request {
+        Request::Order { .. } | Request::Bench { .. } => false,
+        Request::Rewrite { .. } => errand.rewrites(Rewriting::Certify),
+        _ => true,
     }
 }
 
-// Who sees how far a run is that may be long. While somebody types what is read, a line beside it would be in the way.
-fn watcher_of<R: Clock>(
-    rt: &R,
-    request: Request<'_>,
-    further: &[&str],
-    terminals: Terminals,
-) -> Watcher {
-    match files_of(request) {
-        Some((one, other))
-            if terminals.err && !(terminals.input && names_input(one, other, further)) => {
-            Watcher::now(rt, terminals.out)
-        }
-        _ => Watcher::nobody(terminals.out),
-    }
-}
-
-fn names_input(one: &str, other: &str, further: &[&str]) -> bool {
-    is_standard_input(one)
-        || is_standard_input(other)
-        || further.iter().any(|path| is_standard_input(path))
-}
-
-// The files of a run that may be long.
-fn files_of(request: Request<'_>) -> Option<(&str, &str)> {
-    match request {
-        Request::Check { plan, .. } | Request::Certify { plan, .. } => Some((plan, plan)),
-        Request::Verify { plan, cert, .. } => Some((plan, cert)),
-        Request::Capture { plan, vcd, .. } => Some((plan, vcd)),
-        Request::Decode { vcd, .. } | Request::Signals { vcd, .. } => Some((vcd, vcd)),
-        Request::Learn { vcd, names, .. } => Some((vcd, names.unwrap_or(vcd))),
-        Request::Page { plan, capture, .. } => Some((plan, capture.unwrap_or(plan))),
-        _ => None,
-    }
+fn reads_input(errand: Errand<'_>) -> bool {
+    let named = errand.named().first;
+    is_standard_input(named.path)
+        || is_standard_input(errand.second().unwrap_or(named).path)
+        || errand.further.iter().any(|path| is_standard_input(path))
 }
 
 // Whether the environment says nothing against colours, as NO_COLOR does where it has anything in it.
@@ -152,113 +131,24 @@ fn are_wanted(when: When, on_terminal: bool) -> bool {
     }
 }
 
-fn do_task<R: Files + Input + Print + Eprint + AllocGlobal + Threads + Wait + Clock + Sync>(
+// From the opening of the files to the status.
+fn do_errand<R: Files + Input + Print + Eprint + AllocGlobal + Threads + Wait + Clock + Sync>(
     rt: &R,
-    task: Task<'_>,
-    further: &[&str],
-    extras: Extras,
-) -> u8 {
-    match task {
-        Task::One(text, over, form) => run_over(rt, sources_of(text, further), over, form, extras),
-        Task::Two(plan, other, over, form) => {
-            run_over_both(rt, sources_of(plan, further), other, over, form, extras)
-        }
-    }
-}
-
-// Further briefs are words of a command that takes briefs alone, and else those of an option.
-fn sources_of<'a>(first: Named<'a>, further: &'a [&'a str]) -> NamedSources<'a> {
-    let argument = if first.what == "brief" {
-        first.argument
-    } else {
-        "--with"
-    };
-    NamedSources {
-        first,
-        further,
-        argument,
-    }
-}
-
-// A run over one text, or over what gives a plan, from the opening of the files to the status.
-fn run_over<'a, R: Files + Input + Print + Eprint + AllocGlobal + Threads + Wait + Clock + Sync>(
-    rt: &'a R,
-    named: NamedSources<'a>,
-    over: Over<'a>,
-    form: Form<'a>,
-    extras: Extras,
+    errand: Errand<'_>,
 ) -> u8 {
     let mut ids = Vec::new(rt.alloc());
-    let Some(mut sources) = open_sources(rt, named, &mut ids, extras) else {
+    let Some((mut texts, mut second)) = open_files(rt, errand, &mut ids) else {
         return 2;
     };
     let read = FilesRead {
         ids: ids.as_slice(),
     };
-    let mut out = Watched::new(Sheet::telling(
-        rt,
-        form,
-        read,
-        extras.watcher,
-        over.writes_certificate(),
-    ));
-    let path = named.first.path;
-    let ended = over.run(rt, path, &mut sources, &mut out, extras, read);
-    let files = FilesWritten {
-        output: form.path(),
-        wave: over.wave(),
-    };
-    let read = one_read(named, sources);
-    let errand = Errand {
-        named,
-        files,
-        about: over.about(path),
-        extras,
-    };
-    finish(rt, read, out.into_inner(), ended, errand)
-}
-
-// The same over a second text too.
-fn run_over_both<
-    'a,
-    R: Files + Input + Print + Eprint + AllocGlobal + Threads + Wait + Clock + Sync,
->(
-    rt: &'a R,
-    named: NamedSources<'a>,
-    other: Named<'a>,
-    over: OverBoth<'a>,
-    form: Form<'a>,
-    extras: Extras,
-) -> u8 {
-    let mut ids = Vec::new(rt.alloc());
-    let Some((mut sources, mut another)) = open_both(rt, named, other, &mut ids, extras) else {
-        return 2;
-    };
-    let read = FilesRead {
-        ids: ids.as_slice(),
-    };
-    let mut out = Watched::new(Sheet::new(rt, form, read, extras.watcher));
-    let ended = over.run(
-        rt,
-        named.first.path,
-        &mut sources,
-        &mut another,
-        &mut out,
-        extras,
-        read,
-    );
-    let files = FilesWritten {
-        output: form.path(),
-        wave: over.wave(),
-    };
-    let read = both_read(named, sources, other, another);
-    let errand = Errand {
-        named,
-        files,
-        about: over.about(named, other.path),
-        extras,
-    };
-    finish(rt, read, out.into_inner(), ended, errand)
+    let is_long = errand.rewrites(Rewriting::Certify);
+    let sheet = Sheet::telling(rt, errand.form(), read, errand.extras.watcher, is_long);
+    let mut out = Watched::new(sheet);
+    let ended = run_over(rt, errand, &mut texts, &mut second, &mut out);
+    let inputs = Inputs::of(errand, (texts, second));
+    finish(rt, inputs, out.into_inner(), ended, read, errand)
 }
 
 // Serves the editor that has started the program, and answers the status.

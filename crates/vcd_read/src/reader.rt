@@ -1,11 +1,13 @@
 // A reader of dumps that come in pieces.
 
-ghost use Rattle.vcd_read.specs.Pieces.{RoomForToken, RoomForSamples};
+ghost use Rattle.std.specs.Prelude.{◌≡◌, ◌+◌, length, Ok, Err, MatchResult, OnOk};
+ghost use Rattle.vcd_read.specs.Pieces.{RoomForToken, RoomForSamples, Scans, bytes_read, kept_of, samples_at_end};
 
+use crate::beside::{Furthers, Nobody, Tokens};
 use crate::errors::Refusal;
 use crate::places::{OpenLine, Wrong};
 use crate::probes::Probe;
-use crate::samples::Sample;
+use crate::samples::{Further, Sample};
 use crate::scanner::Scanner;
 use run_errors::VcdError;
 use std::alloc::{AllocError, Global};
@@ -14,15 +16,30 @@ use std::alloc::{AllocError, Global};
 ///
 /// It keeps the token that has not ended, the command that is open, the codes and levels of the two signals, and the
 /// samples that were not cleared. A token counts as read once the white space after it has been fed, the last one at
-/// the end.
+/// the end. Beside the two signals it may follow further ones, of which nothing is proved.
 pub struct Reader {
     scanner: Scanner,
+    further: Option<Furthers>,
     refused: Option<Refusal>,
     // the line that was fed last, and what is wrong where the dump was refused
     line: OpenLine,
     wrong: Option<Wrong>,
     ghost held_fits: { RoomForToken 0 scanner },
     ghost last_samples_fit: { RoomForSamples 2 scanner },
+}
+
+/// What the end of a dump gives, without what was cleared.
+#[derive(Drop)]
+pub struct Last {
+    pub samples: Vec<Sample>,
+    further: Option<Furthers>,
+}
+
+impl Last {
+    /// What the further lines are.
+    pub fn further(&self) -> &[Further] {
+        given_in(&self.further)
+    }
 }
 
 /// Why a dump has no samples at its end.
@@ -56,6 +73,7 @@ impl Drop for Reader {
     fn drop(self) {
         let Self {
             scanner: _,
+            further: _,
             refused: _,
             line: _,
             wrong: _,
@@ -64,7 +82,7 @@ impl Drop for Reader {
 }
 
 impl Reader {
-    ghost use Rattle.std.specs.Prelude.{◌≡◌, ℕ, List, [], ◌++◌, IfOk, Err, MatchResult};
+    ghost use Rattle.std.specs.Prelude.{◌≡◌, ℕ, List, [], ◌++◌, IfOk, Ok, Err, MatchResult};
     ghost use Rattle.run_errors.specs.declared.dumps.VcdError.TheVariants.{NoMemory};
     ghost use Rattle.vcd_read.specs.declared.samples.Sample.{Sample};
     ghost use Rattle.vcd_read.specs.Dumps.{samples_of, said_so_far, given_so_far};
@@ -92,8 +110,26 @@ impl Reader {
     pub fn of(alloc: Global, scl: Probe<'_>, sda: Probe<'_>) -> Result<Reader, AllocError>
         ensures { IfOk result (λ r. Fed (asked scl.entry) (asked sda.entry) [] [] (reading_of r)) }
     {
+        Reader::with(alloc, scl, sda, &[])
+    }
+
+    /// The same, beside up to 32 further lines, which are found there too; one that is not found stays unknown.
+    ///
+    /// # Errors
+    ///
+    /// V5 where an allocation fails.
+    pub fn with(
+        alloc: Global,
+        scl: Probe<'_>,
+        sda: Probe<'_>,
+        lines: &[Probe<'_>],
+    ) -> Result<Reader, AllocError>
+        ensures { IfOk result (λ r. Fed (asked scl.entry) (asked sda.entry) [] [] (reading_of r)) }
+    {
+        let further = further_of(alloc, lines)?;
         Ok(Reader {
             scanner: Scanner::new(alloc, scl, sda)?,
+            further,
             refused: None,
             line: OpenLine::new(alloc),
             wrong: None,
@@ -120,11 +156,33 @@ impl Reader {
             MatchResult (said_so_far scl sda text) (λ _. Unit {0}) (λ refusal. result ≡ Err (error_of refusal)) }
         ensures memory { result ≡ Err NoMemory → reading_of self.new ≡ reading_of self.old }
     {
+        self.feed_with(piece, &mut Nobody)
+    }
+
+    /// The same. Another is told of each token that is read and not refused.
+    ///
+    /// # Errors
+    ///
+    /// Those of `feed`.
+    pub fn feed_with<T: Tokens>(&mut self, piece: &[u8], tokens: &mut T) -> Result<(), VcdError>
+        // The text that it was fed grows by the piece, unless an allocation fails.
+        ensures fed { (scl sda : Finder) (text : List ℕ) (cleared : List Sample) →
+            Fed scl sda text cleared (reading_of self.old) →
+            UnlessMemory result (Fed scl sda (text ++ piece.now) cleared (reading_of self.new)) }
+
+        // A refusal comes in the call in which its token is read, and then in every later call.
+        ensures told { (scl sda : Finder) (text : List ℕ) (cleared : List Sample) →
+            Fed scl sda text cleared (reading_of self.old) → Answers result (said_so_far scl sda (text ++ piece.now)) }
+        ensures again { (scl sda : Finder) (text : List ℕ) (cleared : List Sample) →
+            Fed scl sda text cleared (reading_of self.old) →
+            MatchResult (said_so_far scl sda text) (λ _. Unit {0}) (λ refusal. result ≡ Err (error_of refusal)) }
+        ensures memory { result ≡ Err NoMemory → reading_of self.new ≡ reading_of self.old }
+    {
         if let Some(refusal) = self.refused {
             return Err(VcdError::from(refusal));
         }
-        self.scanner.reserve(piece.len())?;
-        match self.scanner.read(piece) {
+        reserve(&mut self.scanner, &mut self.further, piece.len())?;
+        match read(&mut self.scanner, &mut self.further, piece, tokens) {
             Ok(()) => {
                 self.line.go_on(piece);
                 Ok(())
@@ -150,13 +208,20 @@ impl Reader {
         self.scanner.samples.as_slice()
     }
 
-    /// Forgets the samples so far, which the caller has used.
+    /// What the further lines are, by the time stamps so far at which one of them changed, without those that were cleared with
+    /// the samples. A time stamp gives this as it gives its sample.
+    pub fn further(&self) -> &[Further] {
+        given_in(&self.further)
+    }
+
+    /// Forgets the samples so far, which the caller has used, and what further lines were.
     pub fn clear_samples(&mut self)
         ensures { (scl sda : Finder) (text : List ℕ) (cleared : List Sample) →
             Fed scl sda text cleared (reading_of self.old) →
             Fed scl sda text (cleared ++ samples_in (reading_of self.old)) (reading_of self.new) }
     {
         self.scanner.samples.clear();
+        clear(&mut self.further);
     }
 
     /// What is wrong with the dump, beside the refusal that a call has answered: the first time that it is asked for, and
@@ -195,8 +260,26 @@ impl Reader {
             MatchResult result (λ samples. samples_of scl sda text ≡ Ok (cleared ++ samples.items))
             (λ e. IsRefusal (samples_of scl sda text) e.error) }
     {
+        match self.finish(&mut Nobody) {
+            Ok(Last { samples, .. }) => Ok(samples),
+            Err(refused) => Err(refused),
+        }
+    }
+
+    /// The same, with what the further lines are. Another is told of the last token.
+    ///
+    /// # Errors
+    ///
+    /// V1 to V4.
+    pub fn finish<T: Tokens>(self, tokens: &mut T) -> Result<Last, EndError>
+        ensures { (scl sda : Finder) (text : List ℕ) (cleared : List Sample) →
+            Fed scl sda text cleared (reading_of self) →
+            MatchResult result (λ last. samples_of scl sda text ≡ Ok (cleared ++ last.samples.items))
+            (λ e. IsRefusal (samples_of scl sda text) e.error) }
+    {
         let Self {
             mut scanner,
+            mut further,
             refused,
             line,
             wrong,
@@ -206,10 +289,10 @@ impl Reader {
             let left = Left::Known(wrong);
             return Err(EndError { error, left });
         }
-        match scanner.end() {
+        match end(&mut scanner, &mut further, tokens) {
             Ok(()) => {
                 let Scanner { samples, .. } = scanner;
-                Ok(samples)
+                Ok(Last { samples, further })
             }
             Err(refusal) => {
                 let error = VcdError::from(refusal);
@@ -217,5 +300,89 @@ impl Reader {
                 Err(EndError { error, left })
             }
         }
+    }
+}
+
+// These further lines, if there are some.
+fn further_of(alloc: Global, lines: &[Probe<'_>]) -> Result<Option<Furthers>, AllocError> {
+    if lines.is_empty() {
+        return Ok(None);
+    }
+    Ok(Some(Furthers::new(alloc, lines)?))
+}
+
+// Makes room for all that a piece of so many bytes can leave. A failure changes nothing.
+fn reserve(
+    scanner: &mut Scanner,
+    further: &mut Option<Furthers>,
+    bytes: usize,
+) -> Result<(), AllocError>
+    requires token_room { RoomForToken 0 scanner.old }
+    requires samples_room { RoomForSamples 2 scanner.old }
+    ensures kept { kept_of scanner.new ≡ kept_of scanner.old }
+    ensures token_room { OnOk result (RoomForToken bytes scanner.new) }
+    ensures samples_room { OnOk result (RoomForSamples (bytes + 2) scanner.new) }
+    ensures least_token_room { RoomForToken 0 scanner.new }
+    ensures least_samples_room { RoomForSamples 2 scanner.new }
+{
+    scanner.reserve(bytes)?;
+    match further {
+        Some(further) => further.reserve(bytes, scanner.held.capacity()),
+        None => Ok(()),
+    }
+}
+
+// Reads a piece for which there is room.
+fn read<T: Tokens>(
+    scanner: &mut Scanner,
+    further: &mut Option<Furthers>,
+    piece: &[u8],
+    tokens: &mut T,
+) -> Result<(), Refusal>
+    requires token_room { RoomForToken (length piece.now) scanner.old }
+    requires samples_room { RoomForSamples (length piece.now + 2) scanner.old }
+    ensures kept { Scans result (bytes_read (kept_of scanner.old) piece.now) (kept_of scanner.new) }
+    ensures token_room { RoomForToken 0 scanner.new }
+    ensures samples_room { RoomForSamples 2 scanner.new }
+{
+    match further {
+        Some(further) => scanner.read(piece, further, tokens),
+        None => scanner.read(piece, &mut Nobody, tokens),
+    }
+}
+
+// The end of the dump: its last samples, and what the further lines are then.
+fn end<T: Tokens>(
+    scanner: &mut Scanner,
+    further: &mut Option<Furthers>,
+    tokens: &mut T,
+) -> Result<(), Refusal>
+    requires token_room { RoomForToken 0 scanner.old }
+    requires samples_room { RoomForSamples 2 scanner.old }
+    ensures { MatchResult result (λ _. samples_at_end (kept_of scanner.old) ≡ Ok scanner.new.samples.items)
+        (λ refusal. samples_at_end (kept_of scanner.old) ≡ Err refusal) }
+{
+    match further {
+        Some(further) => {
+            let ended = scanner.end(further, tokens);
+            further.end();
+            ended
+        }
+        None => scanner.end(&mut Nobody, tokens),
+    }
+}
+
+// What they have been.
+fn given_in(further: &Option<Furthers>) -> &[Further] {
+    match further {
+        Some(further) => further.given.as_slice(),
+        None => &[],
+    }
+}
+
+// Forgets what they have been.
+fn clear(further: &mut Option<Furthers>) {
+    if let Some(further) = further {
+        further.given.clear();
     }
 }

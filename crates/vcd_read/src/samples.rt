@@ -15,3 +15,12 @@ pub struct Sample {
     pub scl: Level,
     pub sda: Level,
 }
+
+/// What further lines are after a time stamp at which one of them differs from before: masks with a bit for each line, in the
+/// order in which they were given. A line in neither mask is high.
+#[derive(Clone, Copy, PartialEq, Eq)]
+pub struct Further {
+    pub time: u64,
+    pub low: u32,
+    pub unknown: u32,
+}

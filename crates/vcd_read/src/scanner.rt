@@ -6,6 +6,7 @@ ghost use Rattle.vcd_read.specs.Pieces.{kept_at_first, kept_of, with_held, bytes
 ghost use Rattle.vcd_read.specs.Pieces.{samples_at_end, Scans, RoomForToken, RoomForSamples};
 ghost use Rattle.vcd_read.specs.Views.{asked};
 
+use crate::beside::{Beside, Tokens};
 use crate::bytes::{is_white, line_after, whites};
 use crate::dumps::Dump;
 use crate::errors::Refusal;
@@ -22,7 +23,7 @@ pub(crate) struct Scanner {
     // the line of the next byte
     line: u64,
     // the token that has not ended
-    held: Vec<u8>,
+    pub(crate) held: Vec<u8>,
     pub(crate) samples: Vec<Sample>,
     // where in the piece at hand a token ended that was refused; it is held then
     refused_at: usize,
@@ -62,8 +63,13 @@ impl Scanner {
         self.dump.reserve(self.held.capacity())
     }
 
-    /// Reads a piece for which there is room.
-    pub(crate) fn read(&mut self, piece: &[u8]) -> Result<(), Refusal>
+    /// Reads a piece for which there is room. Another is told of the tokens that are taken.
+    pub(crate) fn read<B: Beside, T: Tokens>(
+        &mut self,
+        piece: &[u8],
+        beside: &mut B,
+        tokens: &mut T,
+    ) -> Result<(), Refusal>
         requires token_room { RoomForToken (length piece.now) self.old }
         requires samples_room { RoomForSamples (length piece.now + 2) self.old }
         ensures kept { Scans result (bytes_read (kept_of self.old) piece.now) (kept_of self.new) }
@@ -76,18 +82,24 @@ impl Scanner {
             let mut rest = whites(u8x64::from_slice(&piece[at..]));
             while rest != 0 {
                 let white = at + rest.trailing_zeros() as usize;
-                self.end_token(&piece[start..white], white)?;
+                self.end_token(&piece[start..white], white, beside, tokens)?;
                 self.line = line_after(self.line, piece[white]);
                 start = white + 1;
                 rest &= rest - 1;
             }
             at += 64;
         }
-        self.read_bytes(&piece[start..], start)
+        self.read_bytes(&piece[start..], start, beside, tokens)
     }
 
     // The same of what stands from here on in the piece, byte by byte.
-    fn read_bytes(&mut self, piece: &[u8], from: usize) -> Result<(), Refusal>
+    fn read_bytes<B: Beside, T: Tokens>(
+        &mut self,
+        piece: &[u8],
+        from: usize,
+        beside: &mut B,
+        tokens: &mut T,
+    ) -> Result<(), Refusal>
         requires token_room { RoomForToken (length piece.now) self.old }
         requires samples_room { RoomForSamples (length piece.now + 2) self.old }
         ensures kept { Scans result (bytes_read (kept_of self.old) piece.now) (kept_of self.new) }
@@ -97,7 +109,7 @@ impl Scanner {
         let mut start = 0;
         for (at, byte) in piece.iter().enumerate() {
             if is_white(*byte) {
-                self.end_token(&piece[start..at], from.saturating_add(at))?;
+                self.end_token(&piece[start..at], from.saturating_add(at), beside, tokens)?;
                 self.line = line_after(self.line, *byte);
                 start = at + 1;
             }
@@ -108,7 +120,13 @@ impl Scanner {
 
     // What is held, with this after it, has come to its end, here in the piece.
     #[inline(always)]
-    fn end_token(&mut self, rest: &[u8], at: usize) -> Result<(), Refusal>
+    fn end_token<B: Beside, T: Tokens>(
+        &mut self,
+        rest: &[u8],
+        at: usize,
+        beside: &mut B,
+        tokens: &mut T,
+    ) -> Result<(), Refusal>
         requires token_room { RoomForToken (length rest.now) self.old }
         requires samples_room { RoomForSamples 1 self.old }
         ensures kept { Scans result (token_ended (with_held rest.now (kept_of self.old))) (kept_of self.new) }
@@ -117,13 +135,21 @@ impl Scanner {
         ensures samples_room { (n : ℕ) → RoomForSamples (n + 1) self.old → RoomForSamples n self.new }
     {
         if !self.held.is_empty() {
-            return self.end_held(rest, at);
+            return self.end_held(rest, at, beside, tokens);
         }
-        if rest.is_empty() || self.dump.change_short(rest) {
+        if rest.is_empty() {
             return Ok(());
         }
+        if self.dump.change_short(rest) {
+            beside.change_short(rest);
+            tokens.token(rest);
+            return Ok(());
+        }
+        let context = self.dump.context;
         match self.dump.read(rest, self.line) {
             Ok(sample) => {
+                beside.change_other(rest, context, &self.dump);
+                tokens.token(rest);
                 keep(&mut self.samples, sample);
                 Ok(())
             }
@@ -137,7 +163,13 @@ impl Scanner {
 
     // The same where something is held.
     #[inline(never)]
-    fn end_held(&mut self, rest: &[u8], at: usize) -> Result<(), Refusal>
+    fn end_held<B: Beside, T: Tokens>(
+        &mut self,
+        rest: &[u8],
+        at: usize,
+        beside: &mut B,
+        tokens: &mut T,
+    ) -> Result<(), Refusal>
         requires token_room { RoomForToken (length rest.now) self.old }
         requires samples_room { RoomForSamples 1 self.old }
         requires some_held { 0 < vec_len self.old.held }
@@ -148,20 +180,27 @@ impl Scanner {
     {
         let _ = self.held.extend_from_slice(rest);
         self.refused_at = at;
+        let context = self.dump.context;
         let sample = self.dump.read(self.held.as_slice(), self.line)?;
+        beside.change_other(self.held.as_slice(), context, &self.dump);
+        tokens.token(self.held.as_slice());
         self.held.clear();
         keep(&mut self.samples, sample);
         Ok(())
     }
 
     /// The end of the dump: its last samples.
-    pub(crate) fn end(&mut self) -> Result<(), Refusal>
+    pub(crate) fn end<B: Beside, T: Tokens>(
+        &mut self,
+        beside: &mut B,
+        tokens: &mut T,
+    ) -> Result<(), Refusal>
         requires token_room { RoomForToken 0 self.old }
         requires samples_room { RoomForSamples 2 self.old }
         ensures { MatchResult result (λ _. samples_at_end (kept_of self.old) ≡ Ok self.new.samples.items)
             (λ refusal. samples_at_end (kept_of self.old) ≡ Err refusal) }
     {
-        self.end_token(&[], 0)?;
+        self.end_token(&[], 0, beside, tokens)?;
         if let Some(sample) = self.dump.end()? {
             self.samples.push_reserved(sample);
         }

@@ -7,4 +7,4 @@ use Rattle.plan_runs.proofs.checking.check.Goals as goal
 pub returns : goal.returns
 returns g c =
     let ran = c.in_ok-found in
-    record { status = of_this g.I.Input.reader (plan_contents ran.field-0.found.checked.plan) (Judges ran.field-0.status) (JudgesIn c.args.look.strict c.judged.result) c.args.plans.now.readers.items c.check_by_form.new.plans.readers.items c.judged.ensures ran.ensures }
+    record { status = of_this g.I.Input.reader (plan_contents ran.found.checked.plan) (Judges ran.by_plan) (JudgesIn c.args.look.strict c.judged-status.result) c.args.plans.now.readers.items c.check_by_form.new.plans.readers.items c.judged-status.ensures ran.ensures.judged }

@@ -6,6 +6,6 @@ use Rattle.capture_check.proofs.following.Follower.follow.Given as goal
 
 -- the transactions so far, and those of the samples that are left
 abbrev pub invariant-loop-sample : goal.invariant-loop-sample
-invariant-loop-sample l = (more : List Sample) →
+invariant-loop-sample g l = (more : List Sample) →
     map recorded l.found.items ++ transactions_behind (place_of l.self) (drop l.sample-index l.samples ++ more)
     ≡ transactions_behind (place_of l.initial.self) (l.samples ++ more)

@@ -24,8 +24,8 @@ returns-in_err-take-clause-stops g c =
     let sink = g.S.TransactionSink.sink in
     let e = c.in_err-take.field-0.0 in
     on_error c.from_residual-in_err-take.result e (λ e. (start : _) (least : ℕ) (scl sda : Finder) (text : List ℕ) → FollowsAll sink start least scl sda text c.args.self c.args.sink.now → StopsAtEnd sink start least scl sda text e c.take.new.self) c.from_residual-in_err-take.ensures.1
-    (λ start least scl sda text f. end_stops sink start least scl sda text c.args.self c.in-Ok.samples.items c.as_slice.result.now c.in_ok-found.found.items c.as_slice-2.result.now c.args.sink.now c.take.new.self e f.follows (c.in-Ok.ensures scl sda text f.follows.cleared f.follows.fed) c.as_slice.ensures.value c.as_slice-2.ensures.value c.in_ok-found.ensures.found c.in_err-take.ensures.stops)
+    (λ start least scl sda text f. end_stops sink start least scl sda text c.args.self c.in-Ok.last.samples.items c.as_slice.result.now c.in_ok-found.found.items c.as_slice-2.result.now c.args.sink.now c.take.new.self e f.follows (c.in-Ok.ensures scl sda text f.follows.cleared f.follows.fed) c.as_slice.ensures.value c.as_slice-2.ensures.value c.in_ok-found.ensures.found c.in_err-take.ensures.stops)
 
 pub returns-clause-read : goal.returns-clause-read
 returns-clause-read g c = λ start least scl sda text f.
-    end_taken g.S.TransactionSink.sink start least scl sda text c.args.self c.in-Ok.samples.items c.as_slice.result.now c.in_ok-found.found.items c.as_slice-2.result.now c.args.sink.now c.take.new.self f (c.in-Ok.ensures scl sda text f.cleared f.fed) c.as_slice.ensures.value c.as_slice-2.ensures.value c.in_ok-found.ensures.found c.in_ok-take.ensures.taken
+    end_taken g.S.TransactionSink.sink start least scl sda text c.args.self c.in-Ok.last.samples.items c.as_slice.result.now c.in_ok-found.found.items c.as_slice-2.result.now c.args.sink.now c.take.new.self f (c.in-Ok.ensures scl sda text f.cleared f.fed) c.as_slice.ensures.value c.as_slice-2.ensures.value c.in_ok-found.ensures.found c.in_ok-take.ensures.taken

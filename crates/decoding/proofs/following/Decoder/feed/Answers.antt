@@ -14,7 +14,7 @@ returns-in_ok-found-in-Err-clause-stops g c = λ start least scl sda text f.
     let piece = c.args.piece.now in
     let told = c.args.sink.now in
     let end = c.take-taken.new.self in
-    let mid : Decoder = record { reader = c.feed.new.self; follower = c.args.self.now.follower } in
+    let mid : Decoder = record { reader = c.feed_with.new.self; follower = c.args.self.now.follower } in
     let error = c.in-Err.error in
     piece_refused sink start least scl sda text piece c.args.self.now mid c.follow.new.self c.samples.result.now c.in_ok-found-in-Err.found.items c.as_slice.result.now told end error c.refused_with.result c.take-taken.result f refl (c.in-Err.ensures.fed scl sda text f.cleared f.fed) (λ none. c.in-Err.ensures.memory (ap Err none))
     (refuses_beginning scl sda (text ++ piece) error (c.in-Err.ensures.told scl sda text f.cleared f.fed))
@@ -34,7 +34,7 @@ returns-in-Ok-clause-stops g c =
     let told = c.args.sink.now in
     let end = c.hand_on.new.sink in
     let d : Decoder = c.args.self.now in
-    let mid : Decoder = record { reader = c.feed.new.self; follower = c.args.self.now.follower } in
+    let mid : Decoder = record { reader = c.feed_with.new.self; follower = c.args.self.now.follower } in
     if_err c.hand_on.result (λ e. (start : _) (least : ℕ) (scl sda : Finder) (text : List ℕ) → Follows sink start least scl sda text mid told → StopsAt sink start least scl sda text told e end) (λ e. (start : _) (least : ℕ) (scl sda : Finder) (text : List ℕ) → Follows sink start least scl sda text d told → StopsAtPiece sink start least scl sda text piece e end)
     (λ e h start least scl sda text f.
     let on = read_on sink start least scl sda text (text ++ piece) d mid told f (c.in-Ok.ensures.fed scl sda text f.cleared f.fed) refl in
@@ -47,7 +47,7 @@ returns-in-Ok-clause-fed g c =
     let piece = c.args.piece.now in
     let told = c.args.sink.now in
     let d : Decoder = c.args.self.now in
-    let mid : Decoder = record { reader = c.feed.new.self; follower = c.args.self.now.follower } in
+    let mid : Decoder = record { reader = c.feed_with.new.self; follower = c.args.self.now.follower } in
     on_ok c.hand_on.result
     (λ h start least scl sda text f. h start least scl sda (text ++ piece) (read_on sink start least scl sda text (text ++ piece) d mid told f (c.in-Ok.ensures.fed scl sda text f.cleared f.fed) refl))
     c.hand_on.ensures.handed

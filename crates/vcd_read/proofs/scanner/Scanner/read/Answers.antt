@@ -9,7 +9,7 @@ use Rattle.vcd_read.proofs.ScanLemmas.{NoWhite, length-range, token_goes_on, tok
 use Rattle.vcd_read.proofs.scanner.Scanner.read.Goals as goal
 
 pub loop-rest-init : goal.loop-rest-init
-loop-rest-init c =
+loop-rest-init g c =
     let piece = c.args.piece.now in
     record {
       start = omega (arith, c.loop-at.invariant.start);
@@ -27,18 +27,18 @@ next : (piece : List ℕ) (at start rest : ℕ) → (rest ≡ 0 → ⊥) → res
 next piece at start rest some fits marks none = next_white rest piece at start (omega arith) fits marks none
 
 pub slice_bounds-end_token-count : goal.slice_bounds-end_token-count
-slice_bounds-end_token-count c =
+slice_bounds-end_token-count g c =
     (next c.args.piece.now c.loop-at.at c.loop-rest.start c.loop-rest.rest c.loop-rest-test.true c.loop-rest.invariant.fits c.loop-rest.invariant.marks c.loop-rest.invariant.none).order
 
 pub slice_bounds-end_token-start : goal.slice_bounds-end_token-start
-slice_bounds-end_token-start c =
+slice_bounds-end_token-start g c =
     let n = next c.args.piece.now c.loop-at.at c.loop-rest.start c.loop-rest.rest c.loop-rest-test.true c.loop-rest.invariant.fits c.loop-rest.invariant.marks c.loop-rest.invariant.none in
     let order : c.loop-rest.start ≤ c.loop-at.at + count_trailing_zeros 64 c.loop-rest.rest = n.order in
     let within : count_trailing_zeros 64 c.loop-rest.rest < 64 = n.within in
     search rules
 
 pub returns-in_err-end_token-clause-kept : goal.returns-in_err-end_token-clause-kept
-returns-in_err-end_token-clause-kept c =
+returns-in_err-end_token-clause-kept g c =
     let n = next c.args.piece.now c.loop-at.at c.loop-rest.start c.loop-rest.rest c.loop-rest-test.true c.loop-rest.invariant.fits c.loop-rest.invariant.marks c.loop-rest.invariant.none in
     let within : c.loop-at.at + count_trailing_zeros 64 c.loop-rest.rest < length c.args.piece.now = omega (arith, n.within) in
     let refused : bytes_read (kept_of c.args.self.now) c.args.piece.now ≡ Err (record { refusal = c.in_err-end_token.field-0.0; samples = c.end_token.new.self.samples.items }) =
@@ -46,12 +46,12 @@ returns-in_err-end_token-clause-kept c =
     search rules
 
 pub returns-in_err-end_token-clause-samples_room : goal.returns-in_err-end_token-clause-samples_room
-returns-in_err-end_token-clause-samples_room c =
+returns-in_err-end_token-clause-samples_room g c =
     let n = next c.args.piece.now c.loop-at.at c.loop-rest.start c.loop-rest.rest c.loop-rest-test.true c.loop-rest.invariant.fits c.loop-rest.invariant.marks c.loop-rest.invariant.none in
     c.end_token.ensures.samples_room 2 (room_for_fewer _ (length c.args.piece.now - c.loop-rest.start + 2) c.loop-rest.self (omega (arith, n.within, n.order)) c.loop-rest.invariant.samples_room)
 
 pub loop-rest-preserved : goal.loop-rest-preserved
-loop-rest-preserved c =
+loop-rest-preserved g c =
     let piece = c.args.piece.now in
     let start = c.loop-rest.start in
     let white : ℕ = c.loop-at.at + count_trailing_zeros 64 c.loop-rest.rest in
@@ -71,7 +71,7 @@ loop-rest-preserved c =
     }
 
 pub loop-at-preserved : goal.loop-at-preserved
-loop-at-preserved c = record {
+loop-at-preserved g c = record {
   start = c.loop-rest.invariant.start;
   at = omega arith;
   none = none_left c.args.piece.now c.loop-at.at c.loop-rest.start (subst (λ (rest : ℕ). Marks rest c.args.piece.now c.loop-at.at c.loop-rest.start) c.loop-rest-test.false c.loop-rest.invariant.marks) c.loop-rest.invariant.none;

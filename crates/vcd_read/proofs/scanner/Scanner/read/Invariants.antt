@@ -6,7 +6,7 @@ use Rattle.vcd_read.proofs.scanner.Scanner.read.Given as goal
 
 -- What stands from `start` on is still to be read, and has no white space before `at`.
 abbrev pub invariant-loop-at : goal.invariant-loop-at
-invariant-loop-at l = record {
+invariant-loop-at g l = record {
   start : l.start ≤ l.at;
   at : l.at ≤ length l.piece;
   none : NoWhite l.piece l.start l.at;
@@ -17,7 +17,7 @@ invariant-loop-at l = record {
 
 -- The bits that are left are those of the white space from `start` on.
 abbrev pub invariant-loop-rest : goal.invariant-loop-rest
-invariant-loop-rest l = record {
+invariant-loop-rest g l = record {
   start : l.start ≤ l.at + 64;
   none : NoWhite l.piece l.start l.at;
   marks : Marks l.rest l.piece l.at l.start;
@@ -28,7 +28,7 @@ invariant-loop-rest l = record {
 }
 
 abbrev pub decreases-loop-at : goal.decreases-loop-at
-decreases-loop-at l = length l.piece - l.at
+decreases-loop-at g l = length l.piece - l.at
 
 abbrev pub decreases-loop-rest : goal.decreases-loop-rest
-decreases-loop-rest l = l.rest
+decreases-loop-rest g l = l.rest

@@ -5,16 +5,16 @@ use Rattle.vcd_read.proofs.scanner.Scanner.read_bytes.Goals as goal
 use Rattle.vcd_read.proofs.scanner.Scanner.read_bytes.Goals.{then-is_white+in_ok-end_token, else-is_white}
 
 pub returns-in_err-end_token-clause-token_room : goal.returns-in_err-end_token-clause-token_room
-returns-in_err-end_token-clause-token_room c =
+returns-in_err-end_token-clause-token_room g c =
     let size = length-range c.args.piece.now c.loop-at.start c.loop-at.at (omega arith) in
     c.end_token.ensures.token_room 0 (room_for_less _ (length c.args.piece.now - c.loop-at.start) c.loop-at.self (omega arith) c.loop-at.invariant.token_room)
 
 pub returns-in_err-end_token-clause-samples_room : goal.returns-in_err-end_token-clause-samples_room
-returns-in_err-end_token-clause-samples_room c =
+returns-in_err-end_token-clause-samples_room g c =
     c.end_token.ensures.samples_room 2 (room_for_fewer _ (length c.args.piece.now - c.loop-at.at + 2) c.loop-at.self (omega arith) c.loop-at.invariant.samples_room)
 
 pub loop-at-preserved : goal.loop-at-preserved
-loop-at-preserved c =
+loop-at-preserved g c =
     elim c.if-is_white.branch [
       | then-is_white+in_ok-end_token w ↦
           let size = length-range c.args.piece.now c.loop-at.start c.loop-at.at (omega arith) in

@@ -3,7 +3,7 @@ use Rattle.decoding.specs.Decoding.{HaltsAtDecoding}
 use Rattle.run_parts.specs.declared.errors.RunError.TheVariants as error
 use Rattle.decoding.proofs.TakingLemmas.{not_begun}
 use Rattle.run_parts.proofs.RunLemmas.{on_error}
-use Rattle.decoding.proofs.runs.decode.Goals as goal
+use Rattle.decoding.proofs.runs.decode_beside.Goals as goal
 
 pub returns-in_err-block-clause-stops : goal.returns-in_err-block-clause-stops
 returns-in_err-block-clause-stops g c =

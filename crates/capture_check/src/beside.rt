@@ -1,0 +1,82 @@
+// Who is told what a capture shows beside its transactions, and who pulled SDA in one.
+
+use crate::watching::Event;
+use std::alloc::AllocError;
+use vcd_read::{Further, Nobody, Sample, Tokens};
+
+/// Who pulled SDA in a transaction: masks with a bit for each line that is followed, in the order in which they were given.
+#[derive(Drop)]
+pub struct Drove {
+    /// At its START.
+    pub started: u32,
+    /// In the HIGH period of each slot, and after a repeated START. There is one for each mark of the transaction.
+    pub pulls: Vec<u32>,
+}
+
+impl Drove {
+    /// Whether the line with this number pulled SDA at the START.
+    pub fn has_started(&self, number: usize) -> bool {
+        has(self.started, number)
+    }
+
+    /// Whether it pulled SDA in this slot.
+    pub fn pulls(&self, number: usize, slot: usize) -> bool {
+        match self.pulls.get(slot) {
+            Some(mask) => has(*mask, number),
+            None => false,
+        }
+    }
+
+    /// In which slot it first pulled SDA, from this one on.
+    pub fn first_pull(&self, number: usize, from: usize) -> Option<usize> {
+        for (slot, mask) in self.pulls.iter().enumerate() {
+            if from <= slot && has(*mask, number) {
+                return Some(slot);
+            }
+        }
+        None
+    }
+
+    /// Who pulled SDA before the mark that ended it: those who made its STOP.
+    pub fn last(&self) -> u32 {
+        self.pulls.last().copied().unwrap_or(0)
+    }
+}
+
+// Whether a mask has the bit of this number.
+fn has(mask: u32, number: usize) -> bool {
+    match u32::try_from(number) {
+        Ok(number) if number < 32 => mask.wrapping_shr(number) & 1 != 0,
+        _ => false,
+    }
+}
+
+/// A sample of the bus, what happens there, and whether a transaction goes on before and after it.
+#[derive(Clone, Copy)]
+pub struct Moment<'a> {
+    pub sample: &'a Sample,
+    pub event: Option<Event>,
+    pub was_busy: bool,
+    pub is_busy: bool,
+}
+
+/// Who is told what a capture shows, beside its transactions. Each call may do nothing.
+pub trait Beside: Tokens {
+    /// What was read next, before any of it is followed: samples as they are, and what further lines are.
+    fn hear(&mut self, _samples: &[Sample], _further: &[Further]) -> Result<(), AllocError> {
+        Ok(())
+    }
+
+    /// The bus is followed to this sample.
+    #[inline(always)]
+    fn reach(&mut self, _moment: Moment<'_>) -> Result<(), AllocError> {
+        Ok(())
+    }
+
+    /// Who pulled SDA in the transaction that has ended there, where that is known.
+    fn take_drove(&mut self) -> Option<Drove> {
+        None
+    }
+}
+
+impl Beside for Nobody {}

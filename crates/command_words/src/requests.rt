@@ -1,0 +1,206 @@
+// What a command line asks for.
+
+use dump_tokens::{Bus, Drive, Drives, Limits};
+
+/// A run of the program, with lines for people in its report where `explain` says so. `output` is the file to write, where it
+/// is not standard output, and `wave` the file for waves.
+#[derive(Clone, Copy)]
+pub enum Request<'a> {
+    /// Whether a plan is safe.
+    Check {
+        plan: &'a str,
+        look: Look<'a>,
+    },
+    /// Whether a certificate is right for a plan.
+    Verify {
+        plan: &'a str,
+        cert: &'a str,
+        explain: bool,
+    },
+    /// A page that shows a plan, and a recorded bus where there is one.
+    Page {
+        plan: &'a str,
+        capture: Option<&'a str>,
+        bus: Bus<'a>,
+        output: Option<&'a str>,
+    },
+    /// Who wins arbitration.
+    Order {
+        plan: &'a str,
+        explain: bool,
+    },
+    /// Who of a plan explains a recorded bus.
+    Capture {
+        plan: &'a str,
+        vcd: &'a str,
+        capture: Capture<'a>,
+    },
+    /// The transactions of a recorded bus, in bytes.
+    Decode {
+        vcd: &'a str,
+        bus: Bus<'a>,
+        live: bool,
+        wave: Option<&'a str>,
+    },
+    /// The signals of a dump.
+    Signals {
+        vcd: &'a str,
+        limits: Limits,
+    },
+    /// A brief of what was recorded. It is a further file of the brief `names`, where there is one.
+    Learn {
+        vcd: &'a str,
+        names: Option<&'a str>,
+        lesson: Lesson<'a>,
+        output: Option<&'a str>,
+    },
+    /// What starters of an accepted plan do on a bus. Without a certificate one is to be made.
+    Bench {
+        plan: &'a str,
+        cert: Option<&'a str>,
+        play: Play<'a>,
+    },
+    /// A text in another form.
+    Rewrite {
+        file: &'a str,
+        rewriting: Rewriting,
+        output: Option<&'a str>,
+    },
+}
+
+/// How a plan is looked at: by so many workers, with so many groups of its unsafe pairs explained, in a summary these alone;
+/// strictly, so that a safe plan of which not all was looked at is not good; and with the waves of an unsafe pair in a file: of
+/// the first one, or of the one with this number.
+#[derive(Clone, Copy)]
+pub struct Look<'a> {
+    pub workers: u32,
+    pub explain: Option<u32>,
+    pub summary: bool,
+    pub strict: bool,
+    pub wave: Option<&'a str>,
+    pub pair: Option<u32>,
+}
+
+/// A capture that is asked for.
+#[derive(Clone, Copy)]
+pub struct Capture<'a> {
+    pub bus: Bus<'a>,
+    pub explain: bool,
+    /// Whether all that has ended is written before the dump is read on.
+    pub live: bool,
+    /// Whether the first transaction that nobody explains ends the run.
+    pub stops: bool,
+    /// The lines of controllers that are followed.
+    pub drives: Drives<'a>,
+}
+
+/// A brief that is asked for: data after registers is put together if `merge` says so, and is any if `widen` does.
+#[derive(Clone, Copy)]
+pub struct Lesson<'a> {
+    pub bus: Bus<'a>,
+    pub merge: bool,
+    pub widen: bool,
+    /// The lines of controllers, which share the messages out.
+    pub drives: Drives<'a>,
+}
+
+/// Who starts, what they send for open bits, and what the targets answer: bits by slot, 0 and 1, and what follows them.
+#[derive(Clone, Copy)]
+pub struct Play<'a> {
+    pub starters: &'a str,
+    pub fill: bool,
+    pub answers: &'a str,
+    pub rest: bool,
+    pub explain: bool,
+    pub wave: Option<&'a str>,
+}
+
+/// How a text is written.
+#[derive(Clone, Copy, PartialEq, Eq)]
+pub enum Rewriting {
+    /// The certificate of a plan.
+    Certify,
+    /// The canonical spelling of a plan.
+    Print,
+    /// A brief of a plan.
+    Brief,
+    /// The plan that a brief means, in its canonical spelling.
+    Expand,
+    /// A plan or a brief as it is laid out.
+    Format(Layout),
+}
+
+/// What becomes of a text that is laid out.
+#[derive(Clone, Copy, PartialEq, Eq)]
+pub enum Layout {
+    /// It goes to standard output.
+    Written,
+    /// Its file gets it, where it is not the text as it was.
+    InPlace,
+    /// It is compared with the text as it was.
+    Compared,
+}
+
+/// How reports, refusals and hints are written.
+#[derive(Clone, Copy, PartialEq, Eq)]
+pub enum Format {
+    /// As lines.
+    Lines,
+    /// As objects, for programs.
+    Objects,
+    /// What is wrong with a plan as messages of a compiler, for editors, and all else as lines.
+    Messages,
+}
+
+impl<'a> Request<'a> {
+    /// The same with these lines of controllers.
+    pub fn with_drives(self, all: &'a [Drive<'a>]) -> Request<'a> {
+        match self {
+            Request::Capture { plan, vcd, capture } => {
+                let drives = Drives {
+                    all,
+                    ..capture.drives
+                };
+                let capture = Capture { drives, ..capture };
+                Request::Capture { plan, vcd, capture }
+            }
+            Request::Learn {
+                vcd,
+                names,
+                lesson,
+                output,
+            } => {
+                let drives = Drives {
+                    all,
+                    ..lesson.drives
+                };
+                Request::Learn {
+                    vcd,
+                    names,
+                    lesson: Lesson { drives, ..lesson },
+                    output,
+                }
+            }
+            _ => self,
+        }
+    }
+
+    /// The file for waves.
+    pub fn wave(self) -> Option<&'a str> {
+        match self {
+            Request::Check { look, .. } => look.wave,
+            Request::Bench { play, .. } => play.wave,
+            Request::Decode { wave, .. } => wave,
+            _ => None,
+        }
+    }
+
+    /// The line of a controller with this number, from 0 on.
+    pub fn drive(self, number: usize) -> Option<Drive<'a>> {
+        match self {
+            Request::Capture { capture, .. } => capture.drives.all.get(number).copied(),
+            Request::Learn { lesson, .. } => lesson.drives.all.get(number).copied(),
+            _ => None,
+        }
+    }
+}

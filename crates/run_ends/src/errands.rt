@@ -1,0 +1,204 @@
+// What a run was asked for: which files it is over, where its report goes, and how it can be asked for once more.
+
+use crate::extras::Extras;
+use crate::inputs::NamedSources;
+use command_words::{Layout, Request, Rewriting};
+use dump_hints::Names;
+use dump_tokens::BusLines;
+use files::Form;
+use growing_text::Text;
+use hints::{Named, file_word};
+use std::alloc::{AllocError, Global};
+use vcd_read::Probe;
+
+/// What was asked for, with further files of a brief, and what people get beside the exact report.
+#[derive(Clone, Copy)]
+pub struct Errand<'a> {
+    pub request: Request<'a>,
+    pub further: &'a [&'a str],
+    pub extras: Extras,
+}
+
+impl<'a> Errand<'a> {
+    /// The files that give its plan, or its only file.
+    pub fn named(self) -> NamedSources<'a> {
+        let first = match self.request {
+            Request::Check { plan, .. }
+            | Request::Verify { plan, .. }
+            | Request::Page { plan, .. }
+            | Request::Order { plan, .. }
+            | Request::Capture { plan, .. }
+            | Request::Bench { plan, .. } => named("PLAN", "plan", plan),
+            Request::Learn {
+                names: Some(names),
+                ..
+            } => named("--names", "brief", names),
+            Request::Decode { vcd, .. }
+            | Request::Signals { vcd, .. }
+            | Request::Learn { vcd, .. } => named("VCD", "capture", vcd),
+            Request::Rewrite {
+                file,
+                rewriting,
+                ..
+            } => match rewriting {
+                Rewriting::Expand => named("BRIEF", "brief", file),
+                Rewriting::Format(_) => named("FILE", "plan", file),
+                Rewriting::Certify | Rewriting::Print | Rewriting::Brief => {
+                    named("PLAN", "plan", file)
+                }
+            },
+        };
+        NamedSources {
+            first,
+            further: self.further,
+            // (those of a command that takes briefs alone are words of it)
+            argument: if self.rewrites(Rewriting::Expand) {
+                "BRIEF"
+            } else {
+                "--with"
+            },
+        }
+    }
+
+    /// Its second file.
+    pub fn second(self) -> Option<Named<'a>> {
+        match self.request {
+            Request::Verify { cert, .. }
+            | Request::Bench {
+                cert: Some(cert),
+                ..
+            } => Some(named("CERT", "certificate", cert)),
+            Request::Capture { vcd, .. }
+            | Request::Page {
+                capture: Some(vcd),
+                ..
+            }
+            | Request::Learn {
+                vcd,
+                names: Some(_),
+                ..
+            } => Some(named("VCD", "capture", vcd)),
+            _ => None,
+        }
+    }
+
+    /// Whether a text is written in this form.
+    pub fn rewrites(self, wanted: Rewriting) -> bool {
+        match self.request {
+            Request::Rewrite { rewriting, .. } => rewriting == wanted,
+            _ => false,
+        }
+    }
+
+    /// Where its report goes.
+    pub fn form(self) -> Form<'a> {
+        match self.request {
+            Request::Rewrite { file, .. } if self.rewrites(Rewriting::Format(Layout::InPlace)) =>
+                Form::InPlace(file),
+            Request::Rewrite { output, .. }
+            | Request::Page { output, .. }
+            | Request::Learn { output, .. } => Form::of(output),
+            _ => Form::Plain,
+        }
+    }
+
+    /// The path of its dump, where it is over one, and else that of its last file.
+    pub(crate) fn last_path(self) -> &'a str {
+        self.second().unwrap_or(self.named().first).path
+    }
+
+    /// How the lines of its dump were to be found. The command, and the file of the dump, are these words.
+    pub(crate) fn names<'w>(self, command: &'w str, vcd: &'w str) -> Names<'w>
+    where
+        'a: 'w,
+    {
+        let BusLines {
+            scl,
+            sda,
+            scope,
+            min_pulse,
+        } = self.lines();
+        Names {
+            scl,
+            sda,
+            scope,
+            min_pulse,
+            command,
+            vcd,
+        }
+    }
+
+    fn lines(self) -> BusLines<'a> {
+        match self.request {
+            Request::Capture { capture, .. } => capture.bus.lines,
+            Request::Learn { lesson, .. } => lesson.bus.lines,
+            Request::Decode { bus, .. } | Request::Page { bus, .. } => bus.lines,
+            Request::Signals { limits, .. } => BusLines {
+                min_pulse: limits.min_pulse,
+                ..NO_LINES
+            },
+            _ => NO_LINES,
+        }
+    }
+
+    /// The file of its dump, as a command takes it.
+    pub(crate) fn vcd(self, alloc: Global) -> Result<String, AllocError> {
+        file_word(alloc, self.last_path())
+    }
+
+    /// The command and its files, as they can be given once more with other options. It is empty where it looks for no lines.
+    pub(crate) fn command(self, alloc: Global) -> Result<String, AllocError> {
+        let mut text = Text::new(alloc);
+        match self.request {
+            Request::Decode { vcd, .. } => push(alloc, &mut text, "twire decode ", vcd),
+            Request::Learn { vcd, names, .. } => {
+                push(alloc, &mut text, "twire learn ", vcd);
+                if let Some(names) = names {
+                    push(alloc, &mut text, " --names ", names);
+                }
+            }
+            Request::Capture { plan, vcd, .. } => {
+                self.push_plan(alloc, &mut text, "twire capture ", plan);
+                push(alloc, &mut text, " ", vcd);
+            }
+            Request::Page {
+                plan,
+                capture: Some(vcd),
+                ..
+            } => {
+                self.push_plan(alloc, &mut text, "twire page ", plan);
+                push(alloc, &mut text, " --capture ", vcd);
+            }
+            _ => {}
+        }
+        text.finish()
+    }
+
+    fn push_plan(self, alloc: Global, text: &mut Text, words: &str, plan: &str) {
+        push(alloc, text, words, plan);
+        for file in self.further {
+            push(alloc, text, " --with ", file);
+        }
+    }
+}
+
+const NO_LINES: BusLines<'static> = BusLines {
+    scl: Probe::Coded(""),
+    sda: Probe::Coded(""),
+    scope: None,
+    min_pulse: None,
+};
+
+fn named<'a>(argument: &'static str, what: &'static str, path: &'a str) -> Named<'a> {
+    Named {
+        argument,
+        what,
+        path,
+    }
+}
+
+// These words, and a file as a shell takes it.
+fn push(alloc: Global, text: &mut Text, words: &str, file: &str) {
+    text.push(words);
+    text.push_made(file_word(alloc, file));
+}
