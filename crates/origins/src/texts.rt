@@ -1,6 +1,6 @@
 // Names in texts: which they are, where they are given, and what they stand for.
 
-use crate::spans::{Item, Kind, NameAt, Role, Spans};
+use crate::spans::{Item, ItemKind, Kind, NameAt, Role, Spans};
 use std::alloc::{AllocError, Global};
 
 /// Texts, and the names in them.
@@ -80,9 +80,11 @@ impl<'a> NamedTexts<'a> {
 
     /// Where one of this kind gets this name: it is the first one.
     pub fn given(&self, kind: Kind, name: &[u8]) -> Option<NameAt> {
-        for at in self.names() {
-            if at.role == Role::Given && at.kind == kind && self.word(*at) == name {
-                return Some(*at);
+        for item in self.spans.items() {
+            if let Some(at) = self.given_by(*item, kind) {
+                if self.word(at) == name {
+                    return Some(at);
+                }
             }
         }
         None
@@ -90,25 +92,23 @@ impl<'a> NamedTexts<'a> {
 
     // Where the family gets its name that makes the message of this one.
     fn family(&self, name: &[u8]) -> Option<NameAt> {
-        for at in self.names() {
-            if at.role == Role::Given && self.makes(*at, name) {
-                return Some(*at);
+        for item in self.spans.items() {
+            if let (Some(at), Some(range)) = (self.given_by(*item, Kind::Message), item.range) {
+                if has_member(self.word(at), range.of(self.text(range.file)), name) {
+                    return Some(at);
+                }
             }
         }
         None
     }
 
-    // Whether this is the name of a family that makes a message of this name.
-    fn makes(&self, at: NameAt, name: &[u8]) -> bool {
-        match self.spans.item(at) {
-            Some(
-                Item {
-                    range: Some(range),
-                    ..
-                },
-            ) => has_member(self.word(at), range.of(self.text(range.file)), name),
-            _ => false,
+    // The name that an item gives to one of this kind.
+    fn given_by(&self, item: Item, kind: Kind) -> Option<NameAt> {
+        if item.kind != ItemKind::Gives(kind) {
+            return None;
         }
+        let at = *self.names().get(item.names)?;
+        (at.role == Role::Given && at.kind == kind).then_some(at)
     }
 }
 

@@ -15,6 +15,8 @@ mod gates;
 #[cfg(test)]
 mod messages;
 #[cfg(test)]
+mod names;
+#[cfg(test)]
 mod refusals;
 #[cfg(test)]
 mod rehearsals;

@@ -28,4 +28,4 @@ returns-in-Err-clause-refused c =
     let plan = draft c.args.board.now in
     let whole = text_from text plan (left c.in_ok-tokens.tokens) c.in_ok-tokens.ensures.rest
     ∙ sym (ap (items_in (length text) plan) c.new-source.ensures) in
-    rw c.refusal.ensures (subst (λ (r : Result Draft PlanError). Refuses r c.in-Err.error) (sym whole) c.in-Err.ensures)
+    rw c.refusal-refused.ensures (subst (λ (r : Result Draft PlanError). Refuses r c.in-Err.error) (sym whole) c.in-Err.ensures)
