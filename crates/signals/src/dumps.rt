@@ -139,22 +139,6 @@ impl<'a, 'l, J: Input> Dump<'a, 'l, J> {
         self.wrong.take()
     }
 
-    /// How SCL is found in the dump.
-    pub fn scl(&self) -> Probe<'_> {
-        match &self.picked {
-            Some(picked) => picked.scl(),
-            None => self.lines.scl,
-        }
-    }
-
-    /// The same of SDA.
-    pub fn sda(&self) -> Probe<'_> {
-        match &self.picked {
-            Some(picked) => picked.sda(),
-            None => self.lines.sda,
-        }
-    }
-
     /// Its parts, for a run that reads it.
     pub fn parts(&mut self) -> OpenDump<'_, 'a, J> {
         let least = self.quiet().least;
