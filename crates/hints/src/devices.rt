@@ -29,7 +29,7 @@ pub fn on_closed_input(alloc: Global, file: Named<'_>) -> Result<Hints, AllocErr
     said(alloc, words, None)
 }
 
-/// After a file that was opened and cannot be read to its end. Where it failed once more there is the error of the system.
+/// After a file that was opened and cannot be read to its end. Where its reader failed there is the error of the system.
 pub fn on_reading(
     alloc: Global,
     file: Named<'_>,
