@@ -1,4 +1,4 @@
-use Rattle.std.proofs.Common.{◌<◌, [], ◌∷◌, length, subst, arith}
+use Rattle.std.proofs.Common.{[], ◌∷◌, subst}
 use Rattle.capture_check.specs.Views.{recorded}
 use Rattle.capture_check.specs.declared.listening.Transaction.{Transaction}
 use Rattle.lessons.specs.Seen.{Sees}
@@ -10,6 +10,5 @@ loop-transaction-preserved c =
     let ts = c.args.transactions.now in
     let i = c.loop-transaction.transaction-index in
     let b = c.loop-transaction.self in
-    let within : i < length ts = omega arith in
-    sees_next c.args.self.now b c.see.new.self ts i c.transaction-item.result within c.loop-transaction.invariant
+    sees_next c.args.self.now b c.see.new.self ts i c.transaction-item.result c.loop-transaction-test.true c.loop-transaction.invariant
     (subst (λ (t : Transaction). Sees b (recorded t ∷ []) c.see.new.self) c.transaction-item.is c.in_ok-see.ensures)
