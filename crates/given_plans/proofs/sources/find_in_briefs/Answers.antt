@@ -15,8 +15,8 @@ returns-in-Ok-clause-stops g c =
 
 pub returns-in-Err-clause-stops : goal.returns-in-Err-clause-stops
 returns-in-Err-clause-stops g c =
-    brief_halts g.I.Input.reader (record { briefs = c.new.result; texts = c.new-2.result }) (record { briefs = c.new.result; texts = c.new-2.result }) c.args.readers.now c.read_from.new.readers c.new-2.ensures.items c.in-Err.halted.error c.new.ensures c.in-Err.ensures.stops
+    brief_halts g.I.Input.reader (record { briefs = c.new.result; texts = c.new-2.result; spans = c.new-3.result }) (record { briefs = c.new.result; texts = c.new-2.result; spans = c.new-3.result }) c.args.readers.now c.read_from.new.readers c.new-2.ensures.items c.in-Err.halted.error c.new.ensures c.in-Err.ensures.stops
 
 pub returns-in-Err-clause-text : goal.returns-in-Err-clause-text
 returns-in-Err-clause-text g c =
-    brief_refused g.I.Input.reader (record { briefs = c.new.result; texts = c.new-2.result }) (record { briefs = c.new.result; texts = c.new-2.result }) c.args.readers.now c.read_from.new.readers c.new-2.ensures.items c.in-Err.halted.text c.in-Err.ensures.text
+    brief_refused g.I.Input.reader (record { briefs = c.new.result; texts = c.new-2.result; spans = c.new-3.result }) (record { briefs = c.new.result; texts = c.new-2.result; spans = c.new-3.result }) c.args.readers.now c.read_from.new.readers c.new-2.ensures.items c.in-Err.halted.text c.in-Err.ensures.text
