@@ -88,7 +88,8 @@ pub(crate) fn tell_offer(lines: &mut Lines, offer: &Offer) {
     for item in &offer.items {
         say(lines, "{}", &[Part::Name(item.as_str())]);
     }
-    if !offer.after.is_empty() {
+    // (one for which there was no memory is said too: it cuts the lines)
+    if !offer.after.is_empty() || !offer.after.is_whole() {
         say_all(lines, &offer.after);
     }
 }

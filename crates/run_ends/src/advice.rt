@@ -203,10 +203,10 @@ pub(crate) fn refuse<R: Eprint + AllocGlobal, F: Read + Seek + Drop>(
 }
 
 // The line of a refusal, or what stands for it. This file was read last.
-fn tell<R: Eprint + AllocGlobal>(
+fn tell<'x, R: Eprint + AllocGlobal>(
     rt: &R,
-    halt: &Halt,
-    last: &str,
+    halt: &'x Halt,
+    last: &'x str,
     reason: &str,
     errand: Errand<'_>,
 ) {

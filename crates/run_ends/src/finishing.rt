@@ -4,7 +4,7 @@ ghost use Rattle.std.specs.Prelude.{◌≡◌, ◌⊎◌, IsOkAnd};
 ghost use Rattle.run_parts.specs.Statuses.{status_code};
 
 use crate::advice::{advise, advise_on_waves, refuse};
-use crate::endings::{Ended, Halt};
+use crate::endings::{Ended, Findings, Halt};
 use crate::errands::Errand;
 use crate::inputs::Inputs;
 use files::{FilesRead, Form, Reread, Sheet};
@@ -39,7 +39,7 @@ pub fn finish<R: Files + Print + Eprint + Clock + AllocGlobal>(
 fn finish_whole<R: Files + Print + Eprint + Clock + AllocGlobal>(
     rt: &R,
     read: Inputs<'_, Reread<R::File>>,
-    mut out: Sheet<'_, '_, R>,
+    out: Sheet<'_, '_, R>,
     ended: Ended,
     ids: FilesRead<'_>,
     errand: Errand<'_>,
@@ -51,44 +51,59 @@ fn finish_whole<R: Files + Print + Eprint + Clock + AllocGlobal>(
         findings,
         wave,
     } = ended;
-    let (drawn, no_waves) = match wave {
+    let (drawn, no_waves) = match &wave {
         Some(Ok(wave)) => (draw(rt, wave.as_str(), ids, errand), None),
-        Some(Err(why)) => (Ok(()), Some(why)),
+        Some(Err(why)) => (Ok(()), Some(*why)),
         None => (Ok(()), None),
     };
-    if let Err((error, reason)) = drawn {
-        tell(
-            rt,
-            Halt::Run(error),
-            read,
-            errand.request.wave(),
-            reason,
-            errand,
-        );
-        return 2;
+    match drawn {
+        Ok(()) => finish_report(rt, read, out, status, findings, no_waves, errand),
+        Err((error, reason)) => {
+            let file = errand.request.wave();
+            tell(rt, Halt::Run(error), read, file, reason, errand);
+            2
+        }
     }
+}
+
+// The same, with its waves written where it has some, or why there are none.
+fn finish_report<R: Files + Print + Eprint + Clock + AllocGlobal>(
+    rt: &R,
+    read: Inputs<'_, Reread<R::File>>,
+    mut out: Sheet<'_, '_, R>,
+    status: Status,
+    findings: Findings,
+    no_waves: Option<NoWaves>,
+    errand: Errand<'_>,
+) -> u8
+    ensures { (result ≡ 2) ⊎ (result ≡ status_code status) }
+{
     match out.settle(Ok(status)) {
         Ok(_) => {
             errand.extras.watcher.clear(rt);
             if errand.extras.hints {
-                advise_on_waves(rt, no_waves, errand);
-                advise(rt, status, findings, read.again, errand);
+                hint(rt, read, status, findings, no_waves, errand);
             }
             status.code()
         }
         Err(error) => {
-            let reason = out.into_error();
-            tell(
-                rt,
-                Halt::Run(error),
-                read,
-                errand.form().path(),
-                reason,
-                errand,
-            );
+            let file = errand.form().path();
+            tell(rt, Halt::Run(error), read, file, out.into_error(), errand);
             2
         }
     }
+}
+
+fn hint<R: Files + Print + Eprint + Clock + AllocGlobal>(
+    rt: &R,
+    read: Inputs<'_, Reread<R::File>>,
+    status: Status,
+    findings: Findings,
+    no_waves: Option<NoWaves>,
+    errand: Errand<'_>,
+) {
+    advise_on_waves(rt, no_waves, errand);
+    advise(rt, status, findings, read.again, errand);
 }
 
 // Writes the waves into their file, whole or not at all. An error is that of the run, and the one of the system.
