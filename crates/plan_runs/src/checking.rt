@@ -3,6 +3,7 @@
 
 ghost use Rattle.std.specs.Prelude.{◌≡◌, true, ℕ, List, IfOk, OnOk};
 ghost use Rattle.cert_check.specs.Accepts.{IsAnswer};
+ghost use Rattle.cert_check.specs.declared.answers.Answer.{Answer};
 ghost use Rattle.given_plans.specs.Sources.{DueFor, GiveThePlan, ReadsTexts, bytes_of};
 ghost use Rattle.given_runs.specs.Due.{AnsweredPlan, CheckedPlan, OrderedPlan};
 ghost use Rattle.given_runs.specs.Inputs.{DueForBoth, ReadsTextsAndOne};
