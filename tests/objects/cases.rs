@@ -55,8 +55,10 @@ fn run_case(twire: &str, asked: &Asked) -> io::Result<usize> {
         fs::write(name, text)?;
     }
     run(twire, asked, false)?;
-    let takes_explain =
-        matches!(asked.command, Asks::Check { .. } | Asks::Verify | Asks::Order | Asks::Capture { .. } | Asks::Bench { .. });
+    let takes_explain = matches!(
+        asked.command,
+        Asks::Check { .. } | Asks::Verify | Asks::Order | Asks::Capture { .. } | Asks::Bench { .. }
+    );
     if takes_explain {
         run(twire, asked, true)?;
     }
