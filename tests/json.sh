@@ -2,10 +2,6 @@
 # Runs twire with --format json. Other suites, which compare lines, are run over a program that asks twire for objects and
 # writes the lines that they stand for (tests/objects); then some objects are compared as they are written. Lines for people are
 # in no object: what is explained is compared here, and by the trials.
-#
-#     tests/json.sh [SUITE..]
-#
-# runs these of the other suites alone, and so meets fewer kinds of objects: tests/schema.sh has not the time for all.
 source "$(dirname -- "$(readlink -f -- "${BASH_SOURCE[0]}")")/suite.bash" || exit 1
 
 rustc -O --edition 2021 -D warnings -o objects "$tests/objects/main.rs" >log 2>&1 || {
@@ -37,9 +33,8 @@ suite() {
     failed=$((failed + bad))
 }
 
-names=("$@")
-((${#names[@]} > 0)) || names=(check certificates briefs boards captures decode signals bench explain)
-for name in "${names[@]}"; do
+# (tests/schema.sh runs none of them here)
+for name in ${SUITES-check certificates briefs boards captures decode signals bench explain}; do
     suite "$name"
 done
 
