@@ -7,8 +7,10 @@ import sys
 
 from jsonschema import Draft202012Validator
 
-# What the commands of tests/schema.sh do not make, and why.
-NOT_MET = {}
+# What the commands of tests/schema.sh make not always, and why.
+NOT_MET = {
+    'refused_run.code = memory': 'a trial build cannot run below any limit; of the proved one tests/json.sh refuses memory',
+}
 
 SHOWN = 5
 passed = failed = 0
