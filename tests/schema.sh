@@ -47,7 +47,8 @@ for dump in "$examples"/*.vcd; do
     ./keep signals "$dump" --format json --hints always
 done >>said.examples 2>&1
 
-# What none of these says: of a byte of a brief, of a file that is not written, of briefs, of dumps, and of a dump that cannot be read again.
+# What none of these says: of a byte of a brief, of a file that is not written, of likely mistakes, of dumps, of a dump that cannot
+# be read again, and of a bus that goes on where one sends a STOP and one repeats START.
 asked() {
     ./keep "$@" --format json --hints always >>said.examples 2>&1
 }
@@ -58,6 +59,10 @@ asked check - <<<$'brief 1\n# a \r device d 0x50 ;'
 asked decode - <<<"$heads"
 asked decode - <<<"${heads%%\$end*}"
 asked decode <(echo "$heads \$end #0 0! 0\" #1 1! #2 0!")
+lines on.plan "plan 1" "message m write 1001000 stop else stop ;" \
+    "message n write 1001000 again read 1001000 1 stop else stop else stop ;" "controller a m ;" "controller b n ;"
+"$top/tools/dump" 100100000000000010 >on.vcd
+asked capture on.plan on.vcd --explain
 wait
 for name in json lines explain briefs boards bench cases; do
     tail -n 1 "said.$name" | grep -qE '^[0-9]+( passed, [0-9]+ failed)?$'

@@ -7,8 +7,11 @@ import sys
 
 from jsonschema import Draft202012Validator
 
-# What the commands of tests/schema.sh make not always, and why.
+# What need not be met, and why.
 NOT_MET = {
+    'near.does = claim': 'who claims has the header of the transaction, and so explains it',
+    'near.does = nothing': 'who has ended has put the STOP of the transaction, and so explains it',
+    'near.wire = nothing': 'the last slot of a wire is its STOP, with which a participant ends',
     'refused_run.code = memory': 'a trial build cannot run below any limit; of the proved one tests/json.sh refuses memory',
 }
 
