@@ -1,0 +1,77 @@
+#!/usr/bin/env bash
+# Holds what twire writes with --format json against docs/objects.schema.json: what is asked for by tests/json.sh and by some other
+# suites, by the cases in tests/cases and over the examples, on standard output and on standard error. Each kind is met, and each
+# field and each word of a list. Objects that are wrong are refused.
+source "$(dirname -- "$(readlink -f -- "${BASH_SOURCE[0]}")")/suite.bash" || exit 1
+
+if ! python3 -c 'from jsonschema import Draft202012Validator' 2>/dev/null; then
+    echo "left out: objects against their schema (no python3 with jsonschema 4)"
+    finish
+fi
+
+for program in keep cases; do
+    rustc --edition 2021 -D warnings -o "$program" "$tests/objects/$program.rs" >log 2>&1 || {
+        cat log
+        fails "the program '$program' is not built"
+        finish
+    }
+done
+
+# ---- objects, which the program between keeps
+
+export KEPT_OF=$twire KEPT=$work/kept
+
+# suites NAME..: one after the other. What they say is compared when they run by themselves: here it is only whether they come to
+# their end. Reports that they compare in lines are asked for in objects too.
+suites() {
+    local name
+    for name; do
+        ALSO_OBJECTS=yes TWIRE=$work/keep bash "$tests/$name.sh" </dev/null >"said.$name" 2>&1
+    done
+}
+
+SUITES='' TWIRE=$work/keep bash "$tests/json.sh" </dev/null >said.json 2>&1 &
+suites lines explain &
+suites briefs boards bench &
+mkdir folder
+(cd folder && ../cases "$work/keep" "$tests/cases") >said.cases 2>&1 &
+for plan in "$examples"/*.plan "$examples"/*.brief; do
+    for words in "check --explain" "check --summary" "order --explain"; do
+        read -ra words <<<"$words"
+        ./keep "${words[@]}" "$plan" --format json --hints always
+    done
+done >said.examples 2>&1
+for dump in "$examples"/*.vcd; do
+    ./keep decode "$dump" --format json --hints always
+    ./keep decode "$dump" --format json --summary
+    ./keep signals "$dump" --format json --hints always
+done >>said.examples 2>&1
+
+# What none of these says: of a byte of a brief, of a file that is not written, of likely mistakes, of dumps, of a dump that cannot
+# be read again, and of a bus that goes on where one sends a STOP and one repeats START.
+asked() {
+    ./keep "$@" --format json --hints always >>said.examples 2>&1
+}
+heads='$var wire 1 ! scl $end $var wire 1 " sda $end $enddefinitions'
+asked expand - <<<$'brief 1\nbyte b 5 ;'
+asked print "$examples/two_writers.plan" -o nowhere/plan
+asked check - <<<$'brief 1\n# a \r device d 0x50 ;'
+asked decode - <<<"$heads"
+asked decode - <<<"${heads%%\$end*}"
+asked decode <(echo "$heads \$end #0 0! 0\" #1 1! #2 0!")
+lines on.plan "plan 1" "message m write 1001000 stop else stop ;" \
+    "message n write 1001000 again read 1001000 1 stop else stop else stop ;" "controller a m ;" "controller b n ;"
+"$top/tools/dump" 100100000000000010 >on.vcd
+asked capture on.plan on.vcd --explain
+wait
+for name in json lines explain briefs boards bench cases; do
+    tail -n 1 "said.$name" | grep -qE '^[0-9]+( passed, [0-9]+ failed)?$'
+    held "it did not run to its end: $name" "said.$name"
+done
+
+# ---- the schema
+
+python3 -B "$tests/objects/schema.py" "$top/docs/objects.schema.json" kept >said 2>&1
+count said
+
+finish
