@@ -161,9 +161,9 @@ fn hint(desk: &mut Desk, setup: Setup, name: &str, lines: &str, out: &str) -> io
     Ok(judged(name, refused(&refusal_of(lines), out), &said, !said.told.is_sound() || said.told.refused))
 }
 
-// Read once more, the file gives no error.
+// What the system said of the read that failed: no further one is made.
 fn hint_on_a_read(desk: &mut Desk) -> io::Result<Option<Disagreement>> {
-    let lines = "refused read\nhint: PLAN, the plan \"plan\", gave an error in reading, or has no end\n";
+    let lines = "refused read\nhint: PLAN, the plan \"plan\", cannot be read to its end:\nhint: Input/output error (os error 5)\n";
     hint(desk, Setup { fail_at: [2, 0], ..Setup::WHOLE }, "a hint on a read that fails", lines, "")
 }
 
