@@ -34,7 +34,7 @@ suite() {
 }
 
 # (tests/schema.sh runs none of them here)
-for name in ${SUITES-check certificates briefs boards captures decode signals bench explain}; do
+for name in ${JSON_SUITES-check certificates briefs boards captures decode signals bench explain}; do
     suite "$name"
 done
 

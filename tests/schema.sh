@@ -1,7 +1,7 @@
 #!/usr/bin/env bash
-# Holds what twire writes with --format json against docs/objects.schema.json: what is asked for by tests/json.sh and by some other
-# suites, by the cases in tests/cases and over the examples, on standard output and on standard error. Each kind is met, and each
-# field and each word of a list. Objects that are wrong are refused.
+# Holds what twire writes with --format json against docs/objects.schema.json: what is asked for by tests/json.sh and by
+# some other suites, by the cases in tests/cases and over the examples, on standard output and on standard error. Each
+# kind is met, and each field and each word of a list. Objects that are wrong are refused.
 source "$(dirname -- "$(readlink -f -- "${BASH_SOURCE[0]}")")/suite.bash" || exit 1
 
 if ! python3 -c 'from jsonschema import Draft202012Validator' 2>/dev/null; then
@@ -30,7 +30,7 @@ suites() {
     done
 }
 
-SUITES='' TWIRE=$work/keep bash "$tests/json.sh" </dev/null >said.json 2>&1 &
+JSON_SUITES='' TWIRE=$work/keep bash "$tests/json.sh" </dev/null >said.json 2>&1 &
 suites lines explain &
 suites briefs boards bench &
 mkdir folder
