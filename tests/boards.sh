@@ -241,7 +241,7 @@ want 2 "" "refused P2 line 1 of board.plan
 hint: line 1 of the brief \"board.plan\":
 hint:   plan 2
 hint:   ^^^^
-hint: a brief begins with 'brief 1'
+hint: a brief begins with 'brief 1' or 'brief 2'
 hint: this is a plan, and none of several files may be one"
 run "hints on a plan among several files" check devices.brief --with board.plan --hints always
 # Starters have the labels of the plan, and hints know those of the briefs.

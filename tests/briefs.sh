@@ -130,7 +130,8 @@ refused() {
 refused P1 2 "brief 1" "# caf$(printf '\303\251')"
 refused P1 1 "brief 1 message m write$(printf '\303\251')"
 refused P2 1 "plan 1"
-refused P2 1 "brief 2"
+refused P2 1 "brief 3"
+refused P2 1 "brief 2."
 refused P2 1 "brief 1."
 refused P2 1 "brief 01"
 refused P2 2 "brief"
@@ -351,7 +352,7 @@ want 2 "" "refused P2 line 1
 hint: line 1 of the brief:
 hint:   plan 2
 hint:   ^^^^
-hint: a brief begins with 'brief 1'
+hint: a brief begins with 'brief 1' or 'brief 2'
 hint: this is a plan: commands that read a plan take it as it is"
 run "hints on a plan in the place of a brief" expand board.plan --hints always
 lines named.plan "plan 1" "controller byte ;"
@@ -410,12 +411,12 @@ hint:   device eeprom 0x51 ;
 hint:          ^^^^^^
 hint: an earlier device has this name, on line 2"
 run "a brief that is refused" check wrong.brief --hints always
-lines wrong.brief "brief 2"
+lines wrong.brief "brief 3"
 want 2 "" "refused P2 line 1
 hint: line 1 of the brief:
-hint:   brief 2
+hint:   brief 3
 hint:         ^
-hint: a brief begins with 'brief 1'"
+hint: a brief begins with 'brief 1' or 'brief 2'"
 run "a brief with a wrong head" check wrong.brief --hints always
 lines wrong.brief "board 1"
 want 2 "" "refused P2 line 1"
@@ -431,6 +432,76 @@ hint: counts or 'never'
 hint: this is a brief: 'twire expand' writes the plan that it means"
 { echo "# a comment" && echo "brief 1"; } >wrong.brief
 run "brief takes plans alone" brief wrong.brief --hints always
+
+# ---- The second version. The codes are those of an independent program: F8 of B0 21 00 18, C8 and CF of 20 18 and 2C 04 01.
+
+cat >power.brief <<'END'
+# 12 V, 85 °C at most
+brief 2
+device psu 0x58 ; device bmc 0x10 ;  # "µ
+message limit write psu 0x21 0x00 0x18 pec ;
+message id    write bmc 0x18 sum wr(0x16) 0x04 0x01 sum ;
+controller host limit ;
+controller sp id ;
+END
+plan="plan 1
+message limit write 1011000 00100001 00000000 00011000 11111000 stop else stop else stop else stop else stop else stop ;
+message id write 0010000 00011000 11001000 00101100 00000100 00000001 11001111 stop else stop else stop else stop else stop else stop else stop else stop ;
+controller host limit ;
+controller sp id ;"
+printf '%s\n' "$plan" >power.plan
+want 0 "$plan" ""
+run "a brief 2 expanded" expand power.brief
+run "a brief 2 printed" print power.brief
+run "a brief 2 from standard input expanded" expand - <power.brief
+expect "a brief 2 checked" 0 "safe: 1 pairs" "" check power.brief
+expect "the brief of its plan is a brief 1" 0 "brief 1
+message limit write 0x58 0x21 0x00 0x18 0xF8 ;
+message id write 0x10 0x18 0xC8 0x2C 0x04 0x01 0xCF ;
+controller host limit ;
+controller sp id ;" "" brief power.plan
+expect "a brief 2 laid out" 0 "$(cat power.brief)" "" format power.brief
+expect "its words laid out" 0 "brief 2
+message m write 0x10 wr(0x16) rd(0x16) pec sum ;  # µ" "" format - <<<'brief 2
+message m write 0x10 wr ( 0x16 )rd( 0x16) pec sum;# µ'
+expect "objects of a brief 2" 0 '{"kind":"plan","safe":true,"pairs":1,"unsafe_pairs":0}' "" check power.brief --format json
+printf 'brief 1\ncontroller third limit ;\nnever third/limit host ;\n' >third.brief
+expect "a brief 1 beside a brief 2" 0 "safe: 2 pairs" "" check power.brief --with third.brief
+expect "a plan behind a brief 2" 2 "" "refused P2 line 1 of power.plan" expand power.brief power.plan
+"$top/tools/dump" 101100000001000010000000000000110000111110000 >limit.vcd
+expect "a code as it was recorded" 0 "$(printf '%s\n' "5-700 host/limit" "1 transactions, 0 unexplained")" "" capture power.brief limit.vcd
+"$top/tools/dump" 101100000001000010000000000000110000111110010 >wrong.vcd
+expect "a wrong code as it was recorded" 1 "$(printf '%s\n' "5-700 unexplained" "1 transactions, 1 unexplained")" "" \
+    capture power.brief wrong.vcd
+call learn wrong.vcd --names power.brief
+[[ $status == 0 && $(head -n 1 out) == "brief 1" ]] && grep -q '^message .* write psu 0x21 0x00 0x18 0xf9 ;$' out
+held "what is learned beside a brief 2 is a brief 1" out err
+printf 'brief 2\ndevice idle 0x20 ;\ndevice psu 0x58 ;\nmessage m write 0x10 rd(psu) ;\ncontroller a m ;\n' >unused.brief
+call check unused.brief --hints always
+[[ $status == 0 ]] && grep -q 'unused.brief:2: ' err && ! grep -q 'unused.brief:3: ' err
+held "a device that 'rd' names is used" out err
+
+# shown LINE COLUMN REASON TEXT: the first line of the messages on a brief 2 that is refused.
+shown() {
+    printf 'brief 2\n%s\n' "$4" >this.brief
+    same "a message on: $4" "this.brief:$1:$2: error: $3" "$("$twire" check this.brief --format gcc 2>&1 | head -n 1)"
+}
+
+shown 2 30 "expected here: '(' [P3]" "message m write 0x10 0x11 wr 0x12 ;"
+shown 2 34 "expected here: ')' [P3]" "message m write 0x10 0x11 wr(0x12*2 ;"
+shown 2 9 "a brief is ASCII, but for the comments of a 'brief 2' [P1]" "message °"
+for word in with group extend but wr rd pec sum; do
+    lines this.brief "brief 2" "controller" "$word ;"
+    want 2 "" "refused P3 line 3
+hint: line 3 of the brief:
+hint:   $word ;
+hint:   ${word//?/^}
+hint: '$word' is a word of every 'brief 2', and cannot be a name there
+hint: expected here: a name (a letter, then letters, digits and '_', 32 at most)"
+    run "a name that is the word $word" check this.brief --hints always
+    want_plan "in a brief 1 the name $word" "plan 1
+controller $word ;" "controller $word ;"
+done
 
 # ---- Help.
 

@@ -361,7 +361,7 @@ hint:   cert 1
 hint:   ^^^^
 hint: a plan begins with 'plan 1', or with 'plan 2' where it has ranges of
 hint: counts or 'never'
-hint: a brief begins with 'brief 1'
+hint: a brief begins with 'brief 1' or 'brief 2'
 hint: this is a certificate: 'twire verify PLAN CERT' takes it after its plan"
 run "hints on a certificate in the place of a plan" check safe.cert --hints always
 gzip -c safe.plan >safe.plan.gz

@@ -67,7 +67,7 @@ run_blocks docs/PLANS.md
 
 # ---- the table of data-sheet transactions
 
-sed -n '/^```brief/,/^```/p' "$top/docs/GUIDE.md" | sed -n '/^brief 1/,/^```/p' | sed '/^```/,$d' >devices
+sed -n '/^```brief/,/^```/p' "$top/docs/GUIDE.md" | sed -n '/^brief 2/,/^```/p' | sed '/^```/,$d' >devices
 # (a family is many messages, of several lengths: the text leaves it out)
 grep -o '`message [^`]*;`' "$top/docs/GUIDE.md" | tr -d '`' | grep -v '[*][0-9]*[.][.]' >recipes
 names=$(awk '{ printf " %s", $2 }' recipes)
@@ -89,8 +89,8 @@ same "the family in the table" "32" "$({ cat devices && grep -o '`message pages 
 twire expand all.brief -o all.plan
 same "all lines of the table together" "$(printf '%s\n' 'a/get10 b/put10:' 'a/page b/random:' 'a/put10 b/get10:' 'a/random b/page:')" \
     "$(twire check all.plan | awk '/^pair/ { print $3, $4 }' | sort)"
-same "how many pairs they have" "unsafe: 4 of 289 pairs" "$(twire check all.plan | tail -n 1)"
-same "the text says so" 1 "$(tr '\n' ' ' <"$top/docs/GUIDE.md" | grep -c 'four of 289 pairs are unsafe')"
+same "how many pairs they have" "unsafe: 4 of 324 pairs" "$(twire check all.plan | tail -n 1)"
+same "the text says so" 1 "$(tr '\n' ' ' <"$top/docs/GUIDE.md" | grep -c 'four of 324 pairs are unsafe')"
 
 # ---- links
 

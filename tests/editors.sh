@@ -1,6 +1,6 @@
 #!/usr/bin/env bash
-# Editors: Neovim over `twire lsp`, and what tools/editors has for vim and for TextMate, over the examples. What is not
-# installed is passed over.
+# Editors: Neovim over `twire lsp`, and what tools/editors has for vim and for TextMate, over the examples and a brief of the
+# second version. What is not installed is passed over.
 source "$(dirname -- "$(readlink -f -- "${BASH_SOURCE[0]}")")/suite.bash" || exit 1
 
 export PYTHONDONTWRITEBYTECODE=1

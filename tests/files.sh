@@ -204,7 +204,7 @@ hint:   board 1
 hint:   ^^^^^
 hint: a plan begins with 'plan 1', or with 'plan 2' where it has ranges of
 hint: counts or 'never'
-hint: a brief begins with 'brief 1'"
+hint: a brief begins with 'brief 1' or 'brief 2'"
 { cat vcd && echo '?'; } >changing
 line=$(wc -l <changing)
 refused_then end_nothing capture plan changing --hints always

@@ -114,12 +114,23 @@ laid "a name of 33 characters" "brief 1\ndevice a  0x48 ;\ndevice g$n32 0x49 ;" 
 laid "columns in a plan" 'plan 1\nmessage a  write 1001000 stop else stop ;\nmessage bb write 1001001 stop else stop ;' \
     'plan 1\nmessage a  write 1001000 stop else stop ;\nmessage bb write 1001001 stop else stop ;\n'
 
+# ---- the second version of briefs
+
+laid "comments of any bytes" '# 85 \0302\0260C\nbrief 2# \0377\0200 \t\ndevice a 0x48 ;#\0302\0265s' \
+    '# 85 \0302\0260C\nbrief 2          # \0377\0200\ndevice a 0x48 ;  #\0302\0265s\n'
+laid "strings" 'brief 2\nwith   "a # ; b"; with"c"#"\n"" "~"' 'brief 2\nwith "a # ; b" ; with "c"  #"\n  "" "~"\n'
+laid "groups, and what adds to controllers" 'brief 2\ngroup psu  a b ;\ngroup fan c;\ngroup long d ;\nextend bmc  m ;\nextend a n ;' \
+    'brief 2\ngroup psu  a b ;\ngroup fan  c ;\ngroup long d ;\nextend bmc m ;\nextend a   n ;\n'
+laid "headers as data bytes" 'brief 2\nmessage m write 0x48 wr ( a ) rd(a)any  but 0x01 0x02..0x04 pec sum ;' \
+    'brief 2\nmessage m write 0x48 wr(a) rd(a) any but 0x01 0x02..0x04 pec sum ;\n'
+laid "a string is a word" 'brief 2\nx "y"  "z" ;\nx "yy" z ;' 'brief 2\nx "y"  "z" ;\nx "yy" z ;\n'
+
 # ---- refusals
 
 refused "nothing" '' 'refused P2 line 1'
 refused "comments alone" '# a\n# b\n' 'refused P2 line 3'
 refused "another version" '\nplan 3' 'refused P2 line 2'
-refused "another version of briefs" '\nbrief 2' 'refused P2 line 2'
+refused "another version of briefs" '\nbrief 3' 'refused P2 line 2'
 refused "no version" 'brief' 'refused P2 line 1'
 refused "neither" 'device a 0x48 ;' 'refused P2 line 1'
 refused "a character" 'brief 1\ndevice a 0x48 ;\n@' 'refused P3 line 3'
@@ -129,6 +140,13 @@ refused "a star in a plan" 'plan 2\n*' 'refused P3 line 2'
 refused "a byte" 'brief 1\n\0303\0251' 'refused P1 line 2'
 refused "a byte in a comment" 'brief 1\n\n# \0303\0251\n@' 'refused P1 line 3'
 refused "a byte in a comment before the head" '# \0303\0251\nplan 1' 'refused P1 line 1'
+refused "a byte in a comment before another head" '# \0303\0251\nbrief 1' 'refused P1 line 1'
+refused "a byte in a brief 2" 'brief 2 # \0303\0251\n\0303\0251' 'refused P1 line 2'
+refused "a quote in a brief 1" 'brief 1\n"a"' 'refused P3 line 2'
+refused "a quote in the place of the version" 'brief "2"' 'refused P3 line 1'
+refused "a string that does not end on its line" 'brief 2\n"a\n"' 'refused P3 line 2'
+refused "a string with a backslash" 'brief 2\n\n"\\"' 'refused P3 line 3'
+refused "a string with a byte" 'brief 2 "\0303\0251"' 'refused P3 line 1'
 refused "the first of both" 'brief 1\n@ \0303\0251' 'refused P3 line 2'
 
 # As the readers refuse these, with the same hints.

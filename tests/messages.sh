@@ -48,6 +48,12 @@ first:2:8: note: it stands here already" check first --with second
 printf 'brief 1\nmessage get read 0x48 1 ;\nmessage set write 0x48 any ;\ncontroller c gets ;\n' >text
 told "the nearest names on one line" 2 "" \
     "text:4:14: error: 'gets': no message before this place has this name; the nearest names of messages: get, set [P8]" check text
+printf 'brief 1\nmessage a write 0x48 ;\ncontroller main b ;\nmessage b write 0x48 ;\nnever 1st/a main ;\n' >text
+told "the label of what is no controller belongs to no name before it" 2 "" \
+    "text:3:17: error: 'b': the message stands below, on line 4: messages come before what names them [P8]" check text
+printf 'brief 1\nmessage a write 0x48 ;\ncontroller main fan ;\nmessage 2nd write fan ;\n' >text
+told "what a message names is not its name" 2 "" \
+    "text:3:17: error: 'fan': no message before this place has this name; the nearest names of messages: a [P8]" check text
 
 # ---- refusals without a place in such a text
 

@@ -3,9 +3,10 @@
 # on these cases and on 25,000 that are changed. It says how many runs each file had in each way. It also fails where cases or
 # runs were lost: their numbers stand in tests/trials/expected.txt.
 #
-#     tests/trials.sh [CHANGED [SEED [SEVERAL]]]
+#     tests/trials.sh [CHANGED [SEED [SEVERAL [BOARDS]]]]
 #
-# says how many cases are changed, a tenth as many plans made up, from which seed, and how many briefs are cut into files.
+# says how many cases are changed, a tenth as many plans made up, from which seed, how many briefs are cut into files, and how
+# many boards of the second version of briefs are made up.
 #
 # It runs the program crates/calls too, or the one that CALLS names. Memory can be refused where both programs are proved; of a
 # trial build, which takes many times as long, it makes one run of forty. 'rt ci' makes crates/calls; where it is not there, or

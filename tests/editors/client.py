@@ -270,7 +270,7 @@ want('a safe brief', [], server.open(BRIEF, SAFE))
 REFUSED = [
     ('P1', SAFE + '# \u00e9\n', [7, 2, 7, 3]),
     ('P1', SAFE + '# \U0001f600 \u00e9\n', [7, 2, 7, 4]),
-    ('P2', 'brief 2\n', [0, 6, 0, 7]),
+    ('P2', 'brief 3\n', [0, 6, 0, 7]),
     ('P2', '', [0, 0, 0, 0]),
     ('P3', SAFE + 'device 5 0x50 ;\n', [7, 7, 7, 8]),
     ('P4', SAFE + 'message long read eeprom 256 ;\n', [7, 25, 7, 28]),
@@ -292,6 +292,27 @@ want('lines that end with both', [['P8', 1, 7, 21, 7, 24]],
      places(server.change(BRIEF, (SAFE + 'controller third set put ;\n').replace('\n', '\r\n'))))
 want('lines that end with a carriage return', [['P8', 1, 7, 21, 7, 24]],
      places(server.change(BRIEF, (SAFE + 'controller third set put ;\n').replace('\n', '\r'))))
+
+# the second version, with comments of any characters
+CODES = '''brief 2  # \U0001f321 85 \u00b0C
+device psu 0x58 ;
+message limit write psu 0x21 0x00 0x18 pec ;
+controller bmc limit ;
+'''
+for code, line, span in [
+    ('P1', 'message \u00b0', [4, 8, 4, 9]),
+    ('P3', '"a" ;', [4, 0, 4, 3]),
+    ('P3', 'group g psu ;', [4, 0, 4, 5]),
+    ('P3', 'controller sum ;', [4, 11, 4, 14]),
+    ('P3', 'message m write psu pec*2 ;', [4, 23, 4, 24]),
+    ('P3', 'message m write psu wr psu ;', [4, 23, 4, 26]),
+    ('P8', 'message m write psu wr(none) ;', [4, 23, 4, 27]),
+]:
+    want(f'the second version: {code} of {line}', [[code, 1, *span]], places(server.change(BRIEF, CODES + line + '\n')))
+want('the second version', [], server.change(BRIEF, '# \u00b0\n' + CODES))
+want('a code in what is said of a message', True,
+     'S 58 Wr A 21 A 00 A 18 A F8 A P' in server.at('hover', BRIEF, 3, 9)['contents']['value'].replace('f8', 'F8'))
+want('mended again', [], server.change(BRIEF, SAFE))
 
 UNSAFE = '''brief 1
 device sensor 0x48 ;

@@ -1,12 +1,11 @@
-# The syntax files of tools/editors for vim, over the examples: each token of a text is in the group that docs/PLANS.md gives it.
-# The last line is 'N passed, M failed'.
-import glob
+# The syntax files of tools/editors for vim, over the examples and a brief of the second version: each token of a text is in the
+# group that docs/PLANS.md gives it. The last line is 'N passed, M failed'.
 import os
 import subprocess
 import sys
 import tempfile
 
-from grammar import tokens
+from grammar import texts, tokens
 
 top, editor = sys.argv[1:]
 passed = failed = 0
@@ -14,7 +13,7 @@ passed = failed = 0
 GROUPS = {'keyword.declaration': 'twireItem', 'keyword.operator.word': 'twireFrame', 'keyword.control': 'twireTurn',
           'constant.language': 'twireAny', 'constant.numeric.binary': 'twireBits', 'constant.numeric.hex': 'twireHex',
           'constant.numeric.decimal': 'twireNumber', 'constant.numeric.range': 'twireRange', 'variable.other': 'twireName',
-          'variable.other.label': 'twireLabel', 'comment.line.number-sign': 'twireComment',
+          'variable.other.label': 'twireLabel', 'string.quoted.double': 'twireString', 'comment.line.number-sign': 'twireComment',
           'keyword.operator.repeat': 'twireSign', 'punctuation.section': 'twireSign', 'punctuation.terminator': 'twireSign'}
 
 # Writes for each line of the text the group of each of its columns.
@@ -45,25 +44,23 @@ def found_in(path):
             return file.read().split('\n')
 
 
-def wanted_in(language, line):
+def wanted_in(language, is_second, line):
     groups = [''] * len(line)
-    for start, end, kind in tokens(language, line):
-        groups[start:end] = [GROUPS[kind]] * (end - start)
+    for start, end, kind in tokens(language, is_second, line):
+        group = 'twireSpan' if line[start:end].startswith('0x') and '..' in line[start:end] else GROUPS[kind]
+        groups[start:end] = [group] * (end - start)
     return ' '.join(groups)
 
 
-for language in ('brief', 'plan'):
-    for path in sorted(glob.glob(f'{top}/examples/*.{language}')):
-        with open(path, encoding='ascii') as file:
-            lines = file.read().split('\n')
-        wrong = [(number, line, found) for number, (line, found) in enumerate(zip(lines, found_in(path)), 1)
-                 if wanted_in(language, line) != found]
-        if wrong:
-            failed += 1
-            number, line, found = wrong[0]
-            print(f'FAILED: {os.path.basename(path)}:{number}: wanted\n{wanted_in(language, line)}\nfound\n{found}')
-        else:
-            passed += 1
+for path, language, is_second, lines in texts(top):
+    wrong = [(number, wanted, found) for number, (line, found) in enumerate(zip(lines, found_in(path)), 1)
+             if (wanted := wanted_in(language, is_second, line)) != found]
+    if wrong:
+        failed += 1
+        number, wanted, found = wrong[0]
+        print(f'FAILED: {os.path.basename(path)}:{number}: wanted\n{wanted}\nfound\n{found}')
+    else:
+        passed += 1
 
 print(f'{passed} passed, {failed} failed')
 sys.exit(1 if failed else 0)

@@ -1,6 +1,7 @@
 //! Plans and briefs that are laid out: by twire, and by the plain program. Blanks, ends of lines and comments are put into
 //! texts of the cases and into made-up ones. What is laid out is laid out once more, and means the same.
 
+use crate::boards::made_up_board;
 use crate::cases::{Asked, Case, NAMES};
 use crate::changed::readable;
 use crate::commands::Command;
@@ -21,7 +22,11 @@ pub fn try_layouts(crew: &mut Crew, score: &mut Score, cases: &[Case], seed: u64
     let numbers: Vec<u64> = (0..TEXTS).step_by(step).collect();
     let tried = crew.each(&numbers, |desk, number| {
         let mut dice = Dice { state: mixed(seed ^ 0x1a_0d, *number) };
-        let text = if dice.index(3) == 0 { seeds.case(seed, *number).first } else { seeds.brief(&mut dice) };
+        let text = match dice.index(6) {
+            0 | 1 => seeds.case(seed, *number).first,
+            2 => made_up_board(&mut dice).briefs.swap_remove(0),
+            _ => seeds.brief(&mut dice),
+        };
         compare(desk, *number, &loosened(&text, &mut dice))
     })?;
     println!("texts that are laid out: {}", tried.len());

@@ -7,6 +7,7 @@
 //! tests/trials.sh builds it and runs it; docs/TESTING.md says what it tries, tests/cases/README.md how cases are written.
 
 mod blocks;
+mod boards;
 mod cases;
 mod changed;
 mod commands;
@@ -38,11 +39,13 @@ mod safe_plans;
 mod seeds;
 mod setups;
 mod several;
+mod slips;
 mod tallies;
 mod texts;
 mod unreadable;
 mod values;
 mod vectors;
+mod versions;
 mod waves;
 mod ways;
 mod words;
@@ -67,6 +70,7 @@ use std::io;
 use std::path::PathBuf;
 use std::process::ExitCode;
 use vectors::try_vectors;
+use versions::try_versions;
 use waves::try_waves;
 use ways::Way;
 
@@ -78,6 +82,7 @@ struct Orders {
     changed: u64,
     seed: u64,
     several: u64,
+    boards: u64,
     // whether the numbers are others than those of the suite
     is_by_hand: bool,
 }
@@ -89,6 +94,9 @@ const EACH: u64 = 10;
 
 // How many briefs are cut into several files.
 const SEVERAL: u64 = 10_000;
+
+// How many boards of the second version are made up.
+const BOARDS: u64 = 5_000;
 
 const SEED: u64 = 20_261_125;
 
@@ -112,7 +120,9 @@ fn main() -> ExitCode {
 fn orders() -> Result<Orders, Box<dyn Error>> {
     let words: Vec<String> = std::env::args().skip(1).collect();
     let [twire, calls, devices, cases, work, numbers @ ..] = words.as_slice() else {
-        return Err("usage: trials TWIRE CALLS DEVICES CASES_FOLDER WORK_FOLDER [CHANGED [SEED [SEVERAL]]]".into());
+        return Err(
+            "usage: trials TWIRE CALLS DEVICES CASES_FOLDER WORK_FOLDER [CHANGED [SEED [SEVERAL [BOARDS]]]]".into()
+        );
     };
     let number_at = |k: usize| numbers.get(k).map(|word| word.parse::<u64>()).transpose();
     Ok(Orders {
@@ -122,6 +132,7 @@ fn orders() -> Result<Orders, Box<dyn Error>> {
         changed: number_at(0)?.unwrap_or(CHANGED),
         seed: number_at(1)?.unwrap_or(SEED),
         several: number_at(2)?.unwrap_or(SEVERAL),
+        boards: number_at(3)?.unwrap_or(BOARDS),
         is_by_hand: !numbers.is_empty(),
     })
 }
@@ -147,6 +158,8 @@ fn try_all(orders: &Orders) -> Result<Score, Box<dyn Error>> {
     try_returns(&mut crew, &mut score, Lot { number: lot.number / EACH, ..lot })?;
     let briefs = Lot { number: orders.several / step as u64, ..lot };
     try_several(&mut crew, &mut score, &cases, briefs, orders.is_by_hand)?;
+    let boards = Lot { number: orders.boards / step as u64, ..lot };
+    try_versions(&mut crew, &mut score, boards, orders.is_by_hand)?;
     try_generated(&mut crew, &mut score, orders.seed, step)?;
     try_sets(&mut crew, &mut score, step)?;
     try_decodings(&mut crew, &mut score, &cases, step)?;

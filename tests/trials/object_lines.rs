@@ -176,7 +176,7 @@ fn places(fields: &mut Fields, count: usize) -> Result<(), String> {
 }
 
 // What can stand in the place of a token of a plan or a brief that is refused.
-const IN_TEXTS: [&str; 21] = [
+const IN_TEXTS: [&str; 22] = [
     "version",
     "item",
     "name",
@@ -194,6 +194,7 @@ const IN_TEXTS: [&str; 21] = [
     "known target",
     "byte",
     "times",
+    "bracket",
     "nack",
     "side",
     "further",

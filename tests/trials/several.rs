@@ -170,5 +170,17 @@ fn files_of(brief: &[u8], places: &[usize], dice: &mut Dice) -> Vec<Vec<u8>> {
     let starts = std::iter::once(0).chain(cuts.iter().copied());
     let ends = cuts.iter().copied().chain(std::iter::once(brief.len()));
     let parts = starts.zip(ends).enumerate();
-    parts.map(|(k, (start, end))| [if k == 0 { b"" } else { HEAD.as_bytes() }, &brief[start..end]].concat()).collect()
+    let head = head_of(brief);
+    parts.map(|(k, (start, end))| [if k == 0 { b"" } else { head.as_bytes() }, &brief[start..end]].concat()).collect()
+}
+
+// The head of the version that a brief is of: its first line that has something before a comment says it.
+fn head_of(brief: &[u8]) -> &'static str {
+    let lines = brief.split(|byte| *byte == b'\n').map(<[u8]>::trim_ascii);
+    let first = lines.into_iter().find(|line| !line.is_empty() && !line.starts_with(b"#"));
+    if first.is_some_and(|line| line.starts_with(b"brief 2")) {
+        "brief 2\n"
+    } else {
+        HEAD
+    }
 }

@@ -57,7 +57,7 @@ pub const PLAN_WORDS: [&str; 52] = [
 ];
 
 /// Words of briefs, and some that no brief has.
-pub const BRIEF_WORDS: [&str; 62] = [
+pub const BRIEF_WORDS: [&str; 69] = [
     "brief",
     "1",
     "2",
@@ -120,6 +120,13 @@ pub const BRIEF_WORDS: [&str; 62] = [
     "b/m",
     "m0_1",
     "never a/m0 b ;",
+    "pec",
+    "0x02..0xFF",
+    "any but 0x01",
+    "wr(d)",
+    "group g d e ;",
+    "extend a m0 ;",
+    "\"a\"",
 ];
 
 /// Words of certificates, and some that none has.

@@ -1,5 +1,5 @@
 -- Where two who read go apart or end (UM10204, 3.1.6).
-use Rattle.std.proofs.Common.{◌≡◌, ℕ, zero, suc, ◌+◌, ◌-◌, ◌*◌, ◌<◌, max, min, true, false, Some, None, slice_get, [], ◌∷◌, refl, ap, sym, subst, arith, inl, inr, ◌⊎◌}
+use Rattle.std.proofs.Common.{◌≡◌, ℕ, zero, suc, ◌+◌, ◌-◌, ◌*◌, ◌<◌, max, min, true, false, None, [], ◌∷◌, refl, ap, sym, subst, arith, inl, inr, ◌⊎◌}
 use Rattle.message_tree.specs.declared.bits.Bit.{Bit}
 use Rattle.message_tree.specs.declared.bits.Bit.TheVariants.{Zero, One}
 use Rattle.message_tree.specs.declared.counts.Count.{Count}
@@ -16,10 +16,6 @@ use Rattle.arbitration.proofs.SpanLemmas.{Between}
 use Rattle.arbitration.proofs.Meetings.{swapped, some_sent, goes_sent, parts_here, goes_after_sent, goes_heard, goes_after_heard}
 
 -- ---- one byte
-
-bit_read : (b : Bit) (k : ℕ) → slice_get (b ∷ []) k ≡ Some b → k ≡ 0
-bit_read b zero e = refl
-bit_read b (suc k) e = cc
 
 wins_bit : (b c : Bit) (k : ℕ) → WinsAt (b ∷ []) (c ∷ []) k → (k ≡ 0) × Allows b false × Allows c true
 wins_bit b c zero w =

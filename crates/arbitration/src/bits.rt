@@ -24,14 +24,14 @@ impl Choices {
     pub(crate) fn of_header(a: &Address, direction: Bit) -> Choices
         ensures { AreChoices (address_bits a.now ++ direction ∷ []) result }
     {
-        Choices::of(&header(a, direction))
+        Choices::of(&a.header(direction))
     }
 
     /// Those of a data byte (UM10204, 3.1.5).
     pub(crate) fn of_byte(p: &Pattern) -> Choices
         ensures { AreChoices (pattern_bits p.now) result }
     {
-        Choices::of(&data(p))
+        Choices::of(&p.bits())
     }
 
     fn of(bits: &[Bit; 8]) -> Choices
@@ -83,38 +83,6 @@ impl Choices {
     {
         self.zero == other.zero && self.one == other.one
     }
-}
-
-// The bits of a header.
-fn header(a: &Address, direction: Bit) -> [Bit; 8]
-    ensures { result ≡ address_bits a.now ++ direction ∷ [] }
-{
-    [
-        a.bit(0),
-        a.bit(1),
-        a.bit(2),
-        a.bit(3),
-        a.bit(4),
-        a.bit(5),
-        a.bit(6),
-        direction,
-    ]
-}
-
-// The bits of a data byte.
-fn data(p: &Pattern) -> [Bit; 8]
-    ensures { result ≡ pattern_bits p.now }
-{
-    [
-        p.bit(0),
-        p.bit(1),
-        p.bit(2),
-        p.bit(3),
-        p.bit(4),
-        p.bit(5),
-        p.bit(6),
-        p.bit(7),
-    ]
 }
 
 /// Whether two data bytes are the same.

@@ -16,28 +16,26 @@ use Rattle.cert_check.specs.declared.answers.Answered.{Answered}
 use Rattle.bus_bench.specs.declared.finishing.Played.{Played}
 use Rattle.plays.specs.Games.{Game}
 use Rattle.bus_bench.specs.Hands.{contents_in}
-use Rattle.bus_bench.specs.Opening.{IsOpened, IsOpenRefusal}
+use Rattle.bus_bench.specs.Opening.{IsOpened}
 use Rattle.bus_bench.specs.Seats as seats
 use Rattle.bus_bench.specs.Seats.{BenchName, game_of}
 use Rattle.plays.specs.Starters.{starters_refusal}
-use Rattle.run_errors.specs.declared.benches.OpenError.{OpenError}
-use Rattle.run_errors.specs.declared.benches.OpenError.TheVariants.{NoStarter, Unknown, SameController, Never, NoMemory}
+use Rattle.run_errors.specs.declared.benches.OpenError.TheVariants.{NoMemory}
 use Rattle.run_parts.specs.PlanTexts.{RefusesPlan, SpellsPlan}
 use Rattle.run_parts.specs.Devices.{Reader}
 use Rattle.run_parts.specs.Runs.{ReadsBoth, HaltsAtBoth, after_both}
-use Rattle.run_parts.specs.RunErrors.{open_error}
 use Rattle.run_parts.specs.declared.errors.RunError.{RunError}
 use Rattle.run_parts.specs.declared.errors.RunError.TheVariants as memory
 use Rattle.run_parts.specs.declared.runs.Status.{Status}
 use Rattle.bench_run.specs.Filled.{IsRehearsed}
 use Rattle.bench_run.specs.Lines.{rehearsal_lines}
-use Rattle.bench_run.specs.Outcomes.{IsRunOf, IsPlayedOf, IsRefusalOf, IsOutcomeOf, IsUnplayedOf, outcome_lines, outcome_status}
+use Rattle.bench_run.specs.Outcomes.{IsPlayedOf, IsRefusalOf, IsOutcomeOf, IsUnplayedOf, outcome_lines, outcome_status}
 use Rattle.bench_run.specs.declared.values.Outcome.{Outcome}
 use Rattle.bench_run.specs.declared.values.Outcome.TheVariants as outcome
 use Rattle.bench_run.specs.declared.values.Unplayed.{Unplayed}
 use Rattle.bench_run.specs.Rehearsals.{Rehearsed, RefusesStarters, IsNotOpened, HaltsAtBench, at_texts, at_starters}
 use Rattle.bench_run.proofs.WonLemmas.{won_below}
-use Rattle.bench_run.specs.Starters.{labels_in, AreNumbersOf, bits_in}
+use Rattle.bench_run.specs.Starters.{bits_in}
 
 abbrev made : Option Plan → List ℕ → List Bool → Game
 made plan starters answers = record { plan = contents_in plan; starters = starters; answers = answers }
@@ -47,36 +45,6 @@ game_is plan starters answers bench host ss o =
     ap (λ (p : Option Plan). made p bench.starters bench.answers) o.same_plan
     ∙ ap (λ (xs : List ℕ). made (Some plan) xs bench.answers) o.same_starters
     ∙ ap (λ (bs : List Bool). made (Some plan) starters bs) o.same_answers
-
--- the bench was opened for what the text names, and played to its end
-pub plays_out : (plan given : Plan) (text numbers slice : List ℕ) (bits : List Bool) (fill : Bool) (bench host : BenchName) (ss : List seats.Player) (played : Played) → given ≡ plan →
-    AreNumbersOf (plan_contents given) (labels_in text) numbers → slice ≡ numbers →
-    IsOpened plan slice bits bench host ss → starters_refusal (plan_contents plan) slice ≡ None →
-    IsRehearsed (game_of bench) fill played.wire.items played.won.items →
-    IsRunOf (plan_contents plan) text bits fill numbers played
-plays_out plan given text numbers slice bits fill bench host ss played same named starts opened fit rehearsed = record {
-  named = subst (λ (p : Plan). AreNumbersOf (plan_contents p) (labels_in text) numbers) same named;
-  fit = subst (λ (xs : List ℕ). starters_refusal (plan_contents plan) xs ≡ None) starts fit;
-  rehearsed =
-      subst (λ (g : Game). IsRehearsed g fill played.wire.items played.won.items)
-      (game_is plan slice bits bench host ss opened ∙ ap (λ (xs : List ℕ). made (Some plan) xs bits) starts) rehearsed;
-}
-
-due_is : (o : Option OpenError) (e : OpenError) → IsOpenRefusal o e → e ≢ NoMemory → o ≡ Some e
-due_is (Some due) e h n = ap Some (sym h)
-due_is None e h n = absurd (n h)
-
--- no bench was opened for what the text names
-pub refuses_starters : (plan : Contents) (text numbers slice : List ℕ) (e : OpenError) → AreNumbersOf plan (labels_in text) numbers → slice ≡ numbers →
-    IsOpenRefusal (starters_refusal plan slice) e → RefusesStarters plan text (open_error e)
-refuses_starters plan text numbers slice e named same h = by_case e (subst (λ (xs : List ℕ). IsOpenRefusal (starters_refusal plan xs) e) same h)
-  where
-    by_case : (d : OpenError) → IsOpenRefusal (starters_refusal plan numbers) d → RefusesStarters plan text (open_error d)
-    by_case NoMemory k = tt
-    by_case NoStarter k = (numbers, named, due_is (starters_refusal plan numbers) NoStarter k (λ e. cc))
-    by_case Unknown k = (numbers, named, due_is (starters_refusal plan numbers) Unknown k (λ e. cc))
-    by_case SameController k = (numbers, named, due_is (starters_refusal plan numbers) SameController k (λ e. cc))
-    by_case Never k = (numbers, named, due_is (starters_refusal plan numbers) Never k (λ e. cc))
 
 -- the certificate proves the plan, and the bench was played
 pub rehearses : (plan : Plan) (starters cert : List ℕ) (answers : List Bool) (fill : Bool) (it : Outcome) → IsAnswer (plan_contents plan) cert Safe →

@@ -6,11 +6,11 @@ use Rattle.brief_tokens.specs.declared.symbols.Keyword.TheVariants as keywords
 use Rattle.brief_tokens.specs.declared.symbols.Sign.TheVariants as signs
 use Rattle.brief_text.specs.declared.syntax.Lengths.{Lengths}
 use Rattle.brief_text.specs.Drafts.{Draft}
-use Rattle.brief_text.specs.Frames.{Around, Frames, next_from, refused_from, often_from, begins_data}
-use Rattle.brief_text.specs.Grammar.{SpellsData, SpellsBytes, SpellsNext, SpellsRefused}
+use Rattle.brief_text.specs.Frames.{Around, Frames, next_from, refused_from, often_from, begins_data, begins_made}
+use Rattle.brief_text.specs.Grammar.{SpellsData, SpellsMade, SpellsBytes, SpellsNext, SpellsRefused}
 use Rattle.brief_text.specs.Places.{Place}
 use Rattle.brief_tokens.specs.Tokens.{keyword, sign, Tokens, next}
-use Rattle.brief_text.specs.Trees.{Said, spelled, named, times, write_to, read_from, BriefBytes, data_byte, no_more, BriefTail, stop_here, go_on}
+use Rattle.brief_text.specs.Trees.{Said, spelled, named, times, write_to, read_from, BriefBytes, data_byte, made_byte, no_more, BriefTail, stop_here, go_on, Made, header, packet_code, checksum}
 
 abbrev pub begins_frame : Tokens → Bool
 begins_frame (next (keyword keywords.Write) line rest) = true
@@ -53,10 +53,11 @@ pub record Closed (from : Tokens) : Type 0 where
   pub no_else : begins_else from ≡ false
   pub no_star : begins_star from ≡ false
   pub no_data : begins_data from ≡ false
+  pub no_made : begins_made from ≡ false
 
 pub closed : (from : Tokens) → closes from ≡ true → Closed from
-closed (next (sign signs.Semicolon) line rest) e = record { no_frame = refl; no_else = refl; no_star = refl; no_data = refl }
-closed (next (sign signs.Close) line rest) e = record { no_frame = refl; no_else = refl; no_star = refl; no_data = refl }
+closed (next (sign signs.Semicolon) line rest) e = record { no_frame = refl; no_else = refl; no_star = refl; no_data = refl; no_made = refl }
+closed (next (sign signs.Close) line rest) e = record { no_frame = refl; no_else = refl; no_star = refl; no_data = refl; no_made = refl }
 closed from e = absurd cc
 
 -- neither an `else` nor a repetition
@@ -69,15 +70,22 @@ data_apart (spelled bits) from rest (inl s) = record { no_else = ap begins_else 
 data_apart (spelled bits) from rest (inr s) = record { no_else = ap begins_else s.0.1; no_star = ap begins_star s.0.1 }
 data_apart (named name) from rest s = record { no_else = ap begins_else s.0.0.1; no_star = ap begins_star s.0.0.1 }
 
-pub next_apart : (R : Option Lengths) (t : BriefTail) (from to : Tokens) → SpellsNext R t from to → closes to ≡ true → Apart from × (begins_data from ≡ false)
+made_apart : (made : Made) (from rest : Tokens) → SpellsMade made from rest → Apart from
+made_apart (header false to) from rest s = record { no_else = ap begins_else s.1.1; no_star = ap begins_star s.1.1 }
+made_apart (header true to) from rest s = record { no_else = ap begins_else s.1.1; no_star = ap begins_star s.1.1 }
+made_apart packet_code from rest s = record { no_else = ap begins_else s.1; no_star = ap begins_star s.1 }
+made_apart checksum from rest s = record { no_else = ap begins_else s.1; no_star = ap begins_star s.1 }
+
+pub next_apart : (R : Option Lengths) (t : BriefTail) (from to : Tokens) → SpellsNext R t from to → closes to ≡ true → Apart from × (begins_data from ≡ false) × (begins_made from ≡ false)
 next_apart R stop_here from to s e =
     let c = closed from (ap closes (sym s) ∙ e) in
-    (record { no_else = c.no_else; no_star = c.no_star }, c.no_data)
-next_apart R (go_on (write_to to refused acked)) from end s e = (record { no_else = ap begins_else s.1.1; no_star = ap begins_star s.1.1 }, ap begins_data s.1.1)
-next_apart R (go_on (read_from to count refused after)) from end s e = (record { no_else = ap begins_else s.1.1; no_star = ap begins_star s.1.1 }, ap begins_data s.1.1)
+    (record { no_else = c.no_else; no_star = c.no_star }, c.no_data, c.no_made)
+next_apart R (go_on (write_to to refused acked)) from end s e = (record { no_else = ap begins_else s.1.1; no_star = ap begins_star s.1.1 }, ap begins_data s.1.1, ap begins_made s.1.1)
+next_apart R (go_on (read_from to count refused after)) from end s e = (record { no_else = ap begins_else s.1.1; no_star = ap begins_star s.1.1 }, ap begins_data s.1.1, ap begins_made s.1.1)
 
 pub bytes_apart : (R : Option Lengths) (b : BriefBytes) (from to : Tokens) → SpellsBytes R b from to → closes to ≡ true → Apart from
 bytes_apart R (data_byte bits often refused acked) from to s e = data_apart bits from s.0 s.1
+bytes_apart R (made_byte made refused acked) from to s e = made_apart made from s.0 s.1
 bytes_apart R (no_more tail) from to s e = (next_apart R tail from to s e).0
 
 pub refused_apart : (R : Option Lengths) (t : BriefTail) (from mid : Tokens) → SpellsRefused R t from mid → begins_star mid ≡ false → begins_star from ≡ false

@@ -11,13 +11,15 @@ use Rattle.message_tree.specs.declared.bits.Pattern.{Pattern}
 use Rattle.plan_core.specs.Building.{size_refusal}
 use Rattle.plan_core.proofs.BuildingLemmas.{size_allowed, size_fits}
 use Rattle.brief_text.specs.declared.syntax.Lengths.{Lengths}
-use Rattle.brief_text.specs.Drafts.{Draft, frame_meant, bytes_meant, tail_meant, bits_said, how_often, repeated, member_meant, messages_meant}
+use Rattle.brief_text.specs.Codes.{at_start}
+use Rattle.brief_text.specs.Drafts.{Draft, frame_meant, frame_on, bytes_meant, tail_meant, bits_said, how_often, repeated, member_meant, messages_meant}
 use Rattle.brief_text.specs.Fitting.{frame_ranges, bytes_ranges, tail_ranges, often_ranges, range_count, IsWithin}
 use Rattle.brief_text.specs.Grammar.{SpellsFrame, SpellsBytes, SpellsNext, SpellsRefused, SpellsOften}
 use Rattle.brief_tokens.specs.Tokens.{Tokens}
-use Rattle.brief_text.specs.Trees.{Times, times, ranged, BriefFrame, write_to, read_from, BriefBytes, data_byte, no_more, BriefTail, stop_here, go_on}
+use Rattle.brief_text.specs.Trees.{Times, times, ranged, BriefFrame, write_to, read_from, BriefBytes, data_byte, made_byte, no_more, BriefTail, stop_here, go_on}
 use Rattle.brief_text.specs.Words.{is_range, is_countable}
 use Rattle.brief_text.proofs.PartLemmas.{repeated_nodes, repeated_bytes, most_often}
+use Rattle.brief_text.proofs.PathLemmas.{on_outline, outline_of}
 use Rattle.brief_text.proofs.TakesLemmas.{le_from}
 
 -- ---- more of the byte makes a message longer
@@ -73,6 +75,10 @@ module _ (draft : Draft) (n m : ℕ) (more : n ≤ m) where
 
     bytes_grow : (b : BriefBytes) → BytesGrow b
     bytes_grow (data_byte bits often refused acked) = repeated_grows (how_often n often) (how_often m often) (bits_said draft bits) (bytes_meant draft n acked) (bytes_meant draft m acked) (tail_meant draft n refused) (tail_meant draft m refused) (often_grows often) (bytes_grow acked) (tail_grows refused)
+    bytes_grow (made_byte made refused acked) =
+        let r = tail_grows refused in
+        let a = bytes_grow acked in
+        record { nodes_grow = omega (arith, r.nodes_grow, a.nodes_grow); bytes_grow = omega (arith, r.bytes_grow, a.bytes_grow) }
     bytes_grow (no_more tail) = tail_grows tail
 
     tail_grows : (t : BriefTail) → TailGrows t
@@ -115,6 +121,7 @@ module _ (range : Lengths) where
         in_either (often_ranges often + tail_ranges refused) (bytes_ranges acked) some
         (λ h. in_either (often_ranges often) (tail_ranges refused) h (often_range often s.0 s.2.0 s.2.1) (refused_range refused s.2.0 s.2.2.0 s.2.2.1))
         (bytes_range acked s.2.2.0 to s.2.2.2)
+    bytes_range (made_byte made refused acked) from to s some = in_either (tail_ranges refused) (bytes_ranges acked) some (refused_range refused s.0 s.2.0 s.2.1) (bytes_range acked s.2.0 to s.2.2)
     bytes_range (no_more tail) from to s some = next_range tail from to s some
 
     next_range : (t : BriefTail) (from to : Tokens) → SpellsNext R t from to → 1 ≤ tail_ranges t → IsRange
@@ -131,15 +138,15 @@ members_within : (draft : Draft) (name : List ℕ) (f : BriefFrame) (range : Len
 members_within draft name f range e k d below =
     let short : k < suc range.greatest - range.least = subst (λ l. k < l) (length-map-range_with_len (member_meant draft name f) range.least (suc range.greatest - range.least)) below in
     let is = get_or-map-range_with_len (member_meant draft name f) range.least (suc range.greatest - range.least) k (range.least + k) d short refl in
-    subst IsWithin (sym is) (size_grows draft (range.least + k) range.greatest (omega (arith, short)) f e)
+    subst IsWithin (sym is) (on_outline draft (range.least + k) f (size_grows draft (range.least + k) range.greatest (omega (arith, short)) f e))
 
 pub each_within : (draft : Draft) (name : List ℕ) (range : Option Lengths) (f : BriefFrame) → size_refusal (frame_meant draft (most_often range) f) ≡ None → All IsWithin (messages_meant draft name range f)
-each_within draft name None f e zero d below = e
+each_within draft name None f e zero d below = on_outline draft 1 f e
 each_within draft name None f e (suc k) d below = absurd (omega arith)
 each_within draft name (Some range) f e k d below = members_within draft name f range e k d below
 
 pub longest_within : (draft : Draft) (name : List ℕ) (range : Option Lengths) (f : BriefFrame) (from to : Tokens) → SpellsFrame range f from to → frame_ranges f ≡ range_count range → All IsWithin (messages_meant draft name range f) → size_refusal (frame_meant draft (most_often range) f) ≡ None
-longest_within draft name None f from to s one each = each 0 (name, frame_meant draft 1 f) (omega arith)
+longest_within draft name None f from to s one each = outline_of draft 1 f (each 0 (name, frame_on draft 1 f at_start) (omega arith))
 longest_within draft name (Some range) f from to s one each =
     let is = frame_range range f from to s (omega (arith, one)) in
     let ordered : range.least ≤ range.greatest = le_from range.least range.greatest (and_parts (is_countable range.greatest) (nat_le range.least range.greatest) is).1 in
@@ -148,4 +155,4 @@ longest_within draft name (Some range) f from to s one each =
     let short : k < count = omega (arith, ordered) in
     let d : List ℕ × FrameTree = member_meant draft name f 0 in
     let at = get_or-map-range_with_len (member_meant draft name f) range.least count k range.greatest d short (omega (arith, ordered)) in
-    subst IsWithin at (each k d (subst (λ l. k < l) (sym (length-map-range_with_len (member_meant draft name f) range.least count)) short))
+    outline_of draft range.greatest f (subst IsWithin at (each k d (subst (λ l. k < l) (sym (length-map-range_with_len (member_meant draft name f) range.least count)) short)))

@@ -7,6 +7,7 @@ use Rattle.plan_core.specs.Building.{interrupt_refusal}
 use Rattle.plan_core.specs.declared.limits.TheConstants.{MOST_BYTES, MOST_NODES}
 use Rattle.plan_core.proofs.BuildingLemmas.{size_allowed}
 use Rattle.plan_text.specs.Reader.{◌>>=◌}
+use Rattle.lexer.specs.declared.lexemes.Letters.{Letters}
 use Rattle.brief_tokens.specs.declared.symbols.Keyword.TheVariants as keywords
 use Rattle.brief_tokens.specs.declared.symbols.Sign.TheVariants as signs
 use Rattle.brief_text.specs.declared.syntax.Lengths.{Lengths}
@@ -53,17 +54,17 @@ known_is None e = absurd cc
 -- ---- items
 
 -- an item is read again, whatever the messages before it had
-pub record ItemAgain (draft : Draft) (item : BriefItem) (nodes : ℕ) (p : Option Lengths) (from to : Tokens) : Type 0 where
+pub record ItemAgain (l : Letters) (draft : Draft) (item : BriefItem) (nodes : ℕ) (p : Option Lengths) (from to : Tokens) : Type 0 where
   pub later : ℕ
   pub range : Option Lengths
-  pub is : item_at draft (spot from nodes p) ≡ Ok (item, spot to later range)
+  pub is : item_at l draft (spot from nodes p) ≡ Ok (item, spot to later range)
 
-module _ (draft : Draft) (nodes : ℕ) (p : Option Lengths) (from to : Tokens) where
-  message_again : (name : List ℕ) (range : Option Lengths) (f : BriefFrame) → MessageFits draft name range f → SpellsItem (message name range f) from to → ItemAgain draft (message name range f) nodes p from to
+module _ (l : Letters) (draft : Draft) (nodes : ℕ) (p : Option Lengths) (from to : Tokens) where
+  message_again : (name : List ℕ) (range : Option Lengths) (f : BriefFrame) → MessageFits draft name range f → SpellsItem l (message name range f) from to → ItemAgain l draft (message name range f) nodes p from to
   unfolding item_at message_at
   message_again name range f fits s =
       let g : Around = record { draft = draft; name = name } in
-      let start = token_again nodes p item_in (keyword keywords.Message) message_at from s.0 s.1 refl in
+      let start = token_again nodes p (item_in l) (keyword keywords.Message) message_at from s.0 s.1 refl in
       let named = name_again nodes p (message_refusal_of draft) name s.0 s.2.0 s.2.1 fits.new in
       let sized = size_allowed (frame_meant draft (most_often range) f) (longest_within draft name range f s.2.0 s.2.2.0 s.2.2.1 fits.ranges fits.each) in
       let nodes_now : ℕ = 0 + 1 * frame_nodes (frame_meant draft (most_often range) f) in
@@ -80,31 +81,31 @@ module _ (draft : Draft) (nodes : ℕ) (p : Option Lengths) (from to : Tokens) w
           → message_end name (frames_at (record { draft = draft; name = name }) MOST_BYTES 1 (spot s.2.0 0 None)) ≡ Ok (message name range f, spot to k q)
       ended q k is same = rw (is, past_again k q end_in (sign signs.Semicolon) s.2.2.0 to s.2.2.2 refl) (ap (λ (r : Option Lengths). done (message name r f, spot to k q)) same)
 
-  pub item_again : (item : BriefItem) → Fits draft item → SpellsItem item from to → ItemAgain draft item nodes p from to
+  pub item_again : (item : BriefItem) → Fits draft item → SpellsItem l item from to → ItemAgain l draft item nodes p from to
   unfolding item_at device_at byte_at controller_at interrupt_at never_at
   item_again (device name address) fits s =
-      let start = token_again nodes p item_in (keyword keywords.Device) device_at from s.0 s.1 refl in
+      let start = token_again nodes p (item_in l) (keyword keywords.Device) device_at from s.0 s.1 refl in
       let named = name_again nodes p (named_refusal draft.devices) name s.0 s.2.0 s.2.1 fits in
       let said = token_again nodes p address_in (word s.2.2.1.0) address s.2.0 s.2.2.0 s.2.2.1.1 s.2.2.1.2 in
       record { later = nodes; range = p; is = rw (start, named, said, past_again nodes p end_in (sign signs.Semicolon) s.2.2.0 to s.2.2.2 refl) refl }
   item_again (byte name bits) fits s =
-      let start = token_again nodes p item_in (keyword keywords.Byte) byte_at from s.0 s.1 refl in
+      let start = token_again nodes p (item_in l) (keyword keywords.Byte) byte_at from s.0 s.1 refl in
       let named = name_again nodes p (named_refusal draft.bytes) name s.0 s.2.0 s.2.1 fits in
       let said = token_again nodes p pattern_in (word s.2.2.1.0) bits s.2.0 s.2.2.0 s.2.2.1.1 s.2.2.1.2 in
       record { later = nodes; range = p; is = rw (start, named, said, past_again nodes p end_in (sign signs.Semicolon) s.2.2.0 to s.2.2.2 refl) refl }
   item_again (message name range frame) fits s = message_again name range frame fits s
   item_again (controller name names) fits s =
-      let start = token_again nodes p item_in (keyword keywords.Controller) controller_at from s.0 s.1 refl in
+      let start = token_again nodes p (item_in l) (keyword keywords.Controller) controller_at from s.0 s.1 refl in
       let named = name_again nodes p (controller_refusal_of draft) name s.0 s.2.0 s.2.1 fits.0 in
       record { later = nodes; range = p; is = rw (start, named, names_again names draft [] nodes p s.2.0 s.2.2.0 to fits.1 s.2.2.1 s.2.2.2) refl }
   item_again (interrupt name target) fits s =
-      let start = token_again nodes p item_in (keyword keywords.Interrupt) interrupt_at from s.0 s.1 refl in
+      let start = token_again nodes p (item_in l) (keyword keywords.Interrupt) interrupt_at from s.0 s.1 refl in
       let named = name_again nodes p (interrupt_refusal draft.plan) name s.0 s.2.0 s.2.1 fits.0 in
       let said = to_again nodes p draft target s.2.0 s.2.2.0 s.2.2.1 fits.1 in
       let known = known_is (known_number 0 (address_bits (address_said draft target))) fits.2 in
       record { later = nodes; range = p; is = rw (start, named, said.1, known.1, past_again nodes p end_in (sign signs.Semicolon) s.2.2.0 to s.2.2.2 refl) refl }
   item_again (never_both first second) fits s =
-      let start = token_again nodes p item_in (keyword keywords.Never) never_at from s.0 s.1 refl in
-      let one_side = token_again nodes p side_in (word s.2.1.0) first s.0 s.2.0 s.2.1.1 s.2.1.2 in
-      let other = token_again nodes p side_in (word s.2.2.1.0) second s.2.0 s.2.2.0 s.2.2.1.1 s.2.2.1.2 in
+      let start = token_again nodes p (item_in l) (keyword keywords.Never) (never_at l) from s.0 s.1 refl in
+      let one_side = token_again nodes p (side_in l) (word s.2.1.0) first s.0 s.2.0 s.2.1.1 s.2.1.2 in
+      let other = token_again nodes p (side_in l) (word s.2.2.1.0) second s.2.0 s.2.2.0 s.2.2.1.1 s.2.2.1.2 in
       record { later = nodes; range = p; is = rw (start, one_side, fits.0, other, fits.1, past_again nodes p end_in (sign signs.Semicolon) s.2.2.0 to s.2.2.2 refl) refl }

@@ -11,6 +11,7 @@ use Rattle.plan_core.proofs.BuildingLemmas.{size_fits}
 use Rattle.plan_text.specs.Reader.{◌>>=◌, or_refused, unless_refused}
 use Rattle.plan_text.specs.declared.errors.PlanError.TheVariants.{Unexpected}
 use Rattle.plan_text.proofs.TakesLemmas.{bind_ok, or_ok, ok_is}
+use Rattle.lexer.specs.declared.lexemes.Letters.{Letters}
 use Rattle.brief_tokens.specs.declared.symbols.Keyword.{Keyword}
 use Rattle.brief_tokens.specs.declared.symbols.Keyword.TheVariants as keywords
 use Rattle.brief_tokens.specs.declared.symbols.Sign.TheVariants as signs
@@ -41,9 +42,9 @@ pattern_only : (t : Token) (x : Pattern) (line : ℕ) (rest : Tokens) → patter
 pattern_only (word bytes) x line rest e = (bytes, (line, refl), e)
 pattern_only t x line rest e = absurd cc
 
-side_only : (t : Token) (x : Side) (line : ℕ) (rest : Tokens) → side_in t ≡ Some x → (SpellsAs side_by x) (next t line rest) rest
-side_only (word bytes) x line rest e = (bytes, (line, refl), e)
-side_only t x line rest e = absurd cc
+side_only : (l : Letters) (t : Token) (x : Side) (line : ℕ) (rest : Tokens) → side_in l t ≡ Some x → (SpellsAs (side_by l) x) (next t line rest) rest
+side_only l (word bytes) x line rest e = (bytes, (line, refl), e)
+side_only l t x line rest e = absurd cc
 
 end_takes : (at after : Place) → past end_in at ≡ Ok after → Passed (one (sign signs.Semicolon)) at after
 end_takes = past_takes end_in (sign signs.Semicolon) end_only
@@ -81,20 +82,21 @@ names_take (next (word bytes) line rest) draft before at x e =
     }
 names_take (next (keyword k) line rest) draft before at x e = absurd cc
 names_take (next (sign s) line rest) draft before at x e = absurd cc
+names_take (next (tokens.quoted q) line rest) draft before at x e = absurd cc
 names_take (tokens.last ending line) draft before at x e = absurd cc
 
 -- ---- items
 
-pub record ItemTaken (draft : Draft) (at : Place) (x : BriefItem × Place) : Type 0 where
+pub record ItemTaken (l : Letters) (draft : Draft) (at : Place) (x : BriefItem × Place) : Type 0 where
   pub fits : Fits draft x.0
-  pub spelled : SpellsItem x.0 at.tokens x.1.tokens
+  pub spelled : SpellsItem l x.0 at.tokens x.1.tokens
   pub fewer : size x.1.tokens < size at.tokens
 
-module _ (draft : Draft) (from at : Place) (x : BriefItem × Place) where
+module _ (l : Letters) (draft : Draft) (from at : Place) (x : BriefItem × Place) where
   abbrev Starts : Keyword → Type 0
   Starts k = Passed (one (keyword k)) from at
 
-  device_takes : Starts keywords.Device → device_at draft at ≡ Ok x → ItemTaken draft from x
+  device_takes : Starts keywords.Device → device_at draft at ≡ Ok x → ItemTaken l draft from x
   unfolding device_at
   device_takes start e =
       let name = bind_ok (name_at (named_refusal draft.devices) at) (λ name. token_as address_in name.1 >>= λ address. past end_in address.2 >>= λ after. Ok (device name.0 address.0, after)) x e in
@@ -103,14 +105,14 @@ module _ (draft : Draft) (from at : Place) (x : BriefItem × Place) where
       let n = name_takes (named_refusal draft.devices) at name.0 name.1 in
       let a = spelled_takes address_in (SpellsAs address_by) address_only name.0.1 address.0 address.1 in
       let end = end_takes address.0.2 after.0 after.1 in
-      subst (ItemTaken draft from) (ok_is (device name.0.0 address.0.0, after.0) x after.2)
+      subst (ItemTaken l draft from) (ok_is (device name.0.0 address.0.0, after.0) x after.2)
       record {
         fits = n.1;
         spelled = (at.tokens, start.spelled, (name.0.1.tokens, n.0.spelled, (address.0.2.tokens, a.spelled, end.spelled)));
         fewer = omega (arith, start.fewer, n.0.fewer, a.fewer, end.fewer);
       }
 
-  byte_takes : Starts keywords.Byte → byte_at draft at ≡ Ok x → ItemTaken draft from x
+  byte_takes : Starts keywords.Byte → byte_at draft at ≡ Ok x → ItemTaken l draft from x
   unfolding byte_at
   byte_takes start e =
       let name = bind_ok (name_at (named_refusal draft.bytes) at) (λ name. token_as pattern_in name.1 >>= λ bits. past end_in bits.2 >>= λ after. Ok (byte name.0 bits.0, after)) x e in
@@ -119,21 +121,21 @@ module _ (draft : Draft) (from at : Place) (x : BriefItem × Place) where
       let n = name_takes (named_refusal draft.bytes) at name.0 name.1 in
       let b = spelled_takes pattern_in (SpellsAs data_by) pattern_only name.0.1 bits.0 bits.1 in
       let end = end_takes bits.0.2 after.0 after.1 in
-      subst (ItemTaken draft from) (ok_is (byte name.0.0 bits.0.0, after.0) x after.2)
+      subst (ItemTaken l draft from) (ok_is (byte name.0.0 bits.0.0, after.0) x after.2)
       record {
         fits = n.1;
         spelled = (at.tokens, start.spelled, (name.0.1.tokens, n.0.spelled, (bits.0.2.tokens, b.spelled, end.spelled)));
         fewer = omega (arith, start.fewer, n.0.fewer, b.fewer, end.fewer);
       }
 
-  message_takes : Starts keywords.Message → message_at draft at ≡ Ok x → ItemTaken draft from x
+  message_takes : Starts keywords.Message → message_at draft at ≡ Ok x → ItemTaken l draft from x
   unfolding message_at
   message_takes start e =
       let name = bind_ok (name_at (message_refusal_of draft) at) (λ name. frames_at (record { draft = draft; name = name.0 }) MOST_BYTES 1 (record name.1 { nodes = 0; range = None }) >>= λ frames. past end_in frames.1 >>= λ after. Ok (message name.0 after.range frames.0, after)) x e in
       by_name name.0.0 name.0.1 (name_takes (message_refusal_of draft) at name.0 name.1) name.2
     where
       by_name : (name : List ℕ) (mid : Place) → Passed (SpellsName name) at mid × (message_refusal_of draft name ≡ None)
-          → (frames_at (record { draft = draft; name = name }) MOST_BYTES 1 (record mid { nodes = 0; range = None }) >>= λ frames. past end_in frames.1 >>= λ after. Ok (message name after.range frames.0, after)) ≡ Ok x → ItemTaken draft from x
+          → (frames_at (record { draft = draft; name = name }) MOST_BYTES 1 (record mid { nodes = 0; range = None }) >>= λ frames. past end_in frames.1 >>= λ after. Ok (message name after.range frames.0, after)) ≡ Ok x → ItemTaken l draft from x
       by_name name mid n h =
           let g : Around = record { draft = draft; name = name } in
           let begin : Place = record mid { nodes = 0; range = None } in
@@ -144,8 +146,8 @@ module _ (draft : Draft) (from at : Place) (x : BriefItem × Place) where
           let f = frames_take g R MOST_BYTES 1 begin frame.0 frame.1 (agrees_self R) in
           let limit = f.part.limit (omega arith) in
           let small : frame_nodes (frame_meant draft (most_often R) frame.0.0) ≤ MOST_NODES = omega (arith, limit, f.part.count) in
-          subst (ItemTaken draft from) (ok_is (message name after.0.range frame.0.0, after.0) x after.2)
-          (subst (λ (o : Option _). ItemTaken draft from (message name o frame.0.0, after.0)) (sym end.kept.range)
+          subst (ItemTaken l draft from) (ok_is (message name after.0.range frame.0.0, after.0) x after.2)
+          (subst (λ (o : Option _). ItemTaken l draft from (message name o frame.0.0, after.0)) (sym end.kept.range)
           record {
             fits = record {
               new = n.1;
@@ -158,21 +160,21 @@ module _ (draft : Draft) (from at : Place) (x : BriefItem × Place) where
             fewer = omega (arith, start.fewer, n.0.fewer, f.part.fewer, end.fewer);
           })
 
-  controller_takes : Starts keywords.Controller → controller_at draft at ≡ Ok x → ItemTaken draft from x
+  controller_takes : Starts keywords.Controller → controller_at draft at ≡ Ok x → ItemTaken l draft from x
   unfolding controller_at
   controller_takes start e =
       let name = bind_ok (name_at (controller_refusal_of draft) at) (λ name. listed_from draft [] name.1.tokens name.1 >>= λ messages. Ok (controller name.0 messages.0, messages.1)) x e in
       let list = bind_ok (listed_from draft [] name.0.1.tokens name.0.1) (λ messages. Ok (controller name.0.0 messages.0, messages.1)) x name.2 in
       let n = name_takes (controller_refusal_of draft) at name.0 name.1 in
       let m = names_take name.0.1.tokens draft [] name.0.1 list.0 list.1 in
-      subst (ItemTaken draft from) (ap (λ (names : List (List ℕ)). (controller name.0.0 names, list.0.1)) (sym m.all) ∙ ok_is (controller name.0.0 list.0.0, list.0.1) x list.2)
+      subst (ItemTaken l draft from) (ap (λ (names : List (List ℕ)). (controller name.0.0 names, list.0.1)) (sym m.all) ∙ ok_is (controller name.0.0 list.0.0, list.0.1) x list.2)
       record {
         fits = (n.1, m.fits);
         spelled = (at.tokens, start.spelled, (name.0.1.tokens, n.0.spelled, (m.between, m.spelled, m.end)));
         fewer = omega (arith, start.fewer, n.0.fewer, m.fewer);
       }
 
-  interrupt_takes : Starts keywords.Interrupt → interrupt_at draft at ≡ Ok x → ItemTaken draft from x
+  interrupt_takes : Starts keywords.Interrupt → interrupt_at draft at ≡ Ok x → ItemTaken l draft from x
   unfolding interrupt_at
   interrupt_takes start e =
       let name = bind_ok (name_at (interrupt_refusal draft.plan) at) (λ name. to_at draft name.1 >>= λ to. or_refused (known_number 0 (address_bits (address_said draft to.0))) (Unexpected to.1) >>= λ known. past end_in to.2 >>= λ after. Ok (interrupt name.0 to.0, after)) x e in
@@ -183,31 +185,31 @@ module _ (draft : Draft) (from at : Place) (x : BriefItem × Place) where
       let a = to_takes draft name.0.1 to.0 to.1 in
       let end = end_takes to.0.2 after.0 after.1 in
       let number = or_ok (known_number 0 (address_bits (address_said draft to.0.0))) (Unexpected to.0.1) known.0 known.1 in
-      subst (ItemTaken draft from) (ok_is (interrupt name.0.0 to.0.0, after.0) x after.2)
+      subst (ItemTaken l draft from) (ok_is (interrupt name.0.0 to.0.0, after.0) x after.2)
       record {
         fits = (n.1, a.1, ap is_some number);
         spelled = (at.tokens, start.spelled, (name.0.1.tokens, n.0.spelled, (to.0.2.tokens, a.0.spelled, end.spelled)));
         fewer = omega (arith, start.fewer, n.0.fewer, a.0.fewer, end.fewer);
       }
 
-  never_takes : Starts keywords.Never → never_at draft at ≡ Ok x → ItemTaken draft from x
+  never_takes : Starts keywords.Never → never_at l draft at ≡ Ok x → ItemTaken l draft from x
   unfolding never_at
   never_takes start e =
-      let first = bind_ok (token_as side_in at) (λ first. unless_refused (first_refusal draft first.0) first.1 (with_label draft first.0) >>= λ named. token_as side_in first.2 >>= λ second. unless_refused (second_refusal named first.0 second.0) second.1 second.2 >>= λ allowed. past end_in allowed >>= λ after. Ok (never_both first.0 second.0, after)) x e in
-      by_first first.0.0 first.0.1 first.0.2 (spelled_takes side_in (SpellsAs side_by) side_only at first.0 first.1) first.2
+      let first = bind_ok (token_as (side_in l) at) (λ first. unless_refused (first_refusal draft first.0) first.1 (with_label draft first.0) >>= λ named. token_as (side_in l) first.2 >>= λ second. unless_refused (second_refusal named first.0 second.0) second.1 second.2 >>= λ allowed. past end_in allowed >>= λ after. Ok (never_both first.0 second.0, after)) x e in
+      by_first first.0.0 first.0.1 first.0.2 (spelled_takes (side_in l) (SpellsAs (side_by l)) (side_only l) at first.0 first.1) first.2
     where
-      by_first : (one_side : Side) (line : ℕ) (mid : Place) → Passed (SpellsAs side_by one_side) at mid
-          → (unless_refused (first_refusal draft one_side) line (with_label draft one_side) >>= λ named. token_as side_in mid >>= λ second. unless_refused (second_refusal named one_side second.0) second.1 second.2 >>= λ allowed. past end_in allowed >>= λ after. Ok (never_both one_side second.0, after)) ≡ Ok x → ItemTaken draft from x
+      by_first : (one_side : Side) (line : ℕ) (mid : Place) → Passed (SpellsAs (side_by l) one_side) at mid
+          → (unless_refused (first_refusal draft one_side) line (with_label draft one_side) >>= λ named. token_as (side_in l) mid >>= λ second. unless_refused (second_refusal named one_side second.0) second.1 second.2 >>= λ allowed. past end_in allowed >>= λ after. Ok (never_both one_side second.0, after)) ≡ Ok x → ItemTaken l draft from x
       by_first one_side line mid a h =
-          let named = bind_ok (unless_refused (first_refusal draft one_side) line (with_label draft one_side)) (λ named. token_as side_in mid >>= λ second. unless_refused (second_refusal named one_side second.0) second.1 second.2 >>= λ allowed. past end_in allowed >>= λ after. Ok (never_both one_side second.0, after)) x h in
+          let named = bind_ok (unless_refused (first_refusal draft one_side) line (with_label draft one_side)) (λ named. token_as (side_in l) mid >>= λ second. unless_refused (second_refusal named one_side second.0) second.1 second.2 >>= λ allowed. past end_in allowed >>= λ after. Ok (never_both one_side second.0, after)) x h in
           let free = unless_ok (first_refusal draft one_side) line (with_label draft one_side) named.0 named.1 in
-          let second = bind_ok (token_as side_in mid) (λ second. unless_refused (second_refusal named.0 one_side second.0) second.1 second.2 >>= λ allowed. past end_in allowed >>= λ after. Ok (never_both one_side second.0, after)) x named.2 in
+          let second = bind_ok (token_as (side_in l) mid) (λ second. unless_refused (second_refusal named.0 one_side second.0) second.1 second.2 >>= λ allowed. past end_in allowed >>= λ after. Ok (never_both one_side second.0, after)) x named.2 in
           let allowed = bind_ok (unless_refused (second_refusal named.0 one_side second.0.0) second.0.1 second.0.2) (λ allowed. past end_in allowed >>= λ after. Ok (never_both one_side second.0.0, after)) x second.2 in
           let open_too = unless_ok (second_refusal named.0 one_side second.0.0) second.0.1 second.0.2 allowed.0 allowed.1 in
           let after = bind_ok (past end_in allowed.0) (λ after. Ok (never_both one_side second.0.0, after)) x allowed.2 in
-          let b = spelled_takes side_in (SpellsAs side_by) side_only mid second.0 second.1 in
+          let b = spelled_takes (side_in l) (SpellsAs (side_by l)) (side_only l) mid second.0 second.1 in
           let end = end_takes second.0.2 after.0 (ap (past end_in) open_too.1 ∙ after.1) in
-          subst (ItemTaken draft from) (ok_is (never_both one_side second.0.0, after.0) x after.2)
+          subst (ItemTaken l draft from) (ok_is (never_both one_side second.0.0, after.0) x after.2)
           record {
             fits = (free.0, subst (λ (d : Draft). second_refusal d one_side second.0.0 ≡ None) (sym free.1) open_too.0);
             spelled = (at.tokens, start.spelled, (mid.tokens, a.spelled, (second.0.2.tokens, b.spelled, end.spelled)));
@@ -217,18 +219,18 @@ module _ (draft : Draft) (from at : Place) (x : BriefItem × Place) where
 same_rule : (draft : Draft) (known rule : Draft → Place → Reads BriefItem) (mid : Place) → Some known ≡ Some rule → known draft mid ≡ rule draft mid
 same_rule draft known rule mid is = let same : known ≡ rule = cc in ap (λ (r : Draft → Place → Reads BriefItem). r draft mid) same
 
-pub item_takes : (draft : Draft) (at : Place) (x : BriefItem × Place) → item_at draft at ≡ Ok x → ItemTaken draft at x
+pub item_takes : (l : Letters) (draft : Draft) (at : Place) (x : BriefItem × Place) → item_at l draft at ≡ Ok x → ItemTaken l draft at x
 unfolding item_at
-item_takes draft at x e =
-    let item = bind_ok (token_as item_in at) (λ item. item.0 draft item.2) x e in
-    let t = token_takes item_in at item.0 item.1 in
+item_takes l draft at x e =
+    let item = bind_ok (token_as (item_in l) at) (λ item. item.0 draft item.2) x e in
+    let t = token_takes (item_in l) at item.0 item.1 in
     by_token t.token item.0.0 item.0.1 item.0.2 t.known (record { spelled = (item.0.1, t.first); kept = t.kept; fewer = t.fewer }) item.2
   where
-    by_token : (token : Token) (rule : Draft → Place → Reads BriefItem) (line : ℕ) (mid : Place) → item_in token ≡ Some rule → Passed (one token) at mid → rule draft mid ≡ Ok x → ItemTaken draft at x
-    by_token (keyword keywords.Device) rule line mid is start h = device_takes draft at mid x start (same_rule draft device_at rule mid is ∙ h)
-    by_token (keyword keywords.Byte) rule line mid is start h = byte_takes draft at mid x start (same_rule draft byte_at rule mid is ∙ h)
-    by_token (keyword keywords.Message) rule line mid is start h = message_takes draft at mid x start (same_rule draft message_at rule mid is ∙ h)
-    by_token (keyword keywords.Controller) rule line mid is start h = controller_takes draft at mid x start (same_rule draft controller_at rule mid is ∙ h)
-    by_token (keyword keywords.Interrupt) rule line mid is start h = interrupt_takes draft at mid x start (same_rule draft interrupt_at rule mid is ∙ h)
-    by_token (keyword keywords.Never) rule line mid is start h = never_takes draft at mid x start (same_rule draft never_at rule mid is ∙ h)
+    by_token : (token : Token) (rule : Draft → Place → Reads BriefItem) (line : ℕ) (mid : Place) → item_in l token ≡ Some rule → Passed (one token) at mid → rule draft mid ≡ Ok x → ItemTaken l draft at x
+    by_token (keyword keywords.Device) rule line mid is start h = device_takes l draft at mid x start (same_rule draft device_at rule mid is ∙ h)
+    by_token (keyword keywords.Byte) rule line mid is start h = byte_takes l draft at mid x start (same_rule draft byte_at rule mid is ∙ h)
+    by_token (keyword keywords.Message) rule line mid is start h = message_takes l draft at mid x start (same_rule draft message_at rule mid is ∙ h)
+    by_token (keyword keywords.Controller) rule line mid is start h = controller_takes l draft at mid x start (same_rule draft controller_at rule mid is ∙ h)
+    by_token (keyword keywords.Interrupt) rule line mid is start h = interrupt_takes l draft at mid x start (same_rule draft interrupt_at rule mid is ∙ h)
+    by_token (keyword keywords.Never) rule line mid is start h = never_takes l draft at mid x start (same_rule draft (never_at l) rule mid is ∙ h)
     by_token token rule line mid is start h = absurd cc

@@ -13,6 +13,7 @@ pub mod PushLemmas
 pub mod SplitLemmas
 pub mod TakesLemmas
 pub mod PartLemmas
+pub mod PathLemmas
 pub mod FrameLemmas
 pub mod ItemTakesLemmas
 pub mod SaysLemmas

@@ -5,50 +5,48 @@ use Rattle.plan_core.specs.Contents.{Contents}
 use Rattle.lexer.specs.Lexemes.{text_end}
 use Rattle.plan_text.proofs.TakesLemmas.{bind_ok, ok_is}
 use Rattle.brief_text.specs.declared.syntax.Lengths.{Lengths}
-use Rattle.brief_tokens.specs.Heads.{after_head}
+use Rattle.lexer.specs.declared.lexemes.Letters.{Letters}
+use Rattle.brief_tokens.specs.Heads.{opened}
 use Rattle.brief_text.specs.Briefs.{is_end, items_in, text_read, brief_read, Means}
 use Rattle.brief_text.specs.Drafts.{Draft, no_items, with_item}
 use Rattle.brief_text.specs.Fitting.{MakeUp, Says}
 use Rattle.brief_text.specs.Grammar.{SpellsItem, SpellsItems}
 use Rattle.brief_text.specs.Splitting.{plan_meant}
-use Rattle.brief_tokens.specs.Tokens.{Tokens, tokens_of}
+use Rattle.brief_tokens.specs.Tokens.{Tokens}
 use Rattle.brief_tokens.specs.Tokens as tokens
 use Rattle.brief_text.specs.Trees.{BriefItem, device, byte, message, controller, interrupt, never_both}
 use Rattle.brief_text.proofs.AgainLemmas.{spot}
 use Rattle.brief_text.proofs.ItemAgainLemmas.{item_again}
 use Rattle.brief_text.proofs.ItemTakesLemmas.{item_takes}
 use Rattle.brief_text.proofs.SaysLemmas.{text_takes}
-use Rattle.brief_text.proofs.SizeLemmas.{tokens_small}
+use Rattle.brief_text.proofs.SizeLemmas.{opened_small}
 use Rattle.brief_text.proofs.ValueLemmas.{size}
 
-pub not_end : (item : BriefItem) (from to : Tokens) → SpellsItem item from to → is_end from ≡ false
-not_end (device name address) from to s = ap is_end s.1.1
-not_end (byte name bits) from to s = ap is_end s.1.1
-not_end (message name range frame) from to s = ap is_end s.1.1
-not_end (controller name messages) from to s = ap is_end s.1.1
-not_end (interrupt name target) from to s = ap is_end s.1.1
-not_end (never_both first second) from to s = ap is_end s.1.1
+pub not_end : (l : Letters) (item : BriefItem) (from to : Tokens) → SpellsItem l item from to → is_end from ≡ false
+not_end l (device name address) from to s = ap is_end s.1.1
+not_end l (byte name bits) from to s = ap is_end s.1.1
+not_end l (message name range frame) from to s = ap is_end s.1.1
+not_end l (controller name messages) from to s = ap is_end s.1.1
+not_end l (interrupt name target) from to s = ap is_end s.1.1
+not_end l (never_both first second) from to s = ap is_end s.1.1
 
 -- there may be more items than there are tokens
-items_again : (items : List BriefItem) (most : ℕ) (draft after : Draft) (nodes : ℕ) (p : Option Lengths) (from : Tokens) (line : ℕ) → SpellsItems items from (tokens.last text_end line) → MakeUp draft items after → size from < most → items_in most draft (spot from nodes p) ≡ Ok after
+items_again : (l : Letters) (items : List BriefItem) (most : ℕ) (draft after : Draft) (nodes : ℕ) (p : Option Lengths) (from : Tokens) (line : ℕ) → SpellsItems l items from (tokens.last text_end line) → MakeUp draft items after → size from < most → items_in l most draft (spot from nodes p) ≡ Ok after
 unfolding items_in
-items_again items zero draft after nodes p from line s made some = absurd (omega arith)
-items_again [] (suc most) draft after nodes p from line s made some = rw (sym s, made) refl
-items_again (item ∷ items) (suc most) draft after nodes p from line s made some =
-    let first = item_again draft nodes p from s.0 item made.0 s.1 in
-    let t = item_takes draft (spot from nodes p) (item, spot s.0 first.later first.range) first.is in
-    rw (not_end item from s.0 s.1, first.is)
-    (items_again items most (with_item draft item) after first.later first.range s.0 line s.2 made.1 (omega (arith, t.fewer)))
+items_again l items zero draft after nodes p from line s made some = absurd (omega arith)
+items_again l [] (suc most) draft after nodes p from line s made some = rw (sym s, made) refl
+items_again l (item ∷ items) (suc most) draft after nodes p from line s made some =
+    let first = item_again l draft nodes p from s.0 item made.0 s.1 in
+    let t = item_takes l draft (spot from nodes p) (item, spot s.0 first.later first.range) first.is in
+    rw (not_end l item from s.0 s.1, first.is)
+    (items_again l items most (with_item draft item) after first.later first.range s.0 line s.2 made.1 (omega (arith, t.fewer)))
 
 pub text_again : (text : List ℕ) (draft after : Draft) → Says text draft after → text_read draft text ≡ Ok after
 unfolding text_read
 text_again text draft after said =
-    let s = said.spelled.whole in
-    let small = tokens_small 1 text in
-    let first = ap size s.1.1 in
-    let second = ap size s.2.1.1 in
-    let head : after_head (tokens_of 1 text) ≡ Ok s.2.0 = rw (s.1.1, s.2.1.1) refl in
-    rw head (items_again said.items (length text) draft after 0 None s.2.0 said.spelled.line s.2.2 said.made (omega (arith, small, first, second)))
+    let s = said.spelled in
+    let small = opened_small text (s.letters, s.rest) s.head in
+    rw s.head (items_again s.letters said.items (length text) draft after 0 None s.rest s.line s.whole said.made small)
 
 pub said_meant : (text : List ℕ) (draft : Draft) → Says text no_items draft → Means text (plan_meant draft)
 unfolding brief_read

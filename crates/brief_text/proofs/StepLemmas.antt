@@ -18,11 +18,11 @@ use Rattle.brief_tokens.specs.declared.symbols.Symbol.{Symbol}
 use Rattle.brief_tokens.specs.declared.symbols.Symbol.TheVariants as symbols
 use Rattle.brief_tokens.specs.declared.symbols.Token as seen
 use Rattle.brief_text.specs.Drafts.{Draft}
-use Rattle.brief_text.specs.Frames.{Around, Frames, Bytes, counted, ends_in, count_at, repetition_in, often_by, often_from, often_at, frames_by, next_from, next_by, ends_with, else_by, refused_from, refused_by, begins_data, last_by, payload_by, frame_in, byte_in, frames_at}
+use Rattle.brief_text.specs.Frames.{Around, Frames, Bytes, Mades, Opening, counted, ends_in, count_at, repetition_in, often_by, often_from, often_at, frames_by, next_from, next_by, ends_with, else_by, refused_from, refused_by, begins_data, begins_made, opening_in, made_at, last_by, payload_by, frame_in, byte_in, made_in, frames_at}
 use Rattle.brief_text.specs.Places.{Place, Reads, Finds, token_as, to_at, data_at}
 use Rattle.brief_text.specs.Words.{Repetition, repetition_by}
-use Rattle.brief_text.specs.Trees.{Said, Times, times, BriefFrame, write_to, read_from, BriefBytes, data_byte, BriefTail, stop_here, go_on}
-use Rattle.brief_text.specs.Standing.{before, node_at, refused_at, next_at, payload_at, write_at, read_at, bytes_at}
+use Rattle.brief_text.specs.Trees.{Said, Times, times, BriefFrame, write_to, read_from, BriefBytes, data_byte, made_byte, Made, BriefTail, stop_here, go_on}
+use Rattle.brief_text.specs.Standing.{before, node_at, refused_at, next_at, payload_at, write_at, read_at, bytes_at, mades_at}
 use Rattle.brief_tokens.specs.Reading.{with_symbol, unexpected_symbol, unexpected_at}
 use Rattle.brief_tokens.specs.Tokens.{Token, word, Tokens}
 
@@ -49,6 +49,12 @@ unfolding byte_in
 bytes_used_up g zero used copies = let none : 0 - used ≡ 0 = omega arith in rw none refl
 bytes_used_up g (suc room) zero copies = let same : suc room - 0 ≡ suc room = omega arith in ap (λ n. byte_in g n 0 copies) (sym same)
 bytes_used_up g (suc room) (suc used) copies = let same : room - used ≡ suc room - suc used = omega arith in bytes_used_up g room used copies ∙ ap (λ n. byte_in g n 0 copies) same
+
+pub mades_used_up : (g : Around) (room used copies : ℕ) → made_in g room used copies ≡ made_in g (room - used) 0 copies
+unfolding made_in
+mades_used_up g zero used copies = let none : 0 - used ≡ 0 = omega arith in rw none refl
+mades_used_up g (suc room) zero copies = let same : suc room - 0 ≡ suc room = omega arith in ap (λ n. made_in g n 0 copies) (sym same)
+mades_used_up g (suc room) (suc used) copies = let same : room - used ≡ suc room - suc used = omega arith in mades_used_up g room used copies ∙ ap (λ n. made_in g n 0 copies) same
 
 -- the rest of a frame after its address
 abbrev write_rest : Around → ℕ → Said Address → ℕ × Place → Reads BriefFrame
@@ -83,11 +89,34 @@ unfolding byte_in
 byte_in_is g zero copies line bits at = refl
 byte_in_is g (suc room) copies line bits at =
     same_after (counted copies line at) _ _ (λ node. same_after (often_at g room copies node) _ _ (λ often.
-    ap (λ (frames : Frames). refused_by g.draft frames often.1 >>= λ refused. payload_by g.draft (frame_in g room often.0.1 copies) (byte_in g room often.0.1 copies) refused.1 >>= λ acked. Ok (data_byte bits often.0.0 refused.0 acked.0, acked.1)) (used_up g room often.0.1 (copies * suc often.0.1))
+    ap (λ (frames : Frames). refused_by g.draft frames often.1 >>= λ refused. payload_by g.draft (frame_in g room often.0.1 copies) (byte_in g room often.0.1 copies) (made_in g room often.0.1 copies) refused.1 >>= λ acked. Ok (data_byte bits often.0.0 refused.0 acked.0, acked.1)) (used_up g room often.0.1 (copies * suc often.0.1))
     ∙ same_after (refused_at g (room - often.0.1) (copies * suc often.0.1) often.1) _ _ (λ refused.
-    ap (λ (frames : Frames). payload_by g.draft frames (byte_in g room often.0.1 copies) refused.1 >>= λ acked. Ok (data_byte bits often.0.0 refused.0 acked.0, acked.1)) (used_up g room often.0.1 copies)
-    ∙ ap (λ (bytes : Bytes). payload_by g.draft (frame_in g (room - often.0.1) 0 copies) bytes refused.1 >>= λ acked. Ok (data_byte bits often.0.0 refused.0 acked.0, acked.1)) (bytes_used_up g room often.0.1 copies))))
+    ap (λ (frames : Frames). payload_by g.draft frames (byte_in g room often.0.1 copies) (made_in g room often.0.1 copies) refused.1 >>= λ acked. Ok (data_byte bits often.0.0 refused.0 acked.0, acked.1)) (used_up g room often.0.1 copies)
+    ∙ ap (λ (bytes : Bytes). payload_by g.draft (frame_in g (room - often.0.1) 0 copies) bytes (made_in g room often.0.1 copies) refused.1 >>= λ acked. Ok (data_byte bits often.0.0 refused.0 acked.0, acked.1)) (bytes_used_up g room often.0.1 copies)
+    ∙ ap (λ (mades : Mades). payload_by g.draft (frame_in g (room - often.0.1) 0 copies) (byte_in g (room - often.0.1) 0 copies) mades refused.1 >>= λ acked. Ok (data_byte bits often.0.0 refused.0 acked.0, acked.1)) (mades_used_up g room often.0.1 copies))))
     ∙ node_is room copies line at (byte_rest g copies bits)
+
+-- the rest of a payload after the first token of a byte that follows from others
+abbrev made_rest : Around → ℕ → Opening → ℕ × Place → Reads BriefBytes
+made_rest g copies opening node =
+    made_at g.draft opening node.1 >>= λ made. refused_at g node.0 copies made.1 >>= λ refused. payload_at g node.0 copies refused.1 >>= λ acked.
+    Ok (made_byte made.0 refused.0 acked.0, acked.1)
+
+pub made_in_is : (g : Around) (room copies line : ℕ) (opening : Opening) (at : Place) → made_in g room 0 copies opening line at ≡ (node_at room copies line at >>= made_rest g copies opening)
+unfolding made_in
+made_in_is g zero copies line opening at = refl
+made_in_is g (suc room) copies line opening at = node_is room copies line at (made_rest g copies opening)
+
+-- such bytes, once all but what follows the first of them is read
+pub mades_steps : (g : Around) (room copies : ℕ) (at p1 p2 p3 p4 : Place) (opening : Opening) (line below : ℕ) (made : Made) (refused : BriefTail) → token_as opening_in at ≡ Ok (opening, line, p1) → node_at room copies line p1 ≡ Ok (below, p2)
+    → made_at g.draft opening p2 ≡ Ok (made, p3) → (others : ℕ) → others ≡ copies → refused_at g below others p3 ≡ Ok (refused, p4)
+    → mades_at g room copies at ≡ (payload_at g below others p4 >>= λ acked. Ok (made_byte made refused acked.0, acked.1))
+mades_steps g room copies at p1 p2 p3 p4 opening line below made refused o n m others same r =
+    ap (λ (x : Finds Opening). x >>= λ found. node_at room copies found.1 found.2 >>= made_rest g copies found.0) o
+    ∙ ap (λ (x : Reads ℕ). x >>= made_rest g copies opening) n
+    ∙ ap (λ (x : Reads Made). x >>= λ made. refused_at g below copies made.1 >>= λ refused. payload_at g below copies refused.1 >>= λ acked. Ok (made_byte made.0 refused.0 acked.0, acked.1)) m
+    ∙ ap (λ (x : Reads BriefTail). x >>= λ refused. payload_at g below copies refused.1 >>= λ acked. Ok (made_byte made refused.0 acked.0, acked.1)) (subst (λ k. refused_at g below k p3 ≡ Ok (refused, p4)) same r)
+    ∙ ap (λ k. payload_at g below k p4 >>= λ acked. Ok (made_byte made refused acked.0, acked.1)) (sym same)
 
 -- data bytes, once all but what follows the last of them is read
 module _ (g : Around) (room copies more : ℕ) (often : Times) (at p1 p2 p3 p4 : Place) (bits : Said Pattern) (line first : ℕ) (refused : BriefTail) (d : data_at g.draft at ≡ Ok (bits, line, p1)) (n : node_at room copies line p1 ≡ Ok (first, p2)) where
@@ -167,6 +196,7 @@ module _ (g : Draft) (frames : Frames) (line : ℕ) (rest : Tokens) (at : Place)
   no_frame (symbols.Keyword k) a b = refl
   no_frame (symbols.Word w) a b = refl
   no_frame (symbols.Sign s) a b = refl
+  no_frame (symbols.Quoted q) a b = refl
   no_frame symbols.Stray a b = refl
   no_frame symbols.Foreign a b = refl
   no_frame symbols.End a b = refl
@@ -180,6 +210,7 @@ module _ (g : Draft) (frames : Frames) (line : ℕ) (rest : Tokens) (at : Place)
   no_else (symbols.Keyword k) a = refl
   no_else (symbols.Word w) a = refl
   no_else (symbols.Sign s) a = refl
+  no_else (symbols.Quoted q) a = refl
   no_else symbols.Stray a = refl
   no_else symbols.Foreign a = refl
   no_else symbols.End a = refl
@@ -189,6 +220,7 @@ no_star g room copies line rest at (symbols.Sign signs.Star) a = absurd (a refl)
 no_star g room copies line rest at (symbols.Sign s) a = refl
 no_star g room copies line rest at (symbols.Keyword k) a = refl
 no_star g room copies line rest at (symbols.Word w) a = refl
+no_star g room copies line rest at (symbols.Quoted q) a = refl
 no_star g room copies line rest at symbols.Stray a = refl
 no_star g room copies line rest at symbols.Foreign a = refl
 no_star g room copies line rest at symbols.End a = refl
@@ -202,6 +234,7 @@ no_data_first line rest (symbols.Keyword keywords.Any) a b = absurd (b refl)
 no_data_first line rest (symbols.Keyword k) a b = refl
 no_data_first line rest (symbols.Word w) a b = absurd (a w refl)
 no_data_first line rest (symbols.Sign s) a b = refl
+no_data_first line rest (symbols.Quoted q) a b = refl
 no_data_first line rest symbols.Stray a b = refl
 no_data_first line rest symbols.Foreign a b = refl
 no_data_first line rest symbols.End a b = refl
@@ -210,5 +243,34 @@ no_data_first line rest symbols.End a b = refl
 pub payload_data : (g : Around) (room copies : ℕ) (at : Place) → begins_data at.tokens ≡ true → payload_at g room copies at ≡ bytes_at g room copies at
 payload_data g room copies at e = rw e (same_after (data_at g.draft at) _ _ (λ found. byte_in_is g room copies found.1 found.0 found.2))
 
-pub payload_last : (g : Around) (room copies : ℕ) (at : Place) → begins_data at.tokens ≡ false → payload_at g room copies at ≡ last_by g.draft (frame_in g room 0 copies) at
-payload_last g room copies at e = rw e refl
+pub payload_made : (g : Around) (room copies : ℕ) (at : Place) → begins_data at.tokens ≡ false → begins_made at.tokens ≡ true → payload_at g room copies at ≡ mades_at g room copies at
+payload_made g room copies at e f = rw (e, f) (same_after (token_as opening_in at) _ _ (λ found. made_in_is g room copies found.1 found.0 found.2))
+
+pub payload_last : (g : Around) (room copies : ℕ) (at : Place) → begins_data at.tokens ≡ false → begins_made at.tokens ≡ false → payload_at g room copies at ≡ last_by g.draft (frame_in g room 0 copies) at
+payload_last g room copies at e f = rw (e, f) refl
+
+-- `wr`, `rd`, `pec` and `sum`
+pub data Makes (s : Symbol) : Type 0 where
+  is_wr : s ≡ symbols.Keyword keywords.Wr → Makes s
+  is_rd : s ≡ symbols.Keyword keywords.Rd → Makes s
+  is_pec : s ≡ symbols.Keyword keywords.Pec → Makes s
+  is_sum : s ≡ symbols.Keyword keywords.Sum → Makes s
+
+pub made_first : (line : ℕ) (rest : Tokens) (s : Symbol) → Makes s → (begins_data (with_symbol s line rest) ≡ false) × (begins_made (with_symbol s line rest) ≡ true)
+made_first line rest s (is_wr e) = (ap (λ (k : Symbol). begins_data (with_symbol k line rest)) e, ap (λ (k : Symbol). begins_made (with_symbol k line rest)) e)
+made_first line rest s (is_rd e) = (ap (λ (k : Symbol). begins_data (with_symbol k line rest)) e, ap (λ (k : Symbol). begins_made (with_symbol k line rest)) e)
+made_first line rest s (is_pec e) = (ap (λ (k : Symbol). begins_data (with_symbol k line rest)) e, ap (λ (k : Symbol). begins_made (with_symbol k line rest)) e)
+made_first line rest s (is_sum e) = (ap (λ (k : Symbol). begins_data (with_symbol k line rest)) e, ap (λ (k : Symbol). begins_made (with_symbol k line rest)) e)
+
+pub no_made_first : (line : ℕ) (rest : Tokens) (s : Symbol) → s ≢ symbols.Keyword keywords.Wr → s ≢ symbols.Keyword keywords.Rd → s ≢ symbols.Keyword keywords.Pec → s ≢ symbols.Keyword keywords.Sum → begins_made (with_symbol s line rest) ≡ false
+no_made_first line rest (symbols.Keyword keywords.Wr) a b c d = absurd (a refl)
+no_made_first line rest (symbols.Keyword keywords.Rd) a b c d = absurd (b refl)
+no_made_first line rest (symbols.Keyword keywords.Pec) a b c d = absurd (c refl)
+no_made_first line rest (symbols.Keyword keywords.Sum) a b c d = absurd (d refl)
+no_made_first line rest (symbols.Keyword k) a b c d = refl
+no_made_first line rest (symbols.Word w) a b c d = refl
+no_made_first line rest (symbols.Sign s) a b c d = refl
+no_made_first line rest (symbols.Quoted q) a b c d = refl
+no_made_first line rest symbols.Stray a b c d = refl
+no_made_first line rest symbols.Foreign a b c d = refl
+no_made_first line rest symbols.End a b c d = refl

@@ -10,7 +10,8 @@ use Rattle.plan_text.specs.declared.places.Refused.{Refused}
 use Rattle.plan_text.specs.declared.errors.PlanError.{PlanError}
 use Rattle.plan_text.specs.declared.errors.PlanError.TheVariants.{NoMemory}
 use Rattle.plan_text.proofs.TakesLemmas.{ok_is}
-use Rattle.brief_tokens.specs.Heads.{after_head}
+use Rattle.lexer.specs.declared.lexemes.Letters.{Letters}
+use Rattle.brief_tokens.specs.Heads.{opened}
 use Rattle.brief_text.specs.Briefs.{is_end, unexpected, items_in, text_read, brief_read, Means, IsRefused}
 use Rattle.brief_text.specs.Drafts.{Draft, no_items, with_item}
 use Rattle.brief_text.specs.Items.{item_at}
@@ -22,34 +23,34 @@ use Rattle.brief_tokens.specs.Reading.{with_symbol, with_token, unexpected_symbo
 use Rattle.brief_tokens.specs.declared.symbols.Symbol.{Symbol}
 use Rattle.brief_tokens.specs.declared.symbols.Symbol.TheVariants as symbols
 use Rattle.brief_tokens.specs.declared.symbols.Token as seen
-use Rattle.brief_tokens.specs.Tokens.{Tokens, tokens_of}
+use Rattle.brief_tokens.specs.Tokens.{Tokens}
 
-module _ (most : ℕ) (plan : Draft) (at : Place) where
+module _ (l : Letters) (most : ℕ) (plan : Draft) (at : Place) where
   abbrev with_read : BriefItem × Place → Result (Draft × Place) PlanError
   with_read read = Ok (with_item plan read.0, read.1)
 
-  then_items : (r : Reads BriefItem) → (r >>= λ item. items_in most (with_item plan item.0) item.1) ≡ ((r >>= with_read) >>= λ more. items_in most more.0 more.1)
+  then_items : (r : Reads BriefItem) → (r >>= λ item. items_in l most (with_item plan item.0) item.1) ≡ ((r >>= with_read) >>= λ more. items_in l most more.0 more.1)
   then_items (Ok x) = refl
   then_items (Err e) = refl
 
-  step : is_end at.tokens ≡ false → items_in (suc most) plan at ≡ (adds item_at plan at >>= λ more. items_in most more.0 more.1)
+  step : is_end at.tokens ≡ false → items_in l (suc most) plan at ≡ (adds (item_at l) plan at >>= λ more. items_in l most more.0 more.1)
   unfolding items_in
-  step e = rw e (then_items (item_at plan at))
+  step e = rw e (then_items (item_at l plan at))
 
-  pub items_after : (x : Draft × Place) → is_end at.tokens ≡ false → adds item_at plan at ≡ Ok x → items_in (suc most) plan at ≡ items_in most x.0 x.1
-  items_after x more e = step more ∙ ap (λ (r : Result (Draft × Place) PlanError). r >>= λ more. items_in most more.0 more.1) e
+  pub items_after : (x : Draft × Place) → is_end at.tokens ≡ false → adds (item_at l) plan at ≡ Ok x → items_in l (suc most) plan at ≡ items_in l most x.0 x.1
+  items_after x more e = step more ∙ ap (λ (r : Result (Draft × Place) PlanError). r >>= λ more. items_in l most more.0 more.1) e
 
-  pub items_end : is_end at.tokens ≡ true → items_in (suc most) plan at ≡ Ok plan
+  pub items_end : is_end at.tokens ≡ true → items_in l (suc most) plan at ≡ Ok plan
   unfolding items_in
   items_end e = rw e refl
 
-  pub items_refuse : (e : PlanError) → is_end at.tokens ≡ false → Refuses (adds item_at plan at) e → Refuses (items_in (suc most) plan at) e
+  pub items_refuse : (e : PlanError) → is_end at.tokens ≡ false → Refuses (adds (item_at l) plan at) e → Refuses (items_in l (suc most) plan at) e
   items_refuse e more (inl memory) = inl memory
-  items_refuse e more (inr h) = inr (step more ∙ ap (λ (r : Result (Draft × Place) PlanError). r >>= λ more. items_in most more.0 more.1) h)
+  items_refuse e more (inr h) = inr (step more ∙ ap (λ (r : Result (Draft × Place) PlanError). r >>= λ more. items_in l most more.0 more.1) h)
 
-pub items_none : (plan : Draft) (at : Place) → items_in 0 plan at ≡ Err (unexpected at.tokens)
+pub items_none : (l : Letters) (plan : Draft) (at : Place) → items_in l 0 plan at ≡ Err (unexpected at.tokens)
 unfolding items_in
-items_none plan at = refl
+items_none l plan at = refl
 
 pub unexpected_first : (token : seen.Token) (rest : Tokens) → unexpected (with_token token rest) ≡ unexpected_at token
 unexpected_first token rest = by_symbol token.symbol
@@ -58,25 +59,26 @@ unexpected_first token rest = by_symbol token.symbol
     by_symbol (symbols.Keyword k) = refl
     by_symbol (symbols.Word w) = refl
     by_symbol (symbols.Sign s) = refl
+    by_symbol (symbols.Quoted q) = refl
     by_symbol symbols.Stray = refl
     by_symbol symbols.Foreign = refl
     by_symbol symbols.End = refl
 
--- ---- from `brief 1` on
+-- ---- from the head on
 
 abbrev pub start : Tokens → Place
 start rest = record { tokens = rest; nodes = 0; range = None }
 
 module _ (text : List ℕ) where
   module _ (plan : Draft) where
-    abbrev from_head : Result Tokens PlanError → Result Draft PlanError
-    from_head head = head >>= λ rest. items_in (length text) plan (start rest)
+    abbrev from_head : Result (Letters × Tokens) PlanError → Result Draft PlanError
+    from_head head = head >>= λ head. items_in head.0 (length text) plan (start head.1)
 
-    pub text_from : (rest : Tokens) → after_head (tokens_of 1 text) ≡ Ok rest → text_read plan text ≡ items_in (length text) plan (start rest)
+    pub text_from : (head : Letters × Tokens) → opened text ≡ Ok head → text_read plan text ≡ items_in head.0 (length text) plan (start head.1)
     unfolding text_read
-    text_from rest e = ap from_head e
+    text_from head e = ap from_head e
 
-    pub text_refused : (e : PlanError) → after_head (tokens_of 1 text) ≡ Err e → text_read plan text ≡ Err e
+    pub text_refused : (e : PlanError) → opened text ≡ Err e → text_read plan text ≡ Err e
     unfolding text_read
     text_refused e h = ap from_head h
 

@@ -124,6 +124,7 @@ module _ (plan : Draft) (names : List (List ℕ)) (token : seen.Token) (at after
         by_case (symbols.Word w) h = by_option (name_in (word w.now)) token.line
         by_case (symbols.Sign signs.Semicolon) h = absurd (h refl)
         by_case (symbols.Sign s) h = refl
+        by_case (symbols.Quoted q) h = refl
         by_case symbols.Stray h = refl
         by_case symbols.Foreign h = refl
         by_case symbols.End h = refl

@@ -1,6 +1,6 @@
 -- What the words of addresses and data bytes spell out.
 use Rattle.std.proofs.Common.{◌≡◌, ◌≢◌, ◌⊎◌, inl, inr, ℕ, zero, suc, ◌+◌, ◌*◌, ◌/◌, ◌<◌, ◌≤◌, ◌==◌, ◌&&◌, Bool, true, false, List, [], ◌∷◌, ◌++◌, map, length, get_or, drop, Option, Some, None, is_some, IfSome, codes, slice_get, refl, ap, sym, ◌∙◌, arith}
-use Rattle.std.specs.Prelude.{if◌then◌else◌}
+use Rattle.std.specs.Prelude.{unwrap_or, if◌then◌else◌}
 use Rattle.std.specs.Int.{bit_at}
 use Rattle.std.proofs.lemmas.Bool.{and_parts, eqb-true}
 use Rattle.std.proofs.lemmas.List.{drop_more}
@@ -15,6 +15,7 @@ use Rattle.plan_text.specs.Symbols.{bit_symbol, address_word, pattern_word}
 use Rattle.plan_text.specs.Values.{address_of, pattern_of}
 use Rattle.plan_text.specs.Words.{is_pattern}
 use Rattle.plan_text.proofs.ValueLemmas.{address_found, address_none, pattern_found, pattern_none}
+use Rattle.brief_text.specs.Codes.{byte_of}
 use Rattle.brief_text.specs.Words.{digit_bits, both, hex_bits, eight_bits, seven_bits, is_base_2, is_base_16, data_by, address_by, any_byte}
 
 -- ---- two digits
@@ -163,3 +164,14 @@ rest_at bits k b at = drop_more bits k b (slice_get_within bits k b at) ∙ ap (
 pub none_after : (a : Address) (k : ℕ) → k ≡ 7 → drop k (address_bits a) ≡ []
 unfolding address_bits
 none_after a k e = ap (λ n. drop n (address_bits a)) e
+
+pub no_bits_after : (p : Pattern) (k : ℕ) → k ≡ 8 → drop k (pattern_bits p) ≡ []
+unfolding pattern_bits
+no_bits_after p k e = ap (λ n. drop n (pattern_bits p)) e
+
+-- the byte of these bits
+pub byte_is : (p : Pattern) (bits : List Bit) → pattern_bits p ≡ bits → p ≡ byte_of bits
+byte_is p bits is = sym (ap (λ o. unwrap_or o any_byte) (pattern_found (map bit_symbol bits) p (ap (map bit_symbol) is)))
+
+pub pattern_of_word : (p : Pattern) (word : List ℕ) → pattern_word p ≡ word → p ≡ unwrap_or (pattern_of word) any_byte
+pattern_of_word p word is = sym (ap (λ o. unwrap_or o any_byte) (pattern_found word p is))

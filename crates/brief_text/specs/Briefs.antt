@@ -10,8 +10,9 @@ use Rattle.brief_text.specs.Drafts.{Draft, no_items, with_item}
 use Rattle.brief_text.specs.Items.{item_at}
 use Rattle.brief_text.specs.Places.{Place}
 use Rattle.brief_text.specs.Splitting.{plan_meant}
-use Rattle.brief_tokens.specs.Heads.{after_head}
-use Rattle.brief_tokens.specs.Tokens.{Tokens, next, last, tokens_of}
+use Rattle.lexer.specs.declared.lexemes.Letters.{Letters}
+use Rattle.brief_tokens.specs.Heads.{opened}
+use Rattle.brief_tokens.specs.Tokens.{Tokens, next, last}
 
 abbrev pub is_end : Tokens → Bool
 is_end (last text_end line) = true
@@ -23,16 +24,17 @@ unexpected (next token line rest) = Unexpected line
 unexpected (last ending line) = ends_early ending line
 
 -- so many items at most, up to the end of the text
-unfoldable pub items_in : ℕ → Draft → Place → Result Draft PlanError
-items_in zero draft at = Err (unexpected at.tokens)
-items_in (suc most) draft at =
-    if is_end at.tokens then Ok draft else (item_at draft at >>= λ item. items_in most (with_item draft item.0) item.1)
+unfoldable pub items_in : Letters → ℕ → Draft → Place → Result Draft PlanError
+items_in letters zero draft at = Err (unexpected at.tokens)
+items_in letters (suc most) draft at =
+    if is_end at.tokens then Ok draft
+    else (item_at letters draft at >>= λ item. items_in letters most (with_item draft item.0) item.1)
 
 -- What the items of a text add to those of the texts before it. It has fewer items than bytes, since each has a byte.
 unfoldable pub text_read : Draft → List ℕ → Result Draft PlanError
 text_read draft text = do
-  rest ← after_head (tokens_of 1 text)
-  items_in (length text) draft (record { tokens = rest; nodes = 0; range = None })
+  head ← opened text
+  items_in head.0 (length text) draft (record { tokens = head.1; nodes = 0; range = None })
 
 -- the same of several texts, of which the first has this number; a refusal says which text it is in
 abbrev pub in_text : {A : Type 0} → ℕ → Result A PlanError → Result A (ℕ × PlanError)

@@ -14,8 +14,11 @@ use Rattle.plan_core.specs.Contents.{Contents, empty}
 use Rattle.plan_text.specs.Values.{address_by}
 use Rattle.brief_text.specs.declared.syntax.Lengths.{Lengths}
 use Rattle.brief_text.specs.Trees.{Said, spelled, named, Times, times, ranged, BriefFrame, write_to, read_from, BriefBytes}
-use Rattle.brief_text.specs.Trees.{data_byte, no_more, BriefTail, stop_here, go_on, Side, BriefItem, device, byte, message}
-use Rattle.brief_text.specs.Trees.{controller, interrupt, never_both}
+use Rattle.brief_text.specs.Trees.{data_byte, made_byte, no_more, BriefTail, stop_here, go_on, Made, header, packet_code, checksum}
+use Rattle.brief_text.specs.Trees.{Side, BriefItem, device, byte, message, controller, interrupt, never_both}
+use Rattle.brief_text.specs.Codes.{at_start, unknown, after_bits, header_bits, exactly, remaining}
+use Rattle.brief_text.specs.declared.codes.Path.{Path}
+use Rattle.std.specs.Option.{option_map}
 use Rattle.brief_text.specs.Words.{any_byte, known_number}
 
 pub record Draft : Type 0 where
@@ -73,7 +76,8 @@ members_or name None = name ∷ []
 abbrev pub stands_for : Draft → List ℕ → List (List ℕ)
 stands_for draft name = members_or name (lookup (bytes_eq name) draft.families)
 
--- ---- messages: names are looked up, repetitions are written out, and the byte of a range stands n times
+-- ---- messages: names are looked up, repetitions are written out, and the byte of a range stands n times. Here bytes that follow
+-- from others are open: it is the outline of a message, which has its size.
 
 -- so many times the same byte, each with the same after it where it is not acknowledged
 abbrev pub repeated : ℕ → Pattern → PayloadTree → TailTree → PayloadTree
@@ -94,21 +98,63 @@ abbrev mutual
   pub bytes_meant : Draft → ℕ → BriefBytes → PayloadTree
   bytes_meant draft n (data_byte bits often refused acked) =
       repeated (how_often n often) (bits_said draft bits) (bytes_meant draft n acked) (tail_meant draft n refused)
+  bytes_meant draft n (made_byte made refused acked) =
+      trees.byte any_byte (bytes_meant draft n acked) (tail_meant draft n refused)
   bytes_meant draft n (no_more tail) = last (tail_meant draft n tail)
 
   pub tail_meant : Draft → ℕ → BriefTail → TailTree
   tail_meant draft n stop_here = stop
   tail_meant draft n (go_on frame) = again (frame_meant draft n frame)
 
+-- ---- the same with the bytes that follow from others, by the path up to them
+
+-- each copy of what stands where the byte is not acknowledged is on a path of its own
+abbrev pub repeated_on : ℕ → Pattern → (Path → PayloadTree) → (Path → TailTree) → Path → PayloadTree
+repeated_on zero bits acked refused path = acked path
+repeated_on (suc n) bits acked refused path =
+    trees.byte bits (repeated_on n bits acked refused (after_bits path bits)) (refused (after_bits path bits))
+
+abbrev pub made_bits : Draft → Made → Path → Pattern
+made_bits draft (header reads to) path = header_bits reads (address_said draft to)
+made_bits draft packet_code path = exactly path.code
+made_bits draft checksum path = exactly (option_map remaining path.sum)
+
+-- after a checksum the next one begins anew
+abbrev pub after_made : Draft → Made → Path → Path
+after_made draft (header reads to) path = after_bits path (header_bits reads (address_said draft to))
+after_made draft packet_code path = after_bits path (exactly path.code)
+after_made draft checksum path = record (after_bits path (exactly (option_map remaining path.sum))) { sum = Some 0 }
+
+abbrev pub after_header : Draft → Bool → Said Address → Path → Path
+after_header draft reads to path = after_bits path (header_bits reads (address_said draft to))
+
+abbrev mutual
+  pub frame_on : Draft → ℕ → BriefFrame → Path → FrameTree
+  frame_on draft n (write_to to refused acked) path =
+      write (address_said draft to) (bytes_on draft n acked (after_header draft false to path)) (tail_on draft n refused (after_header draft false to path))
+  frame_on draft n (read_from to count refused after) path =
+      read (address_said draft to) count (tail_on draft n after unknown) (tail_on draft n refused (after_header draft true to path))
+
+  pub bytes_on : Draft → ℕ → BriefBytes → Path → PayloadTree
+  bytes_on draft n (data_byte bits often refused acked) path =
+      repeated_on (how_often n often) (bits_said draft bits) (bytes_on draft n acked) (tail_on draft n refused) path
+  bytes_on draft n (made_byte made refused acked) path =
+      trees.byte (made_bits draft made path) (bytes_on draft n acked (after_made draft made path)) (tail_on draft n refused (after_made draft made path))
+  bytes_on draft n (no_more tail) path = last (tail_on draft n tail path)
+
+  pub tail_on : Draft → ℕ → BriefTail → Path → TailTree
+  tail_on draft n stop_here path = stop
+  tail_on draft n (go_on frame) path = again (frame_on draft n frame path)
+
 abbrev pub member_meant : Draft → List ℕ → BriefFrame → ℕ → List ℕ × FrameTree
-member_meant draft name frame n = (member_name name n, frame_meant draft n frame)
+member_meant draft name frame n = (member_name name n, frame_on draft n frame at_start)
 
 abbrev pub family_meant : Draft → List ℕ → Lengths → BriefFrame → List (List ℕ × FrameTree)
 family_meant draft name range frame = map (member_meant draft name frame) (lengths range)
 
 -- the messages that a message makes: itself, or those of its family
 abbrev pub messages_meant : Draft → List ℕ → Option Lengths → BriefFrame → List (List ℕ × FrameTree)
-messages_meant draft name None frame = (name, frame_meant draft 1 frame) ∷ []
+messages_meant draft name None frame = (name, frame_on draft 1 frame at_start) ∷ []
 messages_meant draft name (Some range) frame = family_meant draft name range frame
 
 -- ---- items

@@ -1,5 +1,5 @@
 -- Which items fit what the items before them make up, and the draft that a text makes of another.
-use Rattle.std.specs.Prelude.{◌≡◌, ℕ, ◌+◌, true, All, List, [], ◌∷◌, ◌++◌, Option, Some, None, is_some, Ok}
+use Rattle.std.specs.Prelude.{◌≡◌, ℕ, ◌+◌, Bool, true, All, List, [], ◌∷◌, ◌++◌, Option, Some, None, is_some, Ok}
 use Rattle.message_tree.specs.Patterns.{address_bits}
 use Rattle.message_tree.specs.Trees.{FrameTree}
 use Rattle.plan_core.specs.Building.{size_refusal, interrupt_refusal}
@@ -9,12 +9,17 @@ use Rattle.brief_text.specs.Grammar.{Spells}
 use Rattle.brief_text.specs.Judging.{named_refusal, message_refusal_of, range_refusal, controller_refusal_of}
 use Rattle.brief_text.specs.Judging.{listing_refusal, all_of, first_refusal, second_refusal}
 use Rattle.brief_text.specs.Places.{is_known}
-use Rattle.brief_text.specs.Trees.{Times, times, ranged, BriefFrame, write_to, read_from, BriefBytes, data_byte}
-use Rattle.brief_text.specs.Trees.{no_more, BriefTail, stop_here, go_on, BriefItem, device, byte, message}
-use Rattle.brief_text.specs.Trees.{controller, interrupt, never_both}
+use Rattle.brief_text.specs.Trees.{Times, times, ranged, BriefFrame, write_to, read_from, BriefBytes, data_byte, made_byte}
+use Rattle.brief_text.specs.Trees.{no_more, BriefTail, stop_here, go_on, Made, header, packet_code, checksum, BriefItem, device}
+use Rattle.brief_text.specs.Trees.{byte, message, controller, interrupt, never_both}
 use Rattle.brief_text.specs.Words.{known_number}
 
 -- ---- messages
+
+abbrev pub knows_made : Draft → Made → Bool
+knows_made draft (header reads to) = is_known draft.devices to
+knows_made draft packet_code = true
+knows_made draft checksum = true
 
 -- each device and each byte that is named has been declared
 abbrev mutual
@@ -27,6 +32,8 @@ abbrev mutual
   pub KnowsBytes : Draft → BriefBytes → Type 0
   KnowsBytes draft (data_byte bits often refused acked) =
       (is_known draft.bytes bits ≡ true) × KnowsTail draft refused × KnowsBytes draft acked
+  KnowsBytes draft (made_byte made refused acked) =
+      (knows_made draft made ≡ true) × KnowsTail draft refused × KnowsBytes draft acked
   KnowsBytes draft (no_more tail) = KnowsTail draft tail
 
   pub KnowsTail : Draft → BriefTail → Type 0
@@ -45,6 +52,7 @@ abbrev mutual
 
   pub bytes_ranges : BriefBytes → ℕ
   bytes_ranges (data_byte bits often refused acked) = often_ranges often + tail_ranges refused + bytes_ranges acked
+  bytes_ranges (made_byte made refused acked) = tail_ranges refused + bytes_ranges acked
   bytes_ranges (no_more tail) = tail_ranges tail
 
   pub tail_ranges : BriefTail → ℕ

@@ -16,10 +16,10 @@ use Rattle.brief_tokens.specs.declared.symbols.Sign.TheVariants as signs
 use Rattle.brief_text.specs.declared.syntax.Lengths.{Lengths}
 use Rattle.brief_text.specs.Drafts.{Draft}
 use Rattle.brief_text.specs.Judging.{range_refusal}
-use Rattle.brief_text.specs.Places.{Place, Reads, token_as, close_in, past, to_at, data_at}
-use Rattle.brief_tokens.specs.Tokens.{Token, keyword, word, sign, Tokens, next}
-use Rattle.brief_text.specs.Trees.{Said, Times, times, ranged, BriefFrame, write_to, read_from, BriefBytes, data_byte, no_more}
-use Rattle.brief_text.specs.Trees.{BriefTail, stop_here, go_on}
+use Rattle.brief_text.specs.Places.{Place, Reads, token_as, open_in, close_in, past, to_at, data_at}
+use Rattle.brief_tokens.specs.Tokens.{Token, keyword, word, sign, Tokens, next, last}
+use Rattle.brief_text.specs.Trees.{Said, Times, times, ranged, BriefFrame, write_to, read_from, BriefBytes, data_byte, made_byte}
+use Rattle.brief_text.specs.Trees.{no_more, BriefTail, stop_here, go_on, Made, header, packet_code, checksum}
 use Rattle.brief_text.specs.Words.{Repetition, so_often, from_to, repetition_by, is_countable, is_range}
 
 -- ---- the limits. What stands after the `else` of `any*16` stands in the message 16 times: in 16 copies. Room is how many
@@ -95,6 +95,15 @@ Frames = Form → Said Address → ℕ → Place → Reads BriefFrame
 abbrev pub Bytes : Type 0
 Bytes = Said Pattern → ℕ → Place → Reads BriefBytes
 
+-- the first token of a byte that follows from others, and how the rest of the data bytes is read after it
+pub data Opening : Type 0 where
+  opens_header : (is_read : Bool) → Opening
+  opens_code : Opening
+  opens_checksum : Opening
+
+abbrev pub Mades : Type 0
+Mades = Opening → ℕ → Place → Reads BriefBytes
+
 -- `write` or `read`, and to whom
 abbrev pub form_in : Token → Option Form
 form_in (keyword keywords.Write) = Some writes
@@ -157,15 +166,44 @@ bytes_by draft bytes at = do
   found ← data_at draft at
   bytes found.0 found.1 found.2
 
+-- `wr` or `rd` and to whom in parentheses, `pec`, or `sum`
+abbrev pub opening_in : Token → Option Opening
+opening_in (keyword keywords.Wr) = Some (opens_header false)
+opening_in (keyword keywords.Rd) = Some (opens_header true)
+opening_in (keyword keywords.Pec) = Some opens_code
+opening_in (keyword keywords.Sum) = Some opens_checksum
+opening_in token = None
+
+abbrev pub begins_made : Tokens → Bool
+begins_made (next token line rest) = is_some (opening_in token)
+begins_made (last ending line) = false
+
+abbrev pub made_at : Draft → Opening → Place → Reads Made
+made_at draft opens_code at = Ok (packet_code, at)
+made_at draft opens_checksum at = Ok (checksum, at)
+made_at draft (opens_header is_read) at = do
+  opened ← past open_in at
+  to ← to_at draft opened
+  closed ← past close_in to.2
+  Ok (header is_read to.0, closed)
+
+abbrev pub mades_by : Mades → Place → Reads BriefBytes
+mades_by mades at = do
+  found ← token_as opening_in at
+  mades found.0 found.1 found.2
+
 abbrev pub last_by : Draft → Frames → Place → Reads BriefBytes
 last_by draft frames at = do
   tail ← next_by draft frames at
   Ok (no_more tail.0, tail.1)
 
-abbrev pub payload_by : Draft → Frames → Bytes → Place → Reads BriefBytes
-payload_by draft frames bytes at = if begins_data at.tokens then bytes_by draft bytes at else last_by draft frames at
+abbrev pub payload_by : Draft → Frames → Bytes → Mades → Place → Reads BriefBytes
+payload_by draft frames bytes mades at =
+    if begins_data at.tokens then bytes_by draft bytes at
+    else if begins_made at.tokens then mades_by mades at
+    else last_by draft frames at
 
--- The rest of a frame after its address on this line, and the rest of the data bytes after the first, where what stands
+-- The rest of a frame after its address on this line, and the rest of the data bytes after the first token, where what stands
 -- before them has used so many bytes of the room, and where they stand in so many copies.
 unfoldable mutual
   pub frame_in : Around → ℕ → ℕ → ℕ → Form → Said Address → ℕ → Place → Reads BriefFrame
@@ -174,7 +212,7 @@ unfoldable mutual
   frame_in around (suc room) zero copies writes to line at = do
     node ← counted copies line at
     refused ← refused_by around.draft (frame_in around room 0 copies) node
-    acked ← payload_by around.draft (frame_in around room 0 copies) (byte_in around room 0 copies) refused.1
+    acked ← payload_by around.draft (frame_in around room 0 copies) (byte_in around room 0 copies) (made_in around room 0 copies) refused.1
     Ok (write_to to refused.0 acked.0, acked.1)
   frame_in around (suc room) zero copies reads to line at = do
     node ← counted copies line at
@@ -190,8 +228,18 @@ unfoldable mutual
     node ← counted copies line at
     often ← often_at around room copies node
     refused ← refused_by around.draft (frame_in around room often.0.1 (copies * suc often.0.1)) often.1
-    acked ← payload_by around.draft (frame_in around room often.0.1 copies) (byte_in around room often.0.1 copies) refused.1
+    acked ← payload_by around.draft (frame_in around room often.0.1 copies) (byte_in around room often.0.1 copies) (made_in around room often.0.1 copies) refused.1
     Ok (data_byte bits often.0.0 refused.0 acked.0, acked.1)
+
+  pub made_in : Around → ℕ → ℕ → ℕ → Opening → ℕ → Place → Reads BriefBytes
+  made_in around zero used copies opening line at = Err (TooLong line)
+  made_in around (suc room) (suc used) copies opening line at = made_in around room used copies opening line at
+  made_in around (suc room) zero copies opening line at = do
+    node ← counted copies line at
+    made ← made_at around.draft opening node
+    refused ← refused_by around.draft (frame_in around room 0 copies) made.1
+    acked ← payload_by around.draft (frame_in around room 0 copies) (byte_in around room 0 copies) (made_in around room 0 copies) refused.1
+    Ok (made_byte made.0 refused.0 acked.0, acked.1)
 
 -- the frames of a message, where a path has so much room and they stand in so many copies
 abbrev pub frames_at : Around → ℕ → ℕ → Place → Reads BriefFrame

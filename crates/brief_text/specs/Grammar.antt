@@ -1,5 +1,5 @@
 -- The grammar of briefs: which tokens spell which tree, whatever its names stand for.
-use Rattle.std.specs.Prelude.{◌≡◌, ◌⊎◌, ℕ, true, List, [], ◌∷◌, Option, Some, None, codes}
+use Rattle.std.specs.Prelude.{◌≡◌, ◌⊎◌, ℕ, true, false, List, [], ◌∷◌, Option, Some, None, Ok}
 use Rattle.message_tree.specs.declared.bits.Address.{Address}
 use Rattle.message_tree.specs.declared.bits.Pattern.{Pattern}
 use Rattle.message_tree.specs.declared.counts.Count.{Count}
@@ -9,11 +9,13 @@ use Rattle.plan_text.specs.Words.{WritesCount}
 use Rattle.brief_tokens.specs.declared.symbols.Keyword.TheVariants as keywords
 use Rattle.brief_tokens.specs.declared.symbols.Sign.TheVariants as signs
 use Rattle.brief_text.specs.declared.syntax.Lengths.{Lengths}
-use Rattle.brief_tokens.specs.Tokens.{Token, keyword, word, sign, Tokens, tokens_of}
+use Rattle.lexer.specs.declared.lexemes.Letters.{Letters}
+use Rattle.brief_tokens.specs.Heads.{opened}
+use Rattle.brief_tokens.specs.Tokens.{Token, keyword, word, sign, Tokens}
 use Rattle.brief_tokens.specs.Tokens as tokens
 use Rattle.brief_text.specs.Trees.{Said, spelled, named, Times, times, ranged, BriefFrame, write_to, read_from, BriefBytes}
-use Rattle.brief_text.specs.Trees.{data_byte, no_more, BriefTail, stop_here, go_on, BriefItem, device, byte, message}
-use Rattle.brief_text.specs.Trees.{controller, interrupt, never_both}
+use Rattle.brief_text.specs.Trees.{data_byte, made_byte, no_more, BriefTail, stop_here, go_on, Made, header, packet_code, checksum}
+use Rattle.brief_text.specs.Trees.{BriefItem, device, byte, message, controller, interrupt, never_both}
 use Rattle.brief_text.specs.Words.{address_by, data_by, any_byte, repetition_by, so_often, from_to, is_countable, is_range, side_by}
 
 -- tokens from one place of a text up to another
@@ -57,6 +59,13 @@ SpellsData (named name) from to = SpellsName name from to × (data_by name ≡ N
 abbrev pub SpellsCount : Count → Phrase
 SpellsCount count from to = (bytes : List ℕ) × one (word bytes) from to × WritesCount bytes count
 
+-- a byte that follows from others
+abbrev pub SpellsMade : Made → Phrase
+SpellsMade (header false to) = one (keyword keywords.Wr) ▸ one (sign signs.Open) ▸ SpellsTo to ▸ one (sign signs.Close)
+SpellsMade (header true to) = one (keyword keywords.Rd) ▸ one (sign signs.Open) ▸ SpellsTo to ▸ one (sign signs.Close)
+SpellsMade packet_code = one (keyword keywords.Pec)
+SpellsMade checksum = one (keyword keywords.Sum)
+
 -- how often a byte stands, in a message with this range
 abbrev pub SpellsOften : Option Lengths → Times → Phrase
 SpellsOften range (times n) from to =
@@ -78,6 +87,7 @@ abbrev mutual
   pub SpellsBytes : Option Lengths → BriefBytes → Phrase
   SpellsBytes range (data_byte bits often refused acked) =
       SpellsData bits ▸ SpellsOften range often ▸ SpellsRefused range refused ▸ SpellsBytes range acked
+  SpellsBytes range (made_byte made refused acked) = SpellsMade made ▸ SpellsRefused range refused ▸ SpellsBytes range acked
   SpellsBytes range (no_more tail) = SpellsNext range tail
 
   -- what follows the last byte
@@ -100,20 +110,24 @@ abbrev pub SpellsNames : List (List ℕ) → Phrase
 SpellsNames [] = nothing
 SpellsNames (name ∷ names) = SpellsName name ▸ SpellsNames names
 
-abbrev pub SpellsItem : BriefItem → Phrase
-SpellsItem (device name address) = one (keyword keywords.Device) ▸ SpellsName name ▸ SpellsAs address_by address ▸ end
-SpellsItem (byte name bits) = one (keyword keywords.Byte) ▸ SpellsName name ▸ SpellsAs data_by bits ▸ end
-SpellsItem (message name range frame) = one (keyword keywords.Message) ▸ SpellsName name ▸ SpellsFrame range frame ▸ end
-SpellsItem (controller name messages) = one (keyword keywords.Controller) ▸ SpellsName name ▸ SpellsNames messages ▸ end
-SpellsItem (interrupt name to) = one (keyword keywords.Interrupt) ▸ SpellsName name ▸ SpellsTo to ▸ end
-SpellsItem (never_both first second) =
-    one (keyword keywords.Never) ▸ SpellsAs side_by first ▸ SpellsAs side_by second ▸ end
+-- an item of a text with these letters
+abbrev pub SpellsItem : Letters → BriefItem → Phrase
+SpellsItem letters (device name address) = one (keyword keywords.Device) ▸ SpellsName name ▸ SpellsAs address_by address ▸ end
+SpellsItem letters (byte name bits) = one (keyword keywords.Byte) ▸ SpellsName name ▸ SpellsAs data_by bits ▸ end
+SpellsItem letters (message name range frame) = one (keyword keywords.Message) ▸ SpellsName name ▸ SpellsFrame range frame ▸ end
+SpellsItem letters (controller name messages) = one (keyword keywords.Controller) ▸ SpellsName name ▸ SpellsNames messages ▸ end
+SpellsItem letters (interrupt name to) = one (keyword keywords.Interrupt) ▸ SpellsName name ▸ SpellsTo to ▸ end
+SpellsItem letters (never_both first second) =
+    one (keyword keywords.Never) ▸ SpellsAs (side_by letters) first ▸ SpellsAs (side_by letters) second ▸ end
 
-abbrev pub SpellsItems : List BriefItem → Phrase
-SpellsItems [] = nothing
-SpellsItems (item ∷ items) = SpellsItem item ▸ SpellsItems items
+abbrev pub SpellsItems : Letters → List BriefItem → Phrase
+SpellsItems letters [] = nothing
+SpellsItems letters (item ∷ items) = SpellsItem letters item ▸ SpellsItems letters items
 
--- the text spells these items: it begins with `brief 1`, has them, and ends
+-- the text spells these items: after its head it has them, and ends
 pub record Spells (text : List ℕ) (items : List BriefItem) : Type 0 where
+  pub letters : Letters
+  pub rest : Tokens
   pub line : ℕ
-  pub whole : (one (keyword keywords.Brief) ▸ one (word (codes "1")) ▸ SpellsItems items) (tokens_of 1 text) (tokens.last text_end line)
+  pub head : opened text ≡ Ok (letters, rest)
+  pub whole : SpellsItems letters items rest (tokens.last text_end line)

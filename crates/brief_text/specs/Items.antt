@@ -7,6 +7,7 @@ use Rattle.plan_core.specs.Building.{interrupt_refusal}
 use Rattle.plan_core.specs.declared.limits.TheConstants.{MOST_BYTES}
 use Rattle.plan_text.specs.declared.errors.PlanError.TheVariants.{Unexpected}
 use Rattle.plan_text.specs.Reader.{◌>>=◌, or_refused, unless_refused, ends_early}
+use Rattle.lexer.specs.declared.lexemes.Letters.{Letters}
 use Rattle.brief_tokens.specs.declared.symbols.Keyword.TheVariants as keywords
 use Rattle.brief_tokens.specs.declared.symbols.Sign.TheVariants as signs
 use Rattle.brief_text.specs.Drafts.{Draft, address_said, with_label}
@@ -76,32 +77,32 @@ interrupt_at draft at = do
   Ok (interrupt name.0 to.0, after)
 
 -- a controller by its name, or what it sends by a label
-abbrev pub side_in : Token → Option Side
-side_in (word bytes) = side_by bytes
-side_in token = None
+abbrev pub side_in : Letters → Token → Option Side
+side_in letters (word bytes) = side_by letters bytes
+side_in letters token = None
 
 -- `never` and then two of these and `;`
-unfoldable pub never_at : Draft → Place → Reads BriefItem
-never_at draft at = do
-  first ← token_as side_in at
+unfoldable pub never_at : Letters → Draft → Place → Reads BriefItem
+never_at letters draft at = do
+  first ← token_as (side_in letters) at
   named ← unless_refused (first_refusal draft first.0) first.1 (with_label draft first.0)
-  second ← token_as side_in first.2
+  second ← token_as (side_in letters) first.2
   allowed ← unless_refused (second_refusal named first.0 second.0) second.1 second.2
   after ← past end_in allowed
   Ok (never_both first.0 second.0, after)
 
 -- what follows the keyword of an item
-abbrev pub item_in : Token → Option (Draft → Place → Reads BriefItem)
-item_in (keyword keywords.Device) = Some device_at
-item_in (keyword keywords.Byte) = Some byte_at
-item_in (keyword keywords.Message) = Some message_at
-item_in (keyword keywords.Controller) = Some controller_at
-item_in (keyword keywords.Interrupt) = Some interrupt_at
-item_in (keyword keywords.Never) = Some never_at
-item_in token = None
+abbrev pub item_in : Letters → Token → Option (Draft → Place → Reads BriefItem)
+item_in letters (keyword keywords.Device) = Some device_at
+item_in letters (keyword keywords.Byte) = Some byte_at
+item_in letters (keyword keywords.Message) = Some message_at
+item_in letters (keyword keywords.Controller) = Some controller_at
+item_in letters (keyword keywords.Interrupt) = Some interrupt_at
+item_in letters (keyword keywords.Never) = Some (never_at letters)
+item_in letters token = None
 
--- an item
-unfoldable pub item_at : Draft → Place → Reads BriefItem
-item_at draft at = do
-  item ← token_as item_in at
+-- an item of a text with these letters
+unfoldable pub item_at : Letters → Draft → Place → Reads BriefItem
+item_at letters draft at = do
+  item ← token_as (item_in letters) at
   item.0 draft item.2

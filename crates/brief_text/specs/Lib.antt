@@ -1,5 +1,6 @@
 pub mod Words
 pub mod Trees
+pub mod Codes
 pub mod Drafts
 pub mod Splitting
 pub mod Judging

@@ -44,10 +44,14 @@ first_as what (last ending line) at = Err (ends_early ending line)
 abbrev pub token_as : {A : Type 0} → (Token → Option A) → Place → Finds A
 token_as what at = first_as what at.tokens at
 
--- `;`, and `)`
+-- `;`, `(` and `)`
 abbrev pub end_in : Token → Option (Unit {0})
 end_in (sign signs.Semicolon) = Some tt
 end_in token = None
+
+abbrev pub open_in : Token → Option (Unit {0})
+open_in (sign signs.Open) = Some tt
+open_in token = None
 
 abbrev pub close_in : Token → Option (Unit {0})
 close_in (sign signs.Close) = Some tt

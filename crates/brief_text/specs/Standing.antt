@@ -17,7 +17,11 @@ use Rattle.brief_text.specs.declared.naming.Named.{Named}
 use Rattle.brief_text.specs.declared.sources.Source.{Source}
 use Rattle.brief_tokens.specs.declared.symbols.Token.{Token}
 use Rattle.brief_text.specs.declared.syntax.DataSyntax.{DataSyntax}
-use Rattle.brief_text.specs.declared.syntax.DataSyntax.TheVariants.{Byte', Last}
+use Rattle.brief_text.specs.declared.syntax.DataSyntax.TheVariants.{Byte', Made', Last}
+use Rattle.brief_text.specs.declared.syntax.MadeSyntax.{MadeSyntax}
+use Rattle.brief_text.specs.declared.syntax.MadeSyntax.TheVariants as mades
+use Rattle.brief_text.specs.declared.frames.MadeOpening.{MadeOpening}
+use Rattle.brief_text.specs.declared.frames.MadeOpening.TheVariants as openings
 use Rattle.brief_text.specs.declared.syntax.FrameSyntax.{FrameSyntax}
 use Rattle.brief_text.specs.declared.syntax.FrameSyntax.TheVariants.{Write', Read}
 use Rattle.brief_text.specs.declared.syntax.Often.{Often}
@@ -28,17 +32,29 @@ use Rattle.brief_text.specs.declared.syntax.TailSyntax.TheVariants.{Stop, Frames
 use Rattle.brief_text.specs.declared.syntax.Value.{Value}
 use Rattle.brief_text.specs.declared.syntax.Value.TheVariants as values
 use Rattle.brief_text.specs.Drafts.{Draft, with_item}
-use Rattle.brief_text.specs.Frames.{Around, count_at, counted, often_at, refused_by, next_by, payload_by, frame_in, byte_in}
-use Rattle.brief_text.specs.Places.{Place, Reads, Finds, to_at, data_at}
+use Rattle.brief_text.specs.Frames.{Around, Opening, opens_header, opens_code, opens_checksum, opening_in, count_at, counted, often_at, made_at, refused_by}
+use Rattle.brief_text.specs.Frames.{next_by, payload_by, frame_in, byte_in, made_in}
+use Rattle.brief_text.specs.Places.{Place, Reads, Finds, token_as, to_at, data_at}
 use Rattle.brief_tokens.specs.Reading.{left, with_token}
 use Rattle.brief_text.specs.Trees.{Said, spelled, named, Times, times, ranged, BriefFrame, write_to, read_from, BriefBytes}
-use Rattle.brief_text.specs.Trees.{data_byte, no_more, BriefTail, stop_here, go_on, Side, BriefItem}
+use Rattle.brief_text.specs.Trees.{data_byte, made_byte, no_more, BriefTail, stop_here, go_on, Made, header, packet_code, checksum}
+use Rattle.brief_text.specs.Trees.{Side, BriefItem}
 
 -- ---- trees
 
 abbrev pub said : {A : Type 0} → Value A → Said A
 said (values.Spelled value) = spelled value
 said (values.Named found) = named (name_bytes found.name)
+
+abbrev pub made_of : MadeSyntax → Made
+made_of (mades.Header reads to) = header reads (said to)
+made_of mades.PacketCode = packet_code
+made_of mades.Checksum = checksum
+
+abbrev pub opening_of : MadeOpening → Opening
+opening_of (openings.Header reads) = opens_header reads
+opening_of openings.PacketCode = opens_code
+opening_of openings.Checksum = opens_checksum
 
 abbrev pub times_of : Often → Times
 times_of (oftens.Times n) = times n
@@ -53,6 +69,7 @@ abbrev mutual
   pub brief_bytes : DataSyntax → BriefBytes
   brief_bytes (Byte' bits often refused p acked) =
       data_byte (said bits) (times_of often) (brief_tail refused) (brief_bytes acked)
+  brief_bytes (Made' made refused p acked) = made_byte (made_of made) (brief_tail refused) (brief_bytes acked)
   brief_bytes (Last tail) = no_more (brief_tail tail)
 
   pub brief_tail : TailSyntax → BriefTail
@@ -128,7 +145,8 @@ abbrev pub next_at : Around → ℕ → ℕ → Place → Reads BriefTail
 next_at around room copies = next_by around.draft (frame_in around room 0 copies)
 
 abbrev pub payload_at : Around → ℕ → ℕ → Place → Reads BriefBytes
-payload_at around room copies = payload_by around.draft (frame_in around room 0 copies) (byte_in around room 0 copies)
+payload_at around room copies =
+    payload_by around.draft (frame_in around room 0 copies) (byte_in around room 0 copies) (made_in around room 0 copies)
 
 -- after `write`
 abbrev pub write_at : Around → ℕ → ℕ → Place → Reads BriefFrame
@@ -158,3 +176,13 @@ bytes_at around room copies at = do
   refused ← refused_at around (node.0 - often.0.1) (copies * suc often.0.1) often.1
   acked ← payload_at around (node.0 - often.0.1) copies refused.1
   Ok (data_byte found.0 often.0.0 refused.0 acked.0, acked.1)
+
+-- bytes that follow from others
+abbrev pub mades_at : Around → ℕ → ℕ → Place → Reads BriefBytes
+mades_at around room copies at = do
+  found ← token_as opening_in at
+  node ← node_at room copies found.1 found.2
+  made ← made_at around.draft found.0 node.1
+  refused ← refused_at around node.0 copies made.1
+  acked ← payload_at around node.0 copies refused.1
+  Ok (made_byte made.0 refused.0 acked.0, acked.1)

@@ -1,5 +1,5 @@
 -- A brief as a tree: what its text says, before names are looked up and repetitions are written out.
-use Rattle.std.specs.Prelude.{ℕ, List, Option}
+use Rattle.std.specs.Prelude.{ℕ, Bool, List, Option}
 use Rattle.message_tree.specs.declared.bits.Address.{Address}
 use Rattle.message_tree.specs.declared.bits.Pattern.{Pattern}
 use Rattle.message_tree.specs.declared.counts.Count.{Count}
@@ -9,6 +9,12 @@ use Rattle.brief_text.specs.declared.syntax.Lengths.{Lengths}
 pub data Said (A : Type 0) : Type 0 where
   spelled : (value : A) → Said A
   named : (name : List ℕ) → Said A
+
+-- a byte that follows from others: the first byte of a frame to this address, the packet error code, or the checksum
+pub data Made : Type 0 where
+  header : (reads : Bool) (to : Said Address) → Made
+  packet_code : Made
+  checksum : Made
 
 -- how often a byte stands one after another: so often, or from LO to HI times, as the message says
 pub data Times : Type 0 where
@@ -21,9 +27,11 @@ mutual
     write_to : (to : Said Address) (refused : BriefTail) (acked : BriefBytes) → BriefFrame
     read_from : (to : Said Address) (count : Count) (refused after : BriefTail) → BriefFrame
 
-  -- a data byte, what follows it where it is not acknowledged, and what follows else; or what follows the last of them
+  -- a data byte, what follows it where it is not acknowledged, and what follows else, and the same of one that follows from
+  -- others; or what follows the last of them
   pub data BriefBytes : Type 0 where
     data_byte : (bits : Said Pattern) (often : Times) (refused : BriefTail) (acked : BriefBytes) → BriefBytes
+    made_byte : (made : Made) (refused : BriefTail) (acked : BriefBytes) → BriefBytes
     no_more : (tail : BriefTail) → BriefBytes
 
   -- a STOP, or further frames

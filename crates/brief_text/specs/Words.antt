@@ -14,7 +14,9 @@ use Rattle.plan_text.specs.Symbols.{bit_symbol}
 use Rattle.plan_core.specs.Names.{is_name}
 use Rattle.plan_text.specs.Values.{address_of, pattern_of, pattern_by}
 use Rattle.plan_text.specs.Words.{is_digits, number, around_dots}
-use Rattle.brief_tokens.specs.Names.{is_brief_word}
+use Rattle.lexer.specs.declared.lexemes.Letters.{Letters}
+use Rattle.lexer.specs.declared.lexemes.Letters.TheVariants.{Board}
+use Rattle.brief_tokens.specs.Names.{is_brief_word, is_board_word}
 use Rattle.brief_text.specs.Trees.{Side}
 
 -- the four bits of a digit, as a plan text has them: those of `X` are open
@@ -101,9 +103,14 @@ is_range least greatest = is_countable greatest && nat_le least greatest
 
 -- ---- labels
 
--- a name of briefs
-abbrev pub is_brief_name : List ℕ → Bool
-is_brief_name bytes = is_name bytes && not (is_brief_word bytes)
+-- a word of the second version is a name in the first
+abbrev pub is_further_word : Letters → List ℕ → Bool
+is_further_word Board bytes = is_board_word bytes
+is_further_word letters bytes = false
+
+-- a name of briefs with these letters
+abbrev pub is_brief_name : Letters → List ℕ → Bool
+is_brief_name letters bytes = is_name bytes && not (is_brief_word bytes) && not (is_further_word letters bytes)
 
 abbrev pub is_no_slash : ℕ → Bool
 is_no_slash byte = not (byte == code "/")
@@ -124,10 +131,10 @@ abbrev pub label_side : Bool → List ℕ × List ℕ → Option Side
 label_side true halves = Some (record { controller = halves.0; label = Some halves.1 })
 label_side false halves = None
 
-abbrev pub side_from : Option (List ℕ × List ℕ) → List ℕ → Option Side
-side_from None bytes = whole_side (is_name bytes) bytes
-side_from (Some halves) bytes =
-    label_side (nat_le (length bytes) 32 && is_brief_name halves.0 && is_brief_name halves.1) halves
+abbrev pub side_from : Letters → Option (List ℕ × List ℕ) → List ℕ → Option Side
+side_from letters None bytes = whole_side (is_name bytes) bytes
+side_from letters (Some halves) bytes =
+    label_side (nat_le (length bytes) 32 && is_brief_name letters halves.0 && is_brief_name letters halves.1) halves
 
-unfoldable pub side_by : List ℕ → Option Side
-side_by bytes = side_from (around_slash bytes) bytes
+unfoldable pub side_by : Letters → List ℕ → Option Side
+side_by letters bytes = side_from letters (around_slash bytes) bytes

@@ -5,15 +5,15 @@ ghost use Rattle.message_tree.specs.Counts.{greatest_of};
 ghost use Rattle.plan_core.specs.NameBytes.{name_bytes};
 ghost use Rattle.plan_core.specs.declared.limits.TheConstants.{MOST_BYTES, MOST_NODES};
 ghost use Rattle.plan_text.specs.Words.{number};
-ghost use Rattle.brief_text.specs.Frames.{Around, frames_at, count_at, often_at, often_by, further};
+ghost use Rattle.brief_text.specs.Frames.{Around, frames_at, count_at, often_at, often_by, further, opening_in, made_at};
 ghost use Rattle.brief_text.specs.Words.{so_often, from_to, is_range};
-ghost use Rattle.brief_text.specs.Places.{past, close_in};
+ghost use Rattle.brief_text.specs.Places.{past, close_in, token_as};
 ghost use Rattle.brief_text.specs.Standing.{brief_frame, brief_bytes, brief_tail};
 
 use crate::boards::Board;
 use crate::numbers::Digits;
-use crate::sources::Source;
-use crate::syntax::{DataSyntax, FrameSyntax, Lengths, Often, TailSyntax};
+use crate::sources::{Found, Source};
+use crate::syntax::{DataSyntax, FrameSyntax, Lengths, MadeSyntax, Often, TailSyntax};
 use crate::traces::Wanted;
 use crate::words::{Repetition, repetition_of};
 use brief_tokens::{Keyword, Sign, Symbol};
@@ -48,9 +48,17 @@ struct Repeated {
     more: u32,
 }
 
+/// The first token of a byte that follows from others.
+#[derive(Clone, Copy)]
+pub(crate) enum MadeOpening {
+    Header { reads: bool },
+    PacketCode,
+    Checksum,
+}
+
 impl Source<'_> {
     ghost use Rattle.brief_text.specs.Standing.{place, around, times_of, Gives, node_at, next_at, refused_at, payload_at};
-    ghost use Rattle.brief_text.specs.Standing.{write_at, read_at, bytes_at};
+    ghost use Rattle.brief_text.specs.Standing.{write_at, read_at, bytes_at, mades_at, made_of, opening_of, FindsOut};
     ghost use Rattle.plan_text.specs.Places.{Passes};
 
     /// The frames of a whole message.
@@ -130,6 +138,10 @@ impl Source<'_> {
         match self.token.symbol {
             Symbol::Word(_) => self.bytes(within, room),
             Symbol::Keyword(Keyword::Any) => self.bytes(within, room),
+            Symbol::Keyword(Keyword::Wr) => self.made(within, room),
+            Symbol::Keyword(Keyword::Rd) => self.made(within, room),
+            Symbol::Keyword(Keyword::Pec) => self.made(within, room),
+            Symbol::Keyword(Keyword::Sum) => self.made(within, room),
             _ => Ok(DataSyntax::Last(self.following(within, room)?)),
         }
     }
@@ -164,6 +176,65 @@ impl Source<'_> {
             refused,
             acked: Box::new(self.alloc, acked)?,
         })
+    }
+
+    // made refused? ( data refused? )* frame*, where made is: wr ( to ) | rd ( to ) | pec | sum
+    #[cycle(message)]
+    fn made(&mut self, within: Within<'_>, room: Room) -> Result<DataSyntax, PlanError>
+        ensures { Gives brief_bytes result (mades_at (around within.entry) room.bytes room.copies (place self.old)) (place self.new) }
+    {
+        let opening = self.opening()?;
+        let below = self.node(room, opening.line)?;
+        let made = self.made_after(within, opening.value)?;
+        let refused = self.refused(within, below, true)?;
+        let acked = self.payload(within, below)?;
+        Ok(DataSyntax::Made {
+            made,
+            refused,
+            acked: Box::new(self.alloc, acked)?,
+        })
+    }
+
+    // The first token of a byte that follows from others.
+    fn opening(&mut self) -> Result<Found<MadeOpening>, PlanError>
+        ensures { FindsOut (λ it. opening_of it.value) (λ it. it.line) result (token_as opening_in (place self.old))
+            (place self.new) }
+    {
+        let token = self.next(Wanted::Made);
+        let value = match token.symbol {
+            Symbol::Keyword(Keyword::Wr) => MadeOpening::Header { reads: false },
+            Symbol::Keyword(Keyword::Rd) => MadeOpening::Header { reads: true },
+            Symbol::Keyword(Keyword::Pec) => MadeOpening::PacketCode,
+            Symbol::Keyword(Keyword::Sum) => MadeOpening::Checksum,
+            _ => return Err(token.unexpected()),
+        };
+        Ok(Found {
+            value,
+            line: token.line,
+        })
+    }
+
+    // What follows that token.
+    fn made_after(
+        &mut self,
+        within: Within<'_>,
+        opening: MadeOpening,
+    ) -> Result<MadeSyntax, PlanError>
+        ensures { Gives made_of result (made_at (around within.entry).draft (opening_of opening) (place self.old)) (place self.new) }
+    {
+        match opening {
+            MadeOpening::Header { reads } => {
+                self.open_address()?;
+                let to = self.to(within.board, Wanted::Target)?;
+                self.close_address()?;
+                Ok(MadeSyntax::Header {
+                    reads,
+                    to: to.value,
+                })
+            }
+            MadeOpening::PacketCode => Ok(MadeSyntax::PacketCode),
+            MadeOpening::Checksum => Ok(MadeSyntax::Checksum),
+        }
     }
 
     // frame*

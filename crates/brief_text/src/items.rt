@@ -8,9 +8,8 @@ ghost use Rattle.plan_core.specs.NameBytes.{name_bytes};
 ghost use Rattle.plan_core.specs.PlanContents.{plan_contents};
 ghost use Rattle.plan_core.specs.declared.builder.BuildError.{BuildError};
 ghost use Rattle.plan_text.specs.Places.{Refuses, Passes};
-ghost use Rattle.brief_tokens.specs.Heads.{after_head};
-ghost use Rattle.brief_tokens.specs.Reading.{left};
-ghost use Rattle.brief_tokens.specs.Tokens.{tokens_of};
+ghost use Rattle.brief_tokens.specs.Heads.{opened};
+ghost use Rattle.brief_tokens.specs.Reading.{left, letters_of};
 ghost use Rattle.plan_text.specs.Reader.{refused_at};
 ghost use Rattle.brief_text.specs.Briefs.{brief_read, text_read, items_in, is_end, Means, IsRefused};
 ghost use Rattle.brief_text.specs.Items.{device_at, byte_at, message_at, controller_at, listed_from, interrupt_at, never_at};
@@ -27,6 +26,7 @@ use crate::syntax::NameFound;
 use crate::traces::Wanted;
 use crate::words::known_address;
 use brief_tokens::{Keyword, Symbol, Tokens, after_head, record};
+use lexer::Letters;
 use origins::{Head, Language, Spans};
 use plan_core::{BuildError, Name, Plan};
 use plan_text::{PlanError, Refused};
@@ -101,10 +101,14 @@ pub(crate) fn read_text(
     ensures refused { IfErr result (λ e. Refuses (text_read (draft board.old) text.now) e.error) }
 {
     let tokens = head_of(text, spans)?;
+    let letters = tokens.letters();
     let mut taken = mem::replace(spans, Spans::unasked(alloc));
-    taken.begin(Some(HEAD));
+    taken.begin(Some(Head {
+        language: Language::Brief,
+        version: if letters == Letters::Board { 2 } else { 1 },
+    }));
     let mut source = Source::new(alloc, tokens, taken);
-    match read_items(&mut source, board, text.len()) {
+    match read_items(&mut source, board, text.len(), letters) {
         Ok(()) => {
             *spans = source.into_spans();
             Ok(())
@@ -117,15 +121,10 @@ pub(crate) fn read_text(
     }
 }
 
-const HEAD: Head = Head {
-    language: Language::Brief,
-    version: 1,
-};
-
 // The tokens after the head. Where that is refused, the names of the whole text are kept.
 fn head_of<'a>(text: &'a [u8], spans: &mut Spans) -> Result<Tokens<'a>, Refused>
-    ensures rest { IfOk result (λ rest. after_head (tokens_of 1 text.now) ≡ Ok (left rest)) }
-    ensures refused { IfErr result (λ e. after_head (tokens_of 1 text.now) ≡ Err e.error) }
+    ensures rest { IfOk result (λ rest. opened text.now ≡ Ok (letters_of rest, left rest)) }
+    ensures refused { IfErr result (λ e. opened text.now ≡ Err e.error) }
 {
     match after_head(text) {
         Ok(tokens) => Ok(tokens),
@@ -137,11 +136,16 @@ fn head_of<'a>(text: &'a [u8], spans: &mut Spans) -> Result<Tokens<'a>, Refused>
 }
 
 // So many items at most, up to the end of the text.
-fn read_items(source: &mut Source<'_>, board: &mut Board, most: usize) -> Result<(), PlanError>
-    ensures { Passes result (items_in most (draft board.old) (place source.old)) (draft board.new) }
+fn read_items(
+    source: &mut Source<'_>,
+    board: &mut Board,
+    most: usize,
+    letters: Letters,
+) -> Result<(), PlanError>
+    ensures { Passes result (items_in letters most (draft board.old) (place source.old)) (draft board.new) }
 {
     for _ in 0..most {
-        if !read_item(source, board)? {
+        if !read_item(source, board, letters)? {
             return Ok(());
         }
     }
@@ -150,12 +154,16 @@ fn read_items(source: &mut Source<'_>, board: &mut Board, most: usize) -> Result
 
 // An item. It answers whether there was one before the end of the text.
 #[tactic(auto, unfolding(crate::specs::Items::item_at))]
-fn read_item(source: &mut Source<'_>, board: &mut Board) -> Result<bool, PlanError>
+fn read_item(
+    source: &mut Source<'_>,
+    board: &mut Board,
+    letters: Letters,
+) -> Result<bool, PlanError>
     ensures read { IfOk result (λ more. more ≡ true →
-        adds item_at (draft board.old) (place source.old) ≡ Ok (draft board.new, place source.new)) }
+        adds (item_at letters) (draft board.old) (place source.old) ≡ Ok (draft board.new, place source.new)) }
     ensures more { IfOk result (λ more. is_end (place source.old).tokens ≡ not more) }
     ensures same { IfOk result (λ more. more ≡ false → draft board.new ≡ draft board.old) }
-    ensures refused { IfErr result (Refuses (adds item_at (draft board.old) (place source.old))) }
+    ensures refused { IfErr result (Refuses (adds (item_at letters) (draft board.old) (place source.old))) }
     ensures further { IfErr result (λ e. is_end (place source.old).tokens ≡ false) }
 {
     let token = source.next(Wanted::Item);
@@ -166,7 +174,7 @@ fn read_item(source: &mut Source<'_>, board: &mut Board) -> Result<bool, PlanErr
         Symbol::Keyword(Keyword::Message) => message(source, board)?,
         Symbol::Keyword(Keyword::Controller) => controller(source, board)?,
         Symbol::Keyword(Keyword::Interrupt) => interrupt(source, board)?,
-        Symbol::Keyword(Keyword::Never) => never(source, board)?,
+        Symbol::Keyword(Keyword::Never) => never(source, board, letters)?,
         _ => return Err(token.unexpected()),
     }
     Ok(true)
@@ -272,12 +280,12 @@ fn interrupt(source: &mut Source<'_>, board: &mut Board) -> Result<(), PlanError
 
 // party party ;
 #[tactic(auto, unfolding(crate::specs::Items::never_at, crate::specs::Drafts::with_item))]
-fn never(source: &mut Source<'_>, board: &mut Board) -> Result<(), PlanError>
-    ensures { Passes result (adds never_at (draft board.old) (place source.old)) (draft board.new, place source.new) }
+fn never(source: &mut Source<'_>, board: &mut Board, letters: Letters) -> Result<(), PlanError>
+    ensures { Passes result (adds (never_at letters) (draft board.old) (place source.old)) (draft board.new, place source.new) }
 {
-    let first = source.party()?;
+    let first = source.party(letters)?;
     allowed(board.name_first(&first)?, first.line)?;
-    let second = source.party()?;
+    let second = source.party(letters)?;
     allowed(board.name_second(&first, &second)?, second.line)?;
     source.semicolon()?;
     board.nevers.push(Never { first, second })?;

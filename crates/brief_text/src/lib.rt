@@ -1,6 +1,7 @@
 //! The text of a brief, the short form of a plan that people write: `expand_brief` reads the plan that it means.
 //!
-//! A text is cut into tokens by `brief_tokens`. What a single word spells out is in `words`, the parts of items that are one
+//! A text is cut into tokens by `brief_tokens`. What a single word spells out is in `words`, bytes that follow
+//! from others in `codes`, the parts of items that are one
 //! token in `sources`. `frames` has a function for each rule of a message, and makes its tree (`syntax`); `items` has one for
 //! each kind of item. What items make up so far is a `Board` (`boards`): names are looked up in it, and each next name is
 //! judged by it. `meanings` writes the tree of a message out, `splitting` splits
@@ -11,6 +12,7 @@
 
 mod boards;
 mod briefs;
+mod codes;
 mod frames;
 mod items;
 pub mod laws;

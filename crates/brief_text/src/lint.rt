@@ -2,7 +2,7 @@
 // of it.
 
 use crate::naming::copied;
-use crate::syntax::{DataSyntax, FrameSyntax, NameFound, TailSyntax, Value};
+use crate::syntax::{DataSyntax, FrameSyntax, MadeSyntax, NameFound, TailSyntax, Value};
 use indexmap::IndexMap;
 use message_tree::{Address, Pattern};
 use origins::{Device, NamedByte, Spot};
@@ -107,6 +107,17 @@ impl Uses {
                     if let Some(byte) = self.bytes.get_mut(&named.name) {
                         byte.is_used = true;
                     }
+                }
+                self.tail(refused);
+                self.payload(acked);
+            }
+            DataSyntax::Made {
+                made,
+                refused,
+                acked,
+            } => {
+                if let MadeSyntax::Header { to, .. } = made {
+                    self.address(to);
                 }
                 self.tail(refused);
                 self.payload(acked);

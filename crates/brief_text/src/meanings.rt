@@ -5,17 +5,19 @@ ghost use Rattle.std.specs.Map.{lookup};
 ghost use Rattle.std.specs.Str.{bytes_eq};
 ghost use Rattle.std.specs.String.{string_bytes};
 ghost use Rattle.message_tree.specs.Trees.{frame_tree, payload_tree, tail_tree};
+ghost use Rattle.brief_text.specs.Codes.{at_start};
 ghost use Rattle.plan_core.specs.Building.{with_message};
 ghost use Rattle.plan_core.specs.NameBytes.{name_bytes};
 ghost use Rattle.brief_text.specs.Judging.{is_family};
 ghost use Rattle.brief_text.specs.Trees.{message};
-ghost use Rattle.brief_text.specs.Drafts.{frame_meant, bytes_meant, tail_meant, repeated, how_often, member_name, members};
+ghost use Rattle.brief_text.specs.Drafts.{frame_on, bytes_on, tail_on, made_bits, after_made, how_often, member_name, members};
 ghost use Rattle.brief_text.specs.Drafts.{with_messages, with_item, messages_meant, family_meant, lengths};
-ghost use Rattle.brief_text.specs.Standing.{brief_frame, brief_bytes, brief_tail, times_of, draft};
+ghost use Rattle.brief_text.specs.Standing.{brief_frame, brief_bytes, brief_tail, made_of, times_of, draft};
 
 use crate::boards::Board;
+use crate::codes::{Path, header_bits};
 use crate::naming::{copied as named_alike, spelled};
-use crate::syntax::{DataSyntax, FrameSyntax, Lengths, NameFound, Often, TailSyntax};
+use crate::syntax::{DataSyntax, FrameSyntax, Lengths, MadeSyntax, NameFound, Often, TailSyntax};
 use message_tree::{Frame, Pattern, Payload, Tail};
 use origins::Spot;
 use plan_core::Name;
@@ -73,7 +75,7 @@ impl Board {
             messages_meant (draft self.now) (name_bytes name.now) None (brief_frame frames.now)) }
     {
         let mut messages = Vec::new(self.alloc);
-        let frame = self.frame(1, frames)?;
+        let frame = self.frame(1, frames, Path::at_start())?;
         let name = named_alike(self.alloc, name)?;
         messages.push(Message { name, frame })?;
         Ok(messages)
@@ -91,7 +93,7 @@ impl Board {
         let mut messages = Vec::new(self.alloc);
         for k in 0..count(range) {
             let n = range.least as u32 + k;
-            let frame = self.frame(n, frames)?;
+            let frame = self.frame(n, frames, Path::at_start())?;
             let name = member(self.alloc, name, n)?;
             messages.push(Message { name, frame })?;
         }
@@ -145,15 +147,17 @@ impl Board {
     }
 
     #[cycle(meaning)]
-    fn frame(&self, n: u32, frame: &FrameSyntax) -> Result<Frame, AllocError>
-        ensures { IfOk result (λ it. frame_tree it ≡ frame_meant (draft self.now) n (brief_frame frame.now)) }
+    fn frame(&self, n: u32, frame: &FrameSyntax, path: Path) -> Result<Frame, AllocError>
+        ensures { IfOk result (λ it. frame_tree it ≡ frame_on (draft self.now) n (brief_frame frame.now) path) }
     {
         match frame {
             FrameSyntax::Write { to, refused, acked } => {
-                let acked = self.data(n, acked)?;
-                let refused = self.tail(n, refused)?;
+                let address = self.address(to);
+                let path = path.after(&header_bits(false, &address));
+                let acked = self.data(n, acked, path)?;
+                let refused = self.tail(n, refused, path)?;
                 Ok(Frame::Write {
-                    address: self.address(to),
+                    address,
                     acked: Box::new(self.alloc, acked)?,
                     refused,
                 })
@@ -164,10 +168,12 @@ impl Board {
                 refused,
                 after,
             } => {
-                let after = self.tail(n, after)?;
-                let refused = self.tail(n, refused)?;
+                let address = self.address(to);
+                let path = path.after(&header_bits(true, &address));
+                let after = self.tail(n, after, Path::unknown())?;
+                let refused = self.tail(n, refused, path)?;
                 Ok(Frame::Read {
-                    address: self.address(to),
+                    address,
                     count: *count,
                     after,
                     refused,
@@ -177,8 +183,8 @@ impl Board {
     }
 
     #[cycle(meaning)]
-    fn data(&self, n: u32, data: &DataSyntax) -> Result<Payload, AllocError>
-        ensures { IfOk result (λ it. payload_tree it ≡ bytes_meant (draft self.now) n (brief_bytes «data».now)) }
+    fn data(&self, n: u32, data: &DataSyntax, path: Path) -> Result<Payload, AllocError>
+        ensures { IfOk result (λ it. payload_tree it ≡ bytes_on (draft self.now) n (brief_bytes «data».now) path) }
     {
         match data {
             DataSyntax::Byte {
@@ -187,24 +193,70 @@ impl Board {
                 refused,
                 acked,
             } => {
-                let acked = self.data(n, acked)?;
-                let refused = self.tail(n, refused)?;
-                repeated(self.alloc, often.times(n), self.bits(bits), acked, refused)
+                let times = often.times(n);
+                let bits = self.bits(bits);
+                let mut payload = self.data(n, acked, path.after_all(times, &bits))?;
+                for k in 0..times {
+                    let refused = self.tail(n, refused, path.after_all(times - k, &bits))?;
+                    payload = Payload::Byte {
+                        bits,
+                        acked: Box::new(self.alloc, payload)?,
+                        refused,
+                    };
+                }
+                Ok(payload)
             }
-            DataSyntax::Last(tail) => Ok(Payload::Last(self.tail(n, tail)?)),
+            DataSyntax::Made {
+                made,
+                refused,
+                acked,
+            } => {
+                let bits = self.made_bits(made, path);
+                let path = self.after_made(made, path);
+                let acked = self.data(n, acked, path)?;
+                let refused = self.tail(n, refused, path)?;
+                Ok(Payload::Byte {
+                    bits,
+                    acked: Box::new(self.alloc, acked)?,
+                    refused,
+                })
+            }
+            DataSyntax::Last(tail) => Ok(Payload::Last(self.tail(n, tail, path)?)),
         }
     }
 
     #[cycle(meaning)]
-    fn tail(&self, n: u32, tail: &TailSyntax) -> Result<Tail, AllocError>
-        ensures { IfOk result (λ it. tail_tree it ≡ tail_meant (draft self.now) n (brief_tail tail.now)) }
+    fn tail(&self, n: u32, tail: &TailSyntax, path: Path) -> Result<Tail, AllocError>
+        ensures { IfOk result (λ it. tail_tree it ≡ tail_on (draft self.now) n (brief_tail tail.now) path) }
     {
         match tail {
             TailSyntax::Stop => Ok(Tail::Stop),
             TailSyntax::Frames(frame) => {
-                let frame = self.frame(n, frame)?;
+                let frame = self.frame(n, frame, path)?;
                 Ok(Tail::Again(Box::new(self.alloc, frame)?))
             }
+        }
+    }
+
+    // A byte that follows from others.
+    fn made_bits(&self, made: &MadeSyntax, path: Path) -> Pattern
+        ensures { result ≡ made_bits (draft self.now) (made_of made.now) path }
+    {
+        match made {
+            MadeSyntax::Header { reads, to } => header_bits(*reads, &self.address(to)),
+            MadeSyntax::PacketCode => path.packet_code(),
+            MadeSyntax::Checksum => path.checksum(),
+        }
+    }
+
+    // The path after it.
+    fn after_made(&self, made: &MadeSyntax, path: Path) -> Path
+        ensures { result ≡ after_made (draft self.now) (made_of made.now) path }
+    {
+        let after = path.after(&self.made_bits(made, path));
+        match made {
+            MadeSyntax::Checksum => after.summed(),
+            _ => after,
         }
     }
 }
@@ -247,35 +299,4 @@ pub fn member_text(alloc: Global, name: &Name, n: u32) -> Result<String, AllocEr
     let mut text = String::from_str(alloc, name.as_str())?;
     write!(text, "_{n}")?;
     Ok(text)
-}
-
-// So many times the byte, each with the same where it is not acknowledged.
-fn repeated(
-    alloc: Global,
-    times: u32,
-    bits: Pattern,
-    acked: Payload,
-    refused: Tail,
-) -> Result<Payload, AllocError>
-    ensures { IfOk result (λ it. payload_tree it ≡ repeated times bits (payload_tree acked) (tail_tree refused)) }
-{
-    let mut payload = acked;
-    for _ in 0..times {
-        let refused = copied(alloc, &refused)?;
-        payload = Payload::Byte {
-            bits,
-            acked: Box::new(alloc, payload)?,
-            refused,
-        };
-    }
-    Ok(payload)
-}
-
-fn copied(alloc: Global, tail: &Tail) -> Result<Tail, AllocError>
-    ensures { IfOk result (λ it. tail_tree it ≡ tail_tree tail.now) }
-{
-    match tail {
-        Tail::Stop => Ok(Tail::Stop),
-        Tail::Again(frame) => Ok(Tail::Again(Box::new(alloc, frame.copy(alloc)?)?)),
-    }
 }

@@ -7,13 +7,14 @@ ghost use Rattle.plan_text.specs.Places.{Passes};
 ghost use Rattle.brief_text.specs.Items.{address_in, pattern_in, side_in};
 ghost use Rattle.brief_text.specs.Words.{is_brief_name};
 ghost use Rattle.brief_tokens.specs.Reading.{unexpected_at};
-ghost use Rattle.brief_text.specs.Places.{Place, token_as, name_in, end_in, past, to_at, data_at};
+ghost use Rattle.brief_text.specs.Places.{Place, token_as, name_in, end_in, open_in, close_in, past, to_at, data_at};
 
 use crate::boards::Board;
 use crate::syntax::{Lengths, NameFound, Party, Value};
 use crate::traces::{Trace, Wanted};
 use crate::words::{address, around_slash, data};
-use brief_tokens::{Keyword, Sign, Symbol, Token, Tokens, is_brief_word};
+use brief_tokens::{Keyword, Sign, Symbol, Token, Tokens, is_board_word, is_brief_word};
+use lexer::Letters;
 use message_tree::{Address, Pattern};
 use origins::Spans;
 use plan_core::{Name, NameError};
@@ -56,13 +57,14 @@ impl<'a> Source<'a> {
     pub(crate) fn new(alloc: Global, mut tokens: Tokens<'a>, spans: Spans) -> Self
         ensures { place result ≡ record { tokens = left tokens.entry; nodes = 0; range = None } }
     {
+        let made = tokens.letters() == Letters::Board;
         Source {
             alloc,
             token: tokens.next(),
             tokens,
             nodes: 0,
             range: None,
-            trace: Trace::new(),
+            trace: Trace::new(made),
             over: None,
             spans,
         }
@@ -224,8 +226,8 @@ impl<'a> Source<'a> {
     }
 
     /// A controller by its NAME, or what one sends by its label
-    pub(crate) fn party(&mut self) -> Result<Party, PlanError>
-        ensures { FindsOut side (λ it. it.line) result (token_as side_in (place self.old)) (place self.new) }
+    pub(crate) fn party(&mut self, letters: Letters) -> Result<Party, PlanError>
+        ensures { FindsOut side (λ it. it.line) result (token_as (side_in letters) (place self.old)) (place self.new) }
     {
         let token = self.next(Wanted::Party);
         let Symbol::Word(word) = token.symbol else {
@@ -243,8 +245,8 @@ impl<'a> Source<'a> {
         if word.len() > 32 {
             return Err(token.unexpected());
         }
-        let controller = self.half(controller, token)?;
-        let label = self.half(label, token)?;
+        let controller = self.half(controller, token, letters)?;
+        let label = self.half(label, token, letters)?;
         Ok(Party {
             controller,
             label: Some(label),
@@ -253,21 +255,43 @@ impl<'a> Source<'a> {
     }
 
     // A NAME that is one half of this token.
-    fn half(&self, half: &[u8], token: Token<'_>) -> Result<Name, PlanError>
-        ensures name { IfOk result (λ it. (name_bytes it ≡ half.now) × (is_brief_name half.now ≡ true)) }
+    fn half(&self, half: &[u8], token: Token<'_>, letters: Letters) -> Result<Name, PlanError>
+        ensures name { IfOk result (λ it. (name_bytes it ≡ half.now) × (is_brief_name letters half.now ≡ true)) }
         ensures refused { IfErr result (λ e. (e ≡ PlanError.NoMemory) ⊎
-            ((is_brief_name half.now ≡ false) × (e ≡ unexpected_at token.entry))) }
+            ((is_brief_name letters half.now ≡ false) × (e ≡ unexpected_at token.entry))) }
     {
         let Ok(text) = str::from_utf8(half) else {
             return Err(token.unexpected());
         };
-        if is_brief_word(text) {
+        if is_brief_word(text) || letters == Letters::Board && is_board_word(text) {
             return Err(token.unexpected());
         }
         match Name::new(self.alloc, text) {
             Ok(name) => Ok(name),
             Err(NameError::BadName) => Err(token.unexpected()),
             Err(NameError::NoMemory) => Err(PlanError::NoMemory),
+        }
+    }
+
+    /// `(` before an address
+    pub(crate) fn open_address(&mut self) -> Result<(), PlanError>
+        ensures { Passes result (past open_in (place self.old)) (place self.new) }
+    {
+        let token = self.next(Wanted::OpenAddress);
+        match token.symbol {
+            Symbol::Sign(Sign::Open) => Ok(()),
+            _ => Err(token.unexpected()),
+        }
+    }
+
+    /// `)` after it
+    pub(crate) fn close_address(&mut self) -> Result<(), PlanError>
+        ensures { Passes result (past close_in (place self.old)) (place self.new) }
+    {
+        let token = self.next(Wanted::CloseAddress);
+        match token.symbol {
+            Symbol::Sign(Sign::Close) => Ok(()),
+            _ => Err(token.unexpected()),
         }
     }
 

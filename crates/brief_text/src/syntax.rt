@@ -73,8 +73,26 @@ pub(crate) enum DataSyntax {
         refused: TailSyntax,
         acked: Box<DataSyntax>,
     },
+    /// A byte that follows from others.
+    Made {
+        made: MadeSyntax,
+        /// Where the byte is not acknowledged.
+        refused: TailSyntax,
+        acked: Box<DataSyntax>,
+    },
     /// No further byte.
     Last(TailSyntax),
+}
+
+/// A byte that follows from others.
+#[derive(Drop)]
+pub(crate) enum MadeSyntax {
+    /// `wr(..)` or `rd(..)`: the first byte of a frame to this address.
+    Header { reads: bool, to: Value<Address> },
+    /// `pec`: the packet error code.
+    PacketCode,
+    /// `sum`: the checksum.
+    Checksum,
 }
 
 /// A STOP, or a repeated START and further frames.

@@ -20,6 +20,10 @@ pub(crate) enum Wanted {
     Target,
     Count,
     Data,
+    /// A byte that follows from others, and the parentheses of its address.
+    Made,
+    OpenAddress,
+    CloseAddress,
     Star,
     Times { ranges: bool },
     Else,
@@ -39,11 +43,13 @@ pub(crate) struct Trace {
     depth: u32,
     // what the item gives a name to
     item: Kind,
+    // whether bytes may follow from others
+    made: bool,
 }
 
 impl Trace {
-    /// Nothing was taken.
-    pub(crate) fn new() -> Trace {
+    /// Nothing was taken of a text, in which bytes may follow from others or not.
+    pub(crate) fn new(made: bool) -> Trace {
         Trace {
             spot: Spot {
                 before: 0,
@@ -54,6 +60,7 @@ impl Trace {
             before: Wanted::Item,
             depth: 0,
             item: Kind::Message,
+            made,
         }
     }
 
@@ -73,6 +80,7 @@ impl Trace {
                 Wanted::Item => token.kind().unwrap_or(self.item),
                 _ => self.item,
             },
+            made: self.made,
         }
     }
 
@@ -99,7 +107,9 @@ impl Trace {
             Wanted::Refusal { .. } => Expected::Refusal,
             // what is taken where it stands is never refused
             Wanted::Star | Wanted::Else => Expected::Semicolon,
-            Wanted::Data | Wanted::Close { .. } | Wanted::End => self.further(),
+            Wanted::OpenAddress => Expected::Bracket { opens: true },
+            Wanted::CloseAddress => Expected::Bracket { opens: false },
+            Wanted::Data | Wanted::Made | Wanted::Close { .. } | Wanted::End => self.further(),
         }
     }
 
@@ -108,6 +118,7 @@ impl Trace {
         let (times, refusal, bytes) = match self.before {
             Wanted::Target | Wanted::Times { .. } => (false, true, true),
             Wanted::Data => (true, true, true),
+            Wanted::Made | Wanted::CloseAddress => (false, true, true),
             Wanted::Count => (false, true, false),
             Wanted::Refusal { bytes } | Wanted::Close { bytes } => (false, false, bytes),
             _ => return Expected::Semicolon,
@@ -116,6 +127,7 @@ impl Trace {
             times,
             refusal,
             bytes,
+            made: self.made,
             is_inner: self.depth != 0,
         })
     }

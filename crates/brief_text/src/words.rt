@@ -4,7 +4,7 @@ ghost use Rattle.std.specs.Prelude.{◌≡◌, ◌≢◌, ◌<◌, ◌≤◌, �
 ghost use Rattle.std.specs.List.{prefix_len};
 ghost use Rattle.std.specs.Option.{option_map};
 ghost use Rattle.message_tree.specs.Bits.{bits_below};
-ghost use Rattle.message_tree.specs.Patterns.{address_bits};
+ghost use Rattle.message_tree.specs.Patterns.{address_bits, pattern_bits};
 ghost use Rattle.plan_text.specs.Symbols.{bit_symbol};
 ghost use Rattle.plan_text.specs.Words.{around_dots};
 ghost use Rattle.brief_text.specs.Reading.{repetition_said};
@@ -56,6 +56,32 @@ pub(crate) fn known_address(address: &Address) -> Option<u8>
         };
     }
     Some(number)
+}
+
+/// The number of a data byte that is known in all bits.
+pub(crate) fn known_byte(bits: &Pattern) -> Option<u8>
+    ensures read { result ≡ known_number 0 (pattern_bits bits.now) }
+{
+    let mut number = 0u8;
+    for place in 0..8u8 {
+        number = match bits.bit(place) {
+            Bit::Zero => number * 2,
+            Bit::One => number * 2 + 1,
+            Bit::Either => return None,
+        };
+    }
+    Some(number)
+}
+
+/// The symbol of a bit in a plan text.
+pub(crate) fn symbol(bit: Bit) -> u8
+    ensures { result ≡ bit_symbol bit }
+{
+    match bit {
+        Bit::Zero => b'0',
+        Bit::One => b'1',
+        Bit::Either => b'x',
+    }
 }
 
 // What follows these two bytes at the front of a word.

@@ -12,6 +12,11 @@ abbrev pub is_brief_word : List ℕ → Bool
 is_brief_word bytes =
     list_any (bytes_eq bytes) (codes "brief" ∷ codes "device" ∷ codes "byte" ∷ codes "any" ∷ [])
 
+-- the words of the second version alone
+abbrev pub is_board_word : List ℕ → Bool
+is_board_word bytes =
+    list_any (bytes_eq bytes) (codes "with" ∷ codes "group" ∷ codes "extend" ∷ codes "but" ∷ codes "wr" ∷ codes "rd" ∷ codes "pec" ∷ codes "sum" ∷ [])
+
 -- a message, a controller or an interrupt has such a word as its name
 abbrev pub has_brief_word : Contents → Bool
 has_brief_word plan =

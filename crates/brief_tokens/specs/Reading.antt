@@ -1,6 +1,7 @@
 -- What the functions that read tokens say of those that are left.
 use Rattle.std.specs.Prelude.{ℕ, Option, Some, None}
 use Rattle.lexer.specs.Lexemes.{text_end, foreign, stray}
+use Rattle.lexer.specs.declared.lexemes.Letters.{Letters}
 use Rattle.plan_text.specs.declared.errors.PlanError.{PlanError}
 use Rattle.plan_text.specs.declared.errors.PlanError.TheVariants as errors
 use Rattle.brief_tokens.specs.declared.symbols.Symbol.{Symbol}
@@ -11,13 +12,18 @@ use Rattle.brief_tokens.specs.Tokens as spec
 
 -- the tokens that are left
 abbrev pub left : Tokens → spec.Tokens
-left tokens = spec.tokens_of tokens.lexer.line tokens.lexer.rest.now
+left tokens = spec.tokens_in tokens.lexer.letters tokens.lexer.line tokens.lexer.rest.now
+
+-- the letters of its text
+abbrev pub letters_of : Tokens → Letters
+letters_of tokens = tokens.lexer.letters
 
 -- a symbol on its line, and these tokens after it
 abbrev pub with_symbol : Symbol → ℕ → spec.Tokens → spec.Tokens
 with_symbol (symbols.Keyword k) line rest = spec.next (spec.keyword k) line rest
 with_symbol (symbols.Word w) line rest = spec.next (spec.word w.now) line rest
 with_symbol (symbols.Sign s) line rest = spec.next (spec.sign s) line rest
+with_symbol (symbols.Quoted q) line rest = spec.next (spec.quoted q.now) line rest
 with_symbol symbols.Stray line rest = spec.last stray line
 with_symbol symbols.Foreign line rest = spec.last foreign line
 with_symbol symbols.End line rest = spec.last text_end line
@@ -27,6 +33,7 @@ abbrev pub token_of_symbol : Symbol → Option spec.Token
 token_of_symbol (symbols.Keyword k) = Some (spec.keyword k)
 token_of_symbol (symbols.Word w) = Some (spec.word w.now)
 token_of_symbol (symbols.Sign s) = Some (spec.sign s)
+token_of_symbol (symbols.Quoted q) = Some (spec.quoted q.now)
 token_of_symbol _ = None
 
 abbrev pub with_token : Token → spec.Tokens → spec.Tokens

@@ -10,6 +10,6 @@ mod symbols;
 mod tokens;
 
 pub use heads::after_head;
-pub use names::is_brief_word;
+pub use names::{is_board_word, is_brief_word};
 pub use symbols::{Keyword, Sign, Symbol, Token};
 pub use tokens::{Tokens, record};

@@ -2,10 +2,11 @@
 
 ghost use Rattle.std.specs.Prelude.{◌≡◌, Some, true, false};
 ghost use Rattle.brief_tokens.specs.Tokens.{keyword_of, token_of_word, sign_of};
+ghost use Rattle.brief_tokens.specs.Tokens.{board_keyword_of, further_keyword_of, board_token_of_word};
 ghost use Rattle.brief_tokens.specs.Reading.{token_of_symbol};
 ghost use Rattle.lexer.specs.Lexemes as lexemes;
 
-use lexer::Lexeme;
+use lexer::{Letters, Lexeme};
 use origins::{ItemKind, Kind, Part};
 use plan_text::PlanError;
 
@@ -24,6 +25,15 @@ pub enum Keyword {
     Read,
     Else,
     Stop,
+    // in the second version
+    With,
+    Group,
+    Extend,
+    But,
+    Wr,
+    Rd,
+    Pec,
+    Sum,
 }
 
 /// A character that is a token by itself.
@@ -44,9 +54,11 @@ pub enum Symbol<'a> {
     Word(&'a [u8]),
     /// `;`, `(`, `)` or `*`.
     Sign(Sign),
+    /// What stands between the quotes of a string.
+    Quoted(&'a [u8]),
     /// An ASCII character that belongs to no token.
     Stray,
-    /// A byte of 128 or more, inside a comment or outside.
+    /// A byte of 128 or more, where its text may not have one.
     Foreign,
     /// The end of the text.
     End,
@@ -63,15 +75,16 @@ impl<'a> Token<'a> {
     ghost use Rattle.lexer.specs.Reading.{with_lexeme};
     ghost use Rattle.brief_tokens.specs.Reading.{unexpected_at, with_token};
     ghost use Rattle.brief_tokens.specs.Heads.{no_version};
-    ghost use Rattle.brief_tokens.specs.Tokens.{tokens_from};
+    ghost use Rattle.brief_tokens.specs.Tokens.{tokens_by, told_in};
     ghost use Rattle.brief_tokens.specs.Tokens as tokens;
 
-    /// The token that a lexeme is.
-    pub(crate) fn of(lexeme: Lexeme<'a>) -> Self
-        ensures { (rest : lexemes.Lexemes) →
-            tokens_from (with_lexeme lexeme.entry rest) ≡ with_token result (tokens_from rest) }
+    /// The token that a lexeme is in a text with these letters.
+    pub(crate) fn of(lexeme: Lexeme<'a>, letters: Letters) -> Self
+        ensures { (rest : lexemes.Lexemes) → tokens_by (told_in letters) (with_lexeme lexeme.entry rest) ≡
+            with_token result (tokens_by (told_in letters) rest) }
     {
         let symbol = match lexeme.symbol {
+            lexer::Symbol::Word(word) if letters == Letters::Board => board_symbol(word),
             lexer::Symbol::Word(word) => word_symbol(word),
             lexer::Symbol::Sign(byte) => Symbol::Sign(sign_of(byte)),
             lexer::Symbol::Stray => Symbol::Stray,
@@ -92,6 +105,7 @@ impl<'a> Token<'a> {
             Symbol::Sign(Sign::Semicolon) => Some(Part::End),
             Symbol::Sign(Sign::Star) => Some(Part::Star),
             Symbol::Sign(Sign::Open | Sign::Close) => Some(Part::Other),
+            Symbol::Quoted(_) => Some(Part::Other),
             Symbol::Stray | Symbol::Foreign | Symbol::End => None,
         }
     }
@@ -143,6 +157,8 @@ fn part_of_keyword(keyword: Keyword) -> Part<'static> {
         Keyword::Never => Part::Item(ItemKind::Never),
         Keyword::Write | Keyword::Read => Part::Direction,
         Keyword::Brief | Keyword::Any | Keyword::Else | Keyword::Stop => Part::Other,
+        Keyword::With | Keyword::Group | Keyword::Extend | Keyword::But => Part::Other,
+        Keyword::Wr | Keyword::Rd | Keyword::Pec | Keyword::Sum => Part::Other,
     }
 }
 
@@ -154,6 +170,53 @@ fn word_symbol(word: &[u8]) -> Symbol<'_>
     match keyword_of(word) {
         Some(keyword) => Symbol::Keyword(keyword),
         None => Symbol::Word(word),
+    }
+}
+
+/// The symbol that this word is in the second version.
+#[tactic(auto, unfolding(crate::specs::Tokens::board_token_of_word))]
+fn board_symbol(word: &[u8]) -> Symbol<'_>
+    ensures { token_of_symbol result ≡ Some (board_token_of_word word.now) }
+{
+    if let [b'"', rest @ ..] = word {
+        return Symbol::Quoted(&rest[..rest.len().saturating_sub(1)]);
+    }
+    match board_keyword_of(word) {
+        Some(keyword) => Symbol::Keyword(keyword),
+        None => Symbol::Word(word),
+    }
+}
+
+fn board_keyword_of(word: &[u8]) -> Option<Keyword>
+    ensures { result ≡ board_keyword_of word.now }
+{
+    match keyword_of(word) {
+        Some(keyword) => Some(keyword),
+        None => further_keyword_of(word),
+    }
+}
+
+fn further_keyword_of(word: &[u8]) -> Option<Keyword>
+    ensures { result ≡ further_keyword_of word.now }
+{
+    if word == b"with".as_slice() {
+        Some(Keyword::With)
+    } else if word == b"group".as_slice() {
+        Some(Keyword::Group)
+    } else if word == b"extend".as_slice() {
+        Some(Keyword::Extend)
+    } else if word == b"but".as_slice() {
+        Some(Keyword::But)
+    } else if word == b"wr".as_slice() {
+        Some(Keyword::Wr)
+    } else if word == b"rd".as_slice() {
+        Some(Keyword::Rd)
+    } else if word == b"pec".as_slice() {
+        Some(Keyword::Pec)
+    } else if word == b"sum".as_slice() {
+        Some(Keyword::Sum)
+    } else {
+        None
     }
 }
 

@@ -1,8 +1,8 @@
 // The tokens of a brief, one at a time, each with its line.
 
-ghost use Rattle.std.specs.Prelude.{◌≡◌};
-ghost use Rattle.lexer.specs.declared.lexemes.Letters.TheVariants.{Brief};
-ghost use Rattle.brief_tokens.specs.Tokens.{tokens_of};
+ghost use Rattle.std.specs.Prelude.{◌≡◌, true};
+ghost use Rattle.lexer.specs.Lexemes.{is_of_brief};
+ghost use Rattle.brief_tokens.specs.Tokens.{tokens_of, board_tokens_of};
 
 use crate::symbols::Token;
 use lexer::{Letters, Lexer, Spot};
@@ -14,26 +14,46 @@ use plan_text::{Expected, PlanError, Refused};
 #[derive(Drop)]
 pub struct Tokens<'a> {
     lexer: Lexer<'a>,
-    ghost is_brief: { lexer.letters ≡ Brief },
+    ghost is_brief: { is_of_brief lexer.letters ≡ true },
 }
 
 impl<'a> Tokens<'a> {
-    ghost use Rattle.brief_tokens.specs.Reading.{with_token, left};
+    ghost use Rattle.brief_tokens.specs.Reading.{with_token, left, letters_of};
 
-    /// The tokens of a whole text.
+    /// The tokens of a whole text in the first version.
     pub fn new(text: &'a [u8]) -> Self
-        ensures { left result ≡ tokens_of 1 text.now }
+        ensures tokens { left result ≡ tokens_of 1 text.now }
+        ensures letters { letters_of result ≡ Letters.Brief }
     {
         Tokens {
             lexer: Lexer::new(text, Letters::Brief),
         }
     }
 
+    /// Those of a whole text in the second version.
+    pub fn of_board(text: &'a [u8]) -> Self
+        ensures tokens { left result ≡ board_tokens_of 1 text.now }
+        ensures letters { letters_of result ≡ Letters.Board }
+    {
+        Tokens {
+            lexer: Lexer::new(text, Letters::Board),
+        }
+    }
+
+    /// The letters of the text: those of the first version, or of the second.
+    pub fn letters(&self) -> Letters
+        ensures { result ≡ letters_of self.now }
+    {
+        self.lexer.letters
+    }
+
     /// The next token. A stray character and a foreign byte stay in their places.
     pub fn next(&mut self) -> Token<'a>
-        ensures { left self.old ≡ with_token result (left self.new) }
+        ensures token { left self.old ≡ with_token result (left self.new) }
+        ensures letters { letters_of self.new ≡ letters_of self.old }
     {
-        Token::of(self.lexer.next())
+        let letters = self.lexer.letters;
+        Token::of(self.lexer.next(), letters)
     }
 
     /// The whole text.
@@ -67,7 +87,7 @@ impl<'a> Tokens<'a> {
         }
     }
 
-    /// The refusal of the token that was taken last, in the place of `brief` or of the `1` after it.
+    /// The refusal of the token that was taken last, in the place of `brief` or of its version.
     pub(crate) fn refused(&self, error: PlanError) -> Refused
         ensures { result.error ≡ error }
     {

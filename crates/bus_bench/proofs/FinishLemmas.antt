@@ -234,11 +234,6 @@ at_any f (t ∷ ss) any = elim (or_cases (f t) (list_any f ss) any) [
   | inr e ↦ let r = at_any f ss e in (suc r.0, r.1, r.2, r.3)
 ]
 
-ended_or_lost : (standing : Standing) → is_over standing ≡ true → (standing ≡ Ended) ⊎ (standing ≡ Lost)
-ended_or_lost Playing e = absurd cc
-ended_or_lost Lost e = inr refl
-ended_or_lost Ended e = inl refl
-
 ended_is : (standing : Standing) → is_ended standing ≡ true → standing ≡ Ended
 ended_is Ended e = refl
 ended_is Playing e = absurd cc

@@ -71,11 +71,6 @@ handed_seat id bid key setup me part number starts len place sent named b out lt
       };
     })
 
-pub handing_on : (bench : BenchName) (id id' : TableId) (me me' : Me Unit Hand) (number : ℕ) → IsHanding bench number id me → id' ≡ id → me' ≡ (handing_out me.0, me.1) → IsHanding bench (number + 1) id' me'
-handing_on bench id id' me me' number h same is =
-    subst (λ (y : TableId × Me Unit Hand). IsHanding bench (number + 1) y.0 y.1) (λ i. (sym same i, sym is i))
-    (record { named = h.named; slots = h.slots; hosts = h.hosts; out = ap (λ (n : ℕ). n + 1) h.out; none_back = h.none_back })
-
 -- one seat more, in order
 next_place : (a n : ℕ) → range_with_len a (suc n) ≡ range_with_len a n ++ (a + n) ∷ []
 next_place a zero = let s : a ≡ a + 0 = omega arith in ap (λ (k : ℕ). k ∷ []) s

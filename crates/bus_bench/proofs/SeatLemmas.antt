@@ -44,9 +44,6 @@ may_offer v place own slot live x s = ((λ b. (b.0, (s.left (x ∷ b.0)).0 b.1))
 same_bench : (id bid : TableId) (setup : Setup) (me : Me Unit Hand) → bench_name bid setup ≡ ticket_bench id me → id ≡ bid
 same_bench id bid setup me e = λ i. (sym e i).wire
 
-same_game : (id bid : TableId) (setup : Setup) (me : Me Unit Hand) → bench_name bid setup ≡ ticket_bench id me → setup.answers.items ≡ me.0.answers
-same_game id bid setup me e = λ i. (e i).answers
-
 pub put_allowed : (id bid : TableId) (key setup : Setup) (sid : ℕ) (me : Me Unit Hand) (number : ℕ) (place : Place) (slot live k : ℕ) (x : Put)
     → bench_name bid setup ≡ ticket_bench id me → IsBench bid key setup → IsSeat me number place None slot live Playing → Begins (rest_of place) (item_of me.0.answers slot x) → k ≡ contribution x
     → (id ≡ bid) × (slot < bid.words) × Allows (holds_at key) bid.slots sid me slot (λ n. (n + k) % 2 ^ 64) (λ n m. HasPut k me.0 m.0 × (m.1 ≡ me.1))

@@ -6,8 +6,8 @@
 //!
 //! `words` makes them of items and marks, `sending` of what a participant sends along a wire, and `meetings` has where an
 //! unsafe pair meets. `rows` has the rows of a bus and of participants, the same for all reports, and folds them. `labels`
-//! has what participants are called, `standing` where they stand in briefs, and `paints` colours. `below` begins the lines for
-//! people: with four spaces, so that what is left without them is the exact report, and in 80 columns.
+//! has what participants are called, `standing` where they stand in briefs, and `paints` colours. `below` begins the
+//! lines for people: with four spaces, so that what is left without them is the exact report, and in 80 columns.
 #![tactic(auto)]
 
 mod below;
@@ -25,5 +25,5 @@ pub use meetings::{Meeting, Rule, Side, bytes_of_wire, meeting_of, side_of};
 pub use paints::Paint;
 pub use rows::{ALIKE, BYTES, Row, beside, bus_row, row_of, tell_rows};
 pub use sending::{Ranges, deed, own_bit, pass, pass_own, push_offered, push_rest};
-pub use standing::{spelled, tell_item, tell_places};
+pub use standing::{tell_item, tell_places};
 pub use words::{Bytes, Words, bytes_of, row_of_marks, with_bytes};

@@ -1,7 +1,7 @@
 // Lines that say where what participants send stands in briefs.
 
 use crate::below::say;
-use growing_text::{Lines, Part, Text};
+use growing_text::{Lines, Part};
 use plan_words::{FileLine, PlanWords};
 use std::alloc::{AllocError, Global};
 
@@ -30,7 +30,7 @@ pub fn tell_places(alloc: Global, lines: &mut Lines, words: PlanWords<'_>, both:
 }
 
 fn tell_one(alloc: Global, lines: &mut Lines, place: FileLine<'_>) -> Result<(), AllocError> {
-    let place = spelled(alloc, place)?;
+    let place = place.spelled(alloc)?;
     if is_long(place.as_str()) {
         say(lines, "see this line:", &[]);
         tell_place(lines, place.as_str());
@@ -47,8 +47,8 @@ fn tell_two(
     first: FileLine<'_>,
     second: FileLine<'_>,
 ) -> Result<(), AllocError> {
-    let first = spelled(alloc, first)?;
-    let second = spelled(alloc, second)?;
+    let first = first.spelled(alloc)?;
+    let second = second.spelled(alloc)?;
     if is_long(first.as_str()) {
         say(lines, "see these lines:", &[]);
         tell_place(lines, first.as_str());
@@ -67,15 +67,4 @@ fn tell_place(lines: &mut Lines, place: &str) {
 
 fn is_long(place: &str) -> bool {
     PLACE < place.chars().count()
-}
-
-/// `FILE:LINE`.
-///
-/// # Errors
-///
-/// Where an allocation fails.
-pub fn spelled(alloc: Global, place: FileLine<'_>) -> Result<String, AllocError> {
-    let mut text = Text::new(alloc);
-    place.push_to(&mut text);
-    text.finish()
 }

@@ -1,38 +1,21 @@
-// The bits of headers and of data bytes, in the order in which they are sent (UM10204, 3.1.5 and 3.1.10).
+// The bits of headers, in the order in which they are sent (UM10204, 3.1.10), and where two bytes part.
 
-ghost use Rattle.std.specs.Prelude.{◌≡◌, ◌↔◌, [], ◌∷◌, ◌++◌, IsTrue, length};
+ghost use Rattle.std.specs.Prelude.{◌≡◌, ◌↔◌, [], ◌∷◌, IsTrue};
 ghost use Rattle.message_tree.specs.Bits.{SplitAt};
-ghost use Rattle.message_tree.specs.Patterns.{address_bits, pattern_bits};
 ghost use Rattle.message_tree.specs.Trees.{frame_tree};
 ghost use Rattle.certificate.specs.Proves.{frame_header, header_of};
 ghost use Rattle.plan_core.specs.Senders.{what_is_sent};
 
-use message_tree::{Address, Bit, Frame, Pattern};
+use message_tree::{Bit, Frame};
 use plan_core::Sends;
-
-/// The eight bits of the header with this address and direction.
-pub(crate) fn header_bits(address: &Address, direction: Bit) -> [Bit; 8]
-    ensures { result ≡ address_bits address.now ++ direction ∷ [] }
-{
-    [
-        address.bit(0),
-        address.bit(1),
-        address.bit(2),
-        address.bit(3),
-        address.bit(4),
-        address.bit(5),
-        address.bit(6),
-        direction,
-    ]
-}
 
 /// The eight bits of a frame's header: the direction bit is 0 for a write and 1 for a read.
 pub(crate) fn frame_bits(frame: &Frame) -> [Bit; 8]
     ensures { result ≡ frame_header (frame_tree frame.now) }
 {
     match frame {
-        Frame::Write { address, .. } => header_bits(address, Bit::Zero),
-        Frame::Read { address, .. } => header_bits(address, Bit::One),
+        Frame::Write { address, .. } => address.header(Bit::Zero),
+        Frame::Read { address, .. } => address.header(Bit::One),
     }
 }
 
@@ -42,24 +25,8 @@ pub(crate) fn first_header(start: &Sends<'_>) -> [Bit; 8]
 {
     match start {
         Sends::Message(frame) => frame_bits(frame),
-        Sends::Interrupt(address) => header_bits(address, Bit::One),
+        Sends::Interrupt(address) => address.header(Bit::One),
     }
-}
-
-/// The eight bits of a data byte.
-pub(crate) fn byte_bits(bits: &Pattern) -> [Bit; 8]
-    ensures { result ≡ pattern_bits bits.now }
-{
-    [
-        bits.bit(0),
-        bits.bit(1),
-        bits.bit(2),
-        bits.bit(3),
-        bits.bit(4),
-        bits.bit(5),
-        bits.bit(6),
-        bits.bit(7),
-    ]
 }
 
 /// Whether the bits at this place are known in both and different.

@@ -7,7 +7,7 @@ ghost use Rattle.certificate.specs.Proofs.{proof_tree, short};
 ghost use Rattle.certificate.specs.Proves.{ProvesFrames, ProvesPayloads, ProvesTails};
 ghost use Rattle.cert_check.specs.Reads.{ProvesReads};
 
-use crate::bits::{are_split_at, byte_bits, frame_bits};
+use crate::bits::{are_split_at, frame_bits};
 use certificate::Cert;
 use message_tree::{Count, Frame, Payload, Tail};
 
@@ -82,7 +82,7 @@ fn payloads_proved(x: &Payload, y: &Payload, cert: &Cert) -> bool
                 acked: y,
                 refused: s,
             } => match cert {
-                Cert::Part(place) => are_split_at(&byte_bits(a), &byte_bits(b), *place),
+                Cert::Part(place) => are_split_at(&a.bits(), &b.bits(), *place),
                 Cert::Byte(p, q) => payloads_proved(x, y, p) && tails_proved(r, s, q),
                 _ => false,
             },

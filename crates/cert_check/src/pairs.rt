@@ -1,7 +1,6 @@
 // The check of one proof.
 
 ghost use Rattle.std.specs.Prelude.{◌<◌, ◌↔◌, IsTrue, length, List};
-ghost use Rattle.message_tree.specs.Trees.{frame_tree};
 ghost use Rattle.certificate.specs.Proofs.{proof_tree};
 ghost use Rattle.certificate.specs.Proves.{Proves, ProvesHeaders, header_of};
 ghost use Rattle.plan_core.specs.PlanContents.{plan_contents};

@@ -12,7 +12,7 @@ ghost use Rattle.plan_core.specs.Senders.{what_is_sent};
 ghost use Rattle.cert_check.specs.Quick.{Begins, BeginsSpaced, BeginsTwo, IsProvedLine};
 ghost use Rattle.cert_check.specs.Reads.{ProvesReads};
 
-use crate::bits::{are_split_at, byte_bits, first_header, frame_bits};
+use crate::bits::{are_split_at, first_header, frame_bits};
 use message_tree::{Bit, Count, Frame, Payload, Tail};
 use plan_core::{Plan, Sends};
 
@@ -189,7 +189,7 @@ fn after_payloads<'a>(x: &Payload, y: &Payload, text: &'a [u8], room: u32) -> Op
                 let below = room.checked_sub(1)?;
                 match after_token(text, b'B') {
                     Some(text) => after_bytes(x, y, r, s, text, below),
-                    None => after_split(&byte_bits(a), &byte_bits(b), text),
+                    None => after_split(&a.bits(), &b.bits(), text),
                 }
             }
             Payload::Last(_) => None,

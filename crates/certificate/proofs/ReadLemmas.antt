@@ -142,16 +142,6 @@ stands_here text trees left standing number seen so_far = (
   so_far.text_is,
 )
 
-pub resumed : (before : List ℕ) (trees : List ProofTree) (standing : Standing) (left : ProofLines) → left.number ≡ standing.number → left.seen ≡ standing.seen → left.source.line ≡ standing.seen + 3
-    → Stands before trees standing → ReadSoFar (before ++ left.source.rest.now) trees left
-resumed before trees standing left number seen line stands = record {
-  printable = stands.printable;
-  counted = stands.counted ∙ sym seen;
-  placed = omega (arith, line, stands.counted);
-  fits = omega (arith, number, stands.fits);
-  text_is = ap (λ (t : List ℕ). t ++ left.source.rest.now) (stands.text_is ∙ ap (λ n. codes "cert 1\n" ++ proofs_text n trees) (sym number));
-}
-
 lines_long : (trees : List ProofTree) → length trees ≤ length (flat_map proof_line trees)
 lines_long [] = omega arith
 lines_long (tree ∷ trees) =

@@ -117,12 +117,9 @@ fn tip_of(words: &[String], first: &str) -> Option<&'static str> {
 
 // Whether one of the words is a command with this option.
 fn takes_further(words: &[String]) -> bool {
-    for entry in &COMMANDS {
-        if entry.takes_further() && has(words, entry.name) {
-            return true;
-        }
-    }
-    false
+    COMMANDS
+        .iter()
+        .any(|entry| entry.takes_further() && has(words, entry.name))
 }
 
 fn has(words: &[String], name: &str) -> bool {

@@ -56,6 +56,9 @@ impl Frame {
     }
 }
 
+// For how many marks there is room at first: most transactions have no more.
+const ROOM: usize = 32;
+
 /// A controller, by its number, whose line did in each slot what the bus shows, also before STOPs.
 #[derive(Clone, Copy)]
 pub struct Alike {
@@ -139,7 +142,7 @@ impl Drivers {
         }
     }
 
-    // Goes on to a time.
+    // Goes on to a time. Times at which nothing is asked are passed over.
     fn go_to(&mut self, time: u64) {
         self.before = self.now;
         for _ in self.past..self.ahead.len() {
@@ -169,14 +172,31 @@ impl Drivers {
         }
     }
 
+    // The bus is followed to this sample, where who pulls SDA is asked.
+    fn follow(&mut self, moment: Moment<'_>) -> Result<(), AllocError> {
+        let Moment { sample, event, .. } = moment;
+        self.go_to(sample.time);
+        if self.is_starting && sample.scl == Level::Low {
+            self.end_start();
+        }
+        match event {
+            Some(event) if moment.is_busy => self.go_on(event),
+            Some(_) if moment.begins => self.begin(),
+            _ => Ok(()),
+        }
+    }
+
     // A transaction begins.
-    fn begin(&mut self) {
+    fn begin(&mut self) -> Result<(), AllocError> {
         self.is_starting = true;
         self.frame = Frame::new();
+        let mut pulls = Vec::new(self.alloc);
+        pulls.reserve(ROOM)?;
         self.open = Some(Drove {
             started: self.now,
-            pulls: Vec::new(self.alloc),
+            pulls,
         });
+        Ok(())
     }
 
     // What the controllers pull at the next mark of a transaction.
@@ -261,23 +281,14 @@ impl Beside for Drivers {
         self.ahead.extend_from_slice(further)
     }
 
+    #[inline(always)]
     fn reach(&mut self, moment: Moment<'_>) -> Result<(), AllocError> {
-        let Moment {
-            sample,
-            event,
-            is_busy,
-            begins,
-        } = moment;
-        self.go_to(sample.time);
-        if self.is_starting && sample.scl == Level::Low {
-            self.end_start();
+        let ends_start = self.is_starting && moment.sample.scl == Level::Low;
+        if ends_start || moment.event.is_some() && (moment.is_busy || moment.begins) {
+            self.follow(moment)
+        } else {
+            Ok(())
         }
-        match event {
-            Some(event) if is_busy => self.go_on(event)?,
-            Some(_) if begins => self.begin(),
-            _ => {}
-        }
-        Ok(())
     }
 
     fn take_drove(&mut self) -> Option<Drove> {

@@ -1,6 +1,7 @@
 // Dumps that have for each controller what it pulls itself.
 
 use brief_tokens::is_brief_word;
+use capture_check::Beside;
 use decoding::{Ending, TransactionSink};
 use drives::{Drivers, Judging};
 use dump_tokens::{Bus, Drives};
@@ -52,17 +53,17 @@ pub(crate) fn drivers_of(alloc: Global, drives: Drives<'_>) -> Option<Drivers> {
     Some(Drivers::new(alloc, drives.all.len(), drives.pulling))
 }
 
-/// Hands the transactions of the dump on, beside the lines of controllers.
-pub(crate) fn decode_driven<J: Input, S: TransactionSink>(
+/// Hands the transactions of the dump on, beside who is there.
+pub(crate) fn decode_with<J: Input, S: TransactionSink, B: Beside>(
     alloc: Global,
     dump: &mut Dump<'_, '_, J>,
     sink: &mut S,
-    drivers: &mut Option<Drivers>,
+    beside: &mut Option<B>,
 ) -> Result<Ending, RunError>
     requires { S.needs }
 {
-    match drivers {
-        Some(drivers) => dump.decode_beside(alloc, sink, drivers),
+    match beside {
+        Some(beside) => dump.decode_beside(alloc, sink, beside),
         None => dump.decode(alloc, sink),
     }
 }

@@ -1,8 +1,10 @@
-//! The runs over dumps: `capture`, `decode`, `learn` and `signals`. Each finds a value, and writes it in the form that is wanted,
-//! `decode` as waves too.
+//! The runs over dumps: `capture`, `decode`, `learn` and `signals`. Each finds a value, and writes it in the form that is
+//! wanted, `decode` as waves too. `recordings` has the runs, `forms` drives the forms that are no exact lines, and `driven`
+//! is for dumps that have for each controller what it pulls itself.
 #![tactic(auto)]
 
 mod driven;
+mod forms;
 mod recordings;
 
 pub use recordings::{decode, explain_capture, learn, learn_with_names, list_signals};

@@ -14,14 +14,14 @@ ghost use Rattle.run_parts.specs.declared.runs.Status.TheVariants.{Good};
 ghost use Rattle.vcd_read.specs.Views.{asked};
 
 use crate::driven::{
-    decode_driven, drivers_of, judging_of, open_driven, refuse_no_names, refuse_others,
+    decode_with, drivers_of, judging_of, open_driven, refuse_no_names, refuse_others,
     refuse_unknown,
 };
+use crate::forms::{capture_to, decode_to};
 use bus_rows::Paint;
 use byte_lines::{ByteCounts, write_decoded, write_decoded_beside};
-use capture_check::Rises;
+use capture_check::{Beside, Rises};
 use command_words::{Capture, Lesson};
-use decoding::Explaining;
 use drives::Drivers;
 use dump_findings::{Layout, Seen, Selection, status_of_seen};
 use dump_objects::{CaptureObjects, DecodeObjects, write_signals};
@@ -38,7 +38,7 @@ use signals::{Dump, Listed, OpenDump, Recorder, SignalDump, reads_ahead};
 use std::alloc::Global;
 use std::thread::Threads;
 use transaction_lines::{CaptureLines, DecodeLines};
-use vcd_read::{Probe, Wrong};
+use vcd_read::{Nobody, Probe, Wrong};
 use waves::wave_of_recording;
 
 // What a capture has come to: its status, what it tells, in how many transactions a controller departed from the rules of the
@@ -220,9 +220,9 @@ fn capture_picked<R: AllocGlobal + Threads + Sync, J: Input, O: Output>(
         vcd,
         scl,
         sda,
-        others: _,
         least,
         wrong,
+        ..
     } = dump;
     if live {
         match live_capture(rt, alloc, plan, vcd, out, scl, sda, least, wrong) {
@@ -304,9 +304,21 @@ fn capture_dump<R: AllocGlobal + Threads + Sync, J: Input, O: Output>(
 ) -> Result<Told, RunError>
     ensures status { IfOk result (λ it. IsJudged capture.entry.bus.view.at_least it) }
 {
+    let alloc = rt.alloc();
+    let plan = words.plan();
+    let selection = Selection::new(capture.bus.view, dump.scale());
+    let judging = judging_of(alloc, capture.drives, plan, words)?;
     let (selection, rises) = match style {
-        Style::Objects => capture_objects(rt, words, dump, out, capture, drivers)?,
-        Style::Lines(paint) => capture_lines(rt, words, dump, out, capture, paint, drivers)?,
+        Style::Objects => {
+            let layout = layout_of(capture, Paint::Plain);
+            let objects = CaptureObjects::new(alloc, words, selection, layout, out)?;
+            capture_to(rt, plan, dump, objects.with_drives(judging), drivers)?
+        }
+        Style::Lines(paint) => {
+            let layout = layout_of(capture, paint);
+            let lines = CaptureLines::new(alloc, words, selection, layout, out)?;
+            capture_to(rt, plan, dump, lines.with_drives(judging), drivers)?
+        }
     };
     let Selection { seen, departed, .. } = selection;
     Ok(Told {
@@ -315,65 +327,6 @@ fn capture_dump<R: AllocGlobal + Threads + Sync, J: Input, O: Output>(
         departed,
         rises,
     })
-}
-
-fn capture_lines<R: AllocGlobal + Threads + Sync, J: Input, O: Output>(
-    rt: &R,
-    words: PlanWords<'_>,
-    dump: &mut Dump<'_, '_, J>,
-    out: &mut O,
-    capture: Capture<'_>,
-    paint: Paint,
-    drivers: &mut Option<Drivers>,
-) -> Result<(Selection, Rises), RunError> {
-    let alloc = rt.alloc();
-    let selection = Selection::new(capture.bus.view, dump.scale());
-    let lines = CaptureLines::new(alloc, words, selection, layout_of(capture, paint), out)?;
-    let judging = judging_of(alloc, capture.drives, words.plan(), words)?;
-    let mut explaining = Explaining {
-        rt,
-        alloc,
-        plan: words.plan(),
-        sink: lines.with_drives(judging),
-    };
-    let ended = decode_driven(alloc, dump, &mut explaining, drivers);
-    let Explaining { sink, .. } = explaining;
-    match ended {
-        Ok(ending) => Ok((sink.finish(dump.quiet(), ending)?, ending.rises)),
-        Err(error) => Ok((sink.stop(error)?, Rises::NONE)),
-    }
-}
-
-fn capture_objects<R: AllocGlobal + Threads + Sync, J: Input, O: Output>(
-    rt: &R,
-    words: PlanWords<'_>,
-    dump: &mut Dump<'_, '_, J>,
-    out: &mut O,
-    capture: Capture<'_>,
-    drivers: &mut Option<Drivers>,
-) -> Result<(Selection, Rises), RunError> {
-    let alloc = rt.alloc();
-    let selection = Selection::new(capture.bus.view, dump.scale());
-    let objects = CaptureObjects::new(
-        alloc,
-        words,
-        selection,
-        layout_of(capture, Paint::Plain),
-        out,
-    )?;
-    let judging = judging_of(alloc, capture.drives, words.plan(), words)?;
-    let mut explaining = Explaining {
-        rt,
-        alloc,
-        plan: words.plan(),
-        sink: objects.with_drives(judging),
-    };
-    let ended = decode_driven(alloc, dump, &mut explaining, drivers);
-    let Explaining { sink, .. } = explaining;
-    match ended {
-        Ok(ending) => Ok((sink.finish(ending)?, ending.rises)),
-        Err(error) => Ok((sink.stop(error)?, Rises::NONE)),
-    }
 }
 
 // ---- decode
@@ -506,9 +459,10 @@ fn exact_bytes<J: Input, O: Output>(
     live: bool,
     recorder: &mut Option<Recorder>,
 ) -> Result<(Selection, Rises), RunError> {
+    let dump = dump.parts();
     let told = match recorder {
-        Some(recorder) => bytes_beside(alloc, dump.parts(), out, live, recorder),
-        None => bytes_of(alloc, dump.parts(), out, live),
+        Some(recorder) => bytes_beside(alloc, dump, out, live, recorder),
+        None => bytes_beside(alloc, dump, out, live, &mut Nobody),
     };
     match told {
         Ok(counts) => {
@@ -519,40 +473,22 @@ fn exact_bytes<J: Input, O: Output>(
     }
 }
 
-fn bytes_of<J: Input, O: Output>(
+fn bytes_beside<J: Input, O: Output, B: Beside>(
     alloc: Global,
     dump: OpenDump<'_, '_, J>,
     out: &mut O,
     live: bool,
+    beside: &mut B,
 ) -> Result<ByteCounts, RunError> {
     let OpenDump {
         vcd,
         scl,
         sda,
-        others: _,
         least,
         wrong,
+        ..
     } = dump;
-    write_decoded(alloc, vcd, out, scl, sda, least, live, wrong)
-}
-
-// The same, where the bus is recorded too.
-fn bytes_beside<J: Input, O: Output>(
-    alloc: Global,
-    dump: OpenDump<'_, '_, J>,
-    out: &mut O,
-    live: bool,
-    recorder: &mut Recorder,
-) -> Result<ByteCounts, RunError> {
-    let OpenDump {
-        vcd,
-        scl,
-        sda,
-        others: _,
-        least,
-        wrong,
-    } = dump;
-    write_decoded_beside(alloc, vcd, out, scl, sda, least, live, recorder, wrong)
+    write_decoded_beside(alloc, vcd, out, scl, sda, least, live, beside, wrong)
 }
 
 // Lines in which times, or what is told, are others.
@@ -564,12 +500,8 @@ fn decode_lines<J: Input, O: Output>(
     live: bool,
     recorder: &mut Option<Recorder>,
 ) -> Result<(Selection, Rises), RunError> {
-    let mut lines = DecodeLines::new(alloc, selection, live, out)?;
-    let ending = match recorder {
-        Some(recorder) => dump.decode_beside(alloc, &mut lines, recorder)?,
-        None => dump.decode(alloc, &mut lines)?,
-    };
-    Ok((lines.finish()?, ending.rises))
+    let lines = DecodeLines::new(alloc, selection, live, out)?;
+    decode_to(alloc, dump, lines, recorder)
 }
 
 fn decode_objects<J: Input, O: Output>(
@@ -580,12 +512,8 @@ fn decode_objects<J: Input, O: Output>(
     live: bool,
     recorder: &mut Option<Recorder>,
 ) -> Result<(Selection, Rises), RunError> {
-    let mut lines = DecodeObjects::new(alloc, selection, live, out)?;
-    let ending = match recorder {
-        Some(recorder) => dump.decode_beside(alloc, &mut lines, recorder)?,
-        None => dump.decode(alloc, &mut lines)?,
-    };
-    Ok((lines.finish()?, ending.rises))
+    let objects = DecodeObjects::new(alloc, selection, live, out)?;
+    decode_to(alloc, dump, objects, recorder)
 }
 
 // ---- learn and signals
@@ -686,9 +614,9 @@ fn learn_alone<J: Input, O: Output>(
         vcd,
         scl,
         sda,
-        others: _,
         least,
         wrong,
+        ..
     } = dump.parts();
     let (status, ending) = write_learned(alloc, vcd, out, scl, sda, least, seen, likeness, wrong)?;
     Ok(ended(status, Recorded::Other, ending.rises, None))
@@ -703,7 +631,7 @@ fn learn_driven<J: Input, O: Output>(
     drives: Drives<'_>,
 ) -> Result<Result<Ended, RunError>, Halt> {
     let mut drivers = drivers_of(alloc, drives);
-    let ending = match decode_driven(alloc, dump, &mut seen, &mut drivers) {
+    let ending = match decode_with(alloc, dump, &mut seen, &mut drivers) {
         Ok(ending) => ending,
         Err(error) => return Ok(Err(error)),
     };

@@ -56,12 +56,7 @@ pub(crate) fn below_wire(
 
 // Whether a starter loses in the block.
 fn is_lost_in(tracks: &[Track], block: &[Cell]) -> bool {
-    for track in tracks {
-        if is_lost(track, block) {
-            return true;
-        }
-    }
-    false
+    tracks.iter().any(|track| is_lost(track, block))
 }
 
 fn is_lost(track: &Track, block: &[Cell]) -> bool {

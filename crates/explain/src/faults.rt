@@ -89,7 +89,7 @@ pub(crate) fn tell_offer(lines: &mut Lines, offer: &Offer) {
         say(lines, "{}", &[Part::Name(item.as_str())]);
     }
     // (one for which there was no memory is said too: it cuts the lines)
-    if !offer.after.is_empty() || !offer.after.is_whole() {
+    if !offer.after.is_empty() {
         say_all(lines, &offer.after);
     }
 }

@@ -1,6 +1,6 @@
 // What a check did not look at, in lines: messages that no controller lists, and pairs that `never` leaves out.
 
-use bus_rows::{say, say_all, spelled};
+use bus_rows::{say, say_all};
 use growing_text::{Lines, Part, Sentence};
 use plan_core::Plan;
 use plan_findings::unsent_in;
@@ -116,7 +116,7 @@ fn tell_run(alloc: Global, said: &mut Sentence, words: PlanWords<'_>, run: Run) 
         said.tell(" to {}", &[Part::Name(name_of(words.plan(), last))]);
     }
     if let Some(place) = words.message_at(first) {
-        match spelled(alloc, place) {
+        match place.spelled(alloc) {
             Ok(place) => said.tell(" ({})", &[Part::Name(place.as_str())]),
             Err(_) => said.cut(),
         }

@@ -9,9 +9,10 @@ use Rattle.plan_text.specs.declared.errors.PlanError.TheVariants as plan
 use Rattle.brief_text.specs.Briefs.{Means, IsRefused, text_read, brief_read}
 use Rattle.brief_text.specs.Drafts.{Draft, no_items}
 use Rattle.brief_text.specs.Splitting.{plan_meant}
-use Rattle.given_plans.specs.Given.{IsNeither, no_plan, no_brief, no_head, RefusesGiven, RefusesFurther, is_version}
+use Rattle.given_plans.specs.Given.{IsNeither, no_second, no_plan, no_brief, no_head, RefusesGiven, RefusesFurther, begins_second, is_version}
 use Rattle.given_plans.specs.declared.plans.Halted.{Halted}
 use Rattle.given_plans.specs.declared.plans.RefusedText.{RefusedText}
+use Rattle.given_plans.specs.declared.plans.Refusal.{Refusal}
 use Rattle.run_parts.specs.declared.errors.RunError.{RunError}
 use Rattle.run_parts.specs.RunErrors.{run_error}
 
@@ -20,9 +21,15 @@ refuses_given text plan.NoMemory h = tt
 refuses_given text e (inl same) = cc
 refuses_given text e (inr first) = first
 
-pub plan_refused : (text : List ℕ) (e : PlanError) → (e ≡ plan.NoMemory) ⊎ First text e → is_version e ≡ false → (e ≡ plan.NoMemory) ⊎ IsNeither text e
-plan_refused text e (inl none) other = inl none
-plan_refused text e (inr first) other = inr (no_plan first other)
+pub second_refused : {X : Type 0} (r : Result X Refusal) (text : List ℕ) → IfErr r (λ e. (e.refused.error ≡ plan.NoMemory) ⊎ IsRefused text e.refused.error) → begins_second text ≡ true
+    → IfErr r (λ e. (e.refused.error ≡ plan.NoMemory) ⊎ IsNeither text e.refused.error)
+second_refused (Ok x) text refused second = tt
+second_refused (Err e) text (inl none) second = inl none
+second_refused (Err e) text (inr refused) second = inr (no_second second refused)
+
+pub plan_refused : (text : List ℕ) (e : PlanError) → (e ≡ plan.NoMemory) ⊎ First text e → begins_second text ≡ false → is_version e ≡ false → (e ≡ plan.NoMemory) ⊎ IsNeither text e
+plan_refused text e (inl none) other version = inl none
+plan_refused text e (inr first) other version = inr (no_plan other first version)
 
 pub brief_refused : (text : List ℕ) (head e : PlanError) → (e ≡ plan.NoMemory) ⊎ IsRefused text e → is_version e ≡ false → is_version head ≡ true → First text head → (e ≡ plan.NoMemory) ⊎ IsNeither text e
 brief_refused text head e (inl none) other at_head first = inl none

@@ -1,10 +1,14 @@
 -- A plan that is given as a plan text, or as a brief.
-use Rattle.std.specs.Prelude.{◌≡◌, ◌⊎◌, ℕ, Bool, true, false, List, Ok, Err}
+use Rattle.std.specs.Prelude.{◌≡◌, ◌⊎◌, ℕ, Bool, true, false, List, Result, Ok, Err}
+use Rattle.lexer.specs.declared.lexemes.Letters.{Letters}
+use Rattle.lexer.specs.declared.lexemes.Letters.TheVariants.{Board}
 use Rattle.plan_core.specs.Contents.{Contents}
 use Rattle.plan_text.specs.Grammar.{Spells}
 use Rattle.plan_text.specs.Refusals.{First}
 use Rattle.plan_text.specs.declared.errors.PlanError.{PlanError}
 use Rattle.plan_text.specs.declared.errors.PlanError.TheVariants.{Version}
+use Rattle.brief_tokens.specs.Heads.{opened}
+use Rattle.brief_tokens.specs.Tokens.{Tokens}
 use Rattle.brief_text.specs.Briefs.{Means, IsRefused, text_read}
 use Rattle.brief_text.specs.Drafts.{Draft}
 use Rattle.run_parts.specs.declared.errors.RunError.{RunError}
@@ -19,10 +23,19 @@ abbrev pub is_version : PlanError → Bool
 is_version (Version line) = true
 is_version _ = false
 
--- The first refusal of a text that is neither: that of a plan text; and where it does not begin as a plan, that of a brief,
--- unless it does not begin as a brief either.
+-- whether the text begins as a brief of the second version, whose comments may have bytes that no plan text has
+abbrev pub is_second : Result (Letters × Tokens) PlanError → Bool
+is_second (Ok (Board, rest)) = true
+is_second _ = false
+
+abbrev pub begins_second : List ℕ → Bool
+begins_second text = is_second (opened text)
+
+-- The first refusal of a text that is neither: that of a brief, where it begins as one of the second version. Else that of a plan
+-- text; and where it does not begin as a plan, that of a brief, unless it does not begin as a brief either.
 pub data IsNeither (text : List ℕ) : PlanError → Type 0 where
-  no_plan : {e : PlanError} → First text e → is_version e ≡ false → IsNeither text e
+  no_second : {e : PlanError} → begins_second text ≡ true → IsRefused text e → IsNeither text e
+  no_plan : {e : PlanError} → begins_second text ≡ false → First text e → is_version e ≡ false → IsNeither text e
   no_brief : {head e : PlanError} →
       First text head →
       is_version head ≡ true →

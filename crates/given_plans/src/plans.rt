@@ -3,16 +3,18 @@
 ghost use Rattle.std.specs.Prelude.{◌≡◌, ◌⊎◌, true, [], ◌∷◌, ℕ, List, IfOk, IfErr, IfSome};
 ghost use Rattle.plan_core.specs.PlanContents.{plan_contents};
 ghost use Rattle.plan_text.specs.Refusals.{First};
-ghost use Rattle.brief_text.specs.Briefs.{Means};
+ghost use Rattle.brief_text.specs.Briefs.{Means, IsRefused};
 ghost use Rattle.brief_text.specs.Splitting.{plan_meant};
 ghost use Rattle.brief_text.specs.Together.{together};
-ghost use Rattle.given_plans.specs.Given.{GivesPlan, IsNeither, RefusesGiven, is_version};
+ghost use Rattle.given_plans.specs.Given.{GivesPlan, IsNeither, RefusesGiven, begins_second, is_version};
 ghost use Rattle.given_plans.specs.Sources.{bytes_of};
 ghost use Rattle.run_parts.specs.RunErrors.{run_error};
 ghost use Rattle.run_parts.specs.Runs.{ReadsText, HaltsAtText};
 ghost use Rattle.run_parts.specs.declared.errors.RunError.TheVariants.{NoMemory};
 
 use brief_text::Briefs;
+use brief_tokens::after_head;
+use lexer::Letters;
 use origins::{Origins, Spans};
 use plan_core::Plan;
 use plan_text::{Language, Place, PlanError, Refused, read_plan_at};
@@ -134,7 +136,7 @@ impl From<AllocError> for Halted {
 }
 
 /// The plan that the text which the reader gives spells, or, where it does not begin as a plan text, the one that it means as a
-/// brief.
+/// brief. What begins as a brief of the second version is read as one, whatever its comments have.
 ///
 /// # Errors
 ///
@@ -224,6 +226,9 @@ fn plan_of(alloc: Global, text: &[u8], spans: &mut Spans) -> Result<Meaning, Ref
     ensures refused { IfErr result (λ e.
         (e.refused.error ≡ PlanError.NoMemory) ⊎ IsNeither text.now e.refused.error) }
 {
+    if begins_second(text) {
+        return as_brief(alloc, text, spans);
+    }
     match read_plan_at(alloc, text, spans) {
         Ok(plan) => Ok(Meaning {
             plan,
@@ -249,6 +254,22 @@ fn meant_by(
     ensures refused { First text.now head.error → IfErr result (λ e.
         (e.refused.error ≡ PlanError.NoMemory) ⊎ IsNeither text.now e.refused.error) }
 {
+    match as_brief(alloc, text, spans) {
+        Ok(meaning) => Ok(meaning),
+        Err(refusal) if is_version(refusal.refused.error) => Err(Refusal {
+            language: Language::Plan,
+            refused: head,
+        }),
+        Err(refusal) => Err(refusal),
+    }
+}
+
+// The plan that the text means as a brief.
+fn as_brief(alloc: Global, text: &[u8], spans: &mut Spans) -> Result<Meaning, Refusal>
+    ensures meant { IfOk result (λ it. Means text.now (plan_contents it.plan)) }
+    ensures refused { IfErr result (λ e.
+        (e.refused.error ≡ PlanError.NoMemory) ⊎ IsRefused text.now e.refused.error) }
+{
     let briefs = Briefs::new(alloc);
     match briefs.with_at(text, spans) {
         Ok(briefs) => match meant_together(briefs) {
@@ -258,14 +279,19 @@ fn meant_by(
                 refused: Refused::memory(),
             }),
         },
-        Err(refused) if is_version(refused.error) => Err(Refusal {
-            language: Language::Plan,
-            refused: head,
-        }),
         Err(refused) => Err(Refusal {
             language: Language::Brief,
             refused,
         }),
+    }
+}
+
+fn begins_second(text: &[u8]) -> bool
+    ensures { result ≡ begins_second text.now }
+{
+    match after_head(text) {
+        Ok(rest) => matches!(rest.letters(), Letters::Board),
+        Err(_) => false,
     }
 }
 

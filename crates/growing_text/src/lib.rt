@@ -1,6 +1,7 @@
-//! A text that grows by parts, as reports and hints do. That there was no memory for one of them is told once, at the end.
-//! `texts` has the text, `sentences` has words that templates tell, `lines` breaks words into lines for a terminal, and `showing`
-//! escapes what that does not show.
+//! A text that grows by parts, as reports and hints do. That there was no memory for one of them is told once, at the
+//! end.
+//! `texts` has the text, `sentences` has words that templates tell, `lines` breaks words into lines for a terminal, and
+//! `showing` escapes what that does not show.
 #![tactic(auto)]
 
 mod lines;

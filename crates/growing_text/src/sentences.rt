@@ -107,9 +107,9 @@ impl Sentence {
         self.is_whole
     }
 
-    /// Whether it has no word.
+    /// Whether it says nothing. One of which a word is missing for memory says something.
     pub fn is_empty(&self) -> bool {
-        self.words.is_empty()
+        self.is_whole && self.words.is_empty()
     }
 
     /// Its words. Of one that is cut, some are missing.

@@ -34,6 +34,12 @@ fn further_words(alloc: Global, further: Further) -> Result<Vec<&'static str>, A
         words.push("the name of one")?;
         words.push("'any'")?;
     }
+    if further.bytes && further.made {
+        words.push("'wr'")?;
+        words.push("'rd'")?;
+        words.push("'pec'")?;
+        words.push("'sum'")?;
+    }
     if further.times {
         words.push("'*' and a number or a range")?;
     }
@@ -80,6 +86,8 @@ fn few(expected: Expected) -> &'static [&'static str] {
         Expected::BriefByte => &[BYTE],
         Expected::Times { ranges: false } => &["a number from 1 to 255"],
         Expected::Times { ranges: true } => &["a number from 1 to 255", "a range as '1..4'"],
+        Expected::Bracket { opens: true } => &["'('"],
+        Expected::Bracket { opens: false } => &["')'"],
         Expected::Refusal => &["'stop'", "'('"],
         Expected::Party => &[
             "the name of a controller",

@@ -111,12 +111,7 @@ pub fn kind_of(head: &[u8]) -> Option<Kind> {
 
 // Whether a file begins with one of these.
 fn has_mark(head: &[u8], marks: &[&[u8]]) -> bool {
-    for mark in marks {
-        if head.starts_with(mark) {
-            return true;
-        }
-    }
-    false
+    marks.iter().any(|mark| head.starts_with(mark))
 }
 
 fn is_tar(head: &[u8]) -> bool {

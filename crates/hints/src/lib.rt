@@ -1,18 +1,18 @@
 //! What is said to people after a refusal, or after a report that tells of nothing: where the cause stands, and what would
 //! stand there instead.
 //!
-//! Nothing here decides anything. A refusal is the caller's, and the reader knows its place. After that of a plan or of a brief
-//! `texts` shows the place, `expected` says what could stand there, `words` why a word cannot, `numbers` the same of numbers,
-//! `names` where a name stands already or which are nearest, and `wording` what the other refusals mean. `certs` shows the place in a certificate, and
-//! `starters` looks for labels in the plan. `safety` says what a safe plan leaves out, `summaries` how many unsafe pairs are
-//! seen in groups, `odd` what is likely a mistake in briefs, `plans` why a plan has no brief, and `devices` which file failed.
-//! What is said of dumps is a crate of its own, `dump_hints`, which puts its hints together by the parts below.
+//! Nothing here decides anything. A refusal is the caller's, and the reader knows its place. After that of a plan or of
+//! a brief `texts` shows the place, `expected` says what could stand there, `words` why a word cannot, `numbers` the
+//! same of numbers, `names` where a name stands already or which are nearest, and `wording` what the other refusals
+//! mean. `certs` shows the place in a certificate, and `starters` looks for labels in the plan. `safety` says what a
+//! safe plan leaves out, `summaries` how many unsafe pairs are seen in groups, `odd` what is likely a mistake in
+//! briefs, `plans` why a plan has no brief, and `devices` which file failed. What is said of dumps is a crate of its
+//! own, `dump_hints`, which puts its hints together by the parts below.
 //!
-//! `values` has the hints, and writes them as lines: it puts the word `hint:` before each, and breaks sentences for 80 columns.
-//! `lines` puts hints together from parts, `marking` shows a place in its line, and `paths` writes names of files as a shell takes
-//! them.
-//! `kinds` tells by its first bytes what a file is that stands in the place of another, and `likeness` which names are nearest
-//! to one that is not there.
+//! `values` has the hints, and writes them as lines: it puts the word `hint:` before each, and breaks sentences for 80
+//! columns. `lines` puts hints together from parts, `marking` shows a place in its line, and `paths` writes names of
+//! files as a shell takes them. `kinds` tells by its first bytes what a file is that stands in the place of another,
+//! and `likeness` which names are nearest to one that is not there.
 #![tactic(auto)]
 
 mod certs;

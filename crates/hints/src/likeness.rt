@@ -64,24 +64,12 @@ impl<'a> Nearest<'a> {
     }
 
     fn has(&self, name: &[u8]) -> bool {
-        for near in self.found.iter() {
-            if near.name.as_slice() == name {
-                return true;
-            }
-        }
-        false
+        self.found.iter().any(|near| near.name.as_slice() == name)
     }
 
     // Where a name belongs that is so far from the wanted one: after all that are as near.
     fn place_of(&self, far: usize) -> usize {
-        let mut at = 0usize;
-        for near in self.found.iter() {
-            if far < near.far {
-                break;
-            }
-            at = at.saturating_add(1);
-        }
-        at
+        self.found.iter().take_while(|near| near.far <= far).count()
     }
 
     /// Whether no name was added.

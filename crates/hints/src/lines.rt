@@ -35,7 +35,9 @@ impl Lines {
 
     /// One more sentence, which belongs to the one before.
     pub fn item(&mut self, words: &'static str) {
-        self.add(Hint::Item(Sentence::of(self.alloc, words, &[])));
+        let sentence = Sentence::of(self.alloc, words, &[]);
+        self.check(&sentence);
+        self.add(Hint::Item(sentence));
     }
 
     /// One more line, which belongs to the one before. It is not broken.
@@ -78,7 +80,16 @@ impl Lines {
 
     // What was said of the hint that ends.
     fn take(&mut self) -> Sentence {
-        mem::replace(&mut self.open, Sentence::new(self.alloc))
+        let sentence = mem::replace(&mut self.open, Sentence::new(self.alloc));
+        self.check(&sentence);
+        sentence
+    }
+
+    // Notes where there was no memory for all of it.
+    fn check(&mut self, sentence: &Sentence) {
+        if !sentence.is_whole() {
+            self.fail();
+        }
     }
 
     // One more hint.

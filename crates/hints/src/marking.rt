@@ -88,7 +88,8 @@ fn push_first(lines: &mut Lines, bytes: &[u8], most: usize) -> usize {
 fn push_all(lines: &mut Lines, bytes: &[u8]) {
     for byte in bytes {
         match *byte {
-            b' '..=b'~' => lines.part(char::from(*byte)),
+            b' ' => lines.word(" "),
+            b'!'..=b'~' => lines.part(char::from(*byte)),
             b'\t' => lines.part("\\t"),
             _ => lines.part(format_args!("\\x{byte:02x}")),
         }
@@ -114,24 +115,14 @@ fn width(byte: u8) -> usize {
 
 /// The end of these bytes that stands on their last line.
 pub fn last_line(bytes: &[u8]) -> &[u8] {
-    let mut from = bytes.len();
-    for byte in bytes.iter().rev() {
-        if *byte == b'\n' {
-            break;
-        }
-        from = from.saturating_sub(1);
-    }
-    bytes.get(from..).unwrap_or(bytes)
+    bytes.rsplit(is_feed).next().unwrap_or(bytes)
 }
 
 /// The beginning of these bytes that stands on their first line.
 pub fn first_line(bytes: &[u8]) -> &[u8] {
-    let mut end = 0usize;
-    for byte in bytes {
-        if *byte == b'\n' {
-            break;
-        }
-        end = end.saturating_add(1);
-    }
-    bytes.get(..end).unwrap_or(bytes)
+    bytes.split(is_feed).next().unwrap_or(bytes)
+}
+
+fn is_feed(byte: &u8) -> bool {
+    *byte == b'\n'
 }

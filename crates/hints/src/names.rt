@@ -6,7 +6,7 @@ use crate::lines::Lines;
 use crate::paths::push_path;
 use crate::texts::{Earlier, RefusedIn};
 use crate::words::push_meant;
-use origins::{ItemKind, Kind, NameAt, NamedTexts, Role, Span};
+use origins::{Kind, NameAt, NamedTexts, Role, Span, halves, has_member};
 use plan_text::{Expected, PlanError};
 use std::alloc::{AllocError, Global};
 
@@ -21,26 +21,34 @@ fn called(kind: Kind) -> &'static str {
     }
 }
 
-// A name in an item of the text that is refused, or of a brief before it: that which the item gives, what a controller lists, or
-// a side of a `never`, with its label.
+// A name in an item of the text that is refused, or of a brief before it: that which the item gives, what a controller
+// lists, or a side of a `never`, with its label.
 #[derive(Clone, Copy)]
 struct Known<'a> {
     name: &'a [u8],
     at: NameAt,
-    item: ItemKind,
-    // whether it is the first name of its item
-    is_first: bool,
+    // that of the message, which is empty where it is no family
+    range: &'a [u8],
 }
 
 impl Known<'_> {
     // Whether an item gives this name to one of this kind.
     fn gives(self, kind: Kind) -> bool {
-        self.item == ItemKind::Gives(kind) && self.is_first
+        self.at.gives(kind)
+    }
+
+    // Whether a controller lists it.
+    fn is_listed(self) -> bool {
+        self.uses(Kind::Message)
     }
 
     // Whether it is a side of a `never`.
     fn is_side(self) -> bool {
-        self.item == ItemKind::Never
+        self.uses(Kind::Controller)
+    }
+
+    fn uses(self, kind: Kind) -> bool {
+        self.at.role == Role::Used && self.at.kind == kind
     }
 
     fn stand(self) -> Stand {
@@ -67,10 +75,10 @@ pub struct Stand {
 fn known_in<'a>(alloc: Global, refused: &RefusedIn<'a>) -> Result<Vec<Known<'a>>, AllocError> {
     let mut known = Vec::new(alloc);
     let texts = texts_of(alloc, refused)?;
-    for (number, at) in texts.names().iter().enumerate() {
+    for at in texts.names() {
         let is_earlier = at.span.file < refused.number();
         if is_earlier || at.span.file == refused.number() && at.span.start < refused.place.start {
-            push_known(&mut known, &texts, number, *at)?;
+            push_known(&mut known, &texts, *at)?;
         }
     }
     Ok(known)
@@ -80,9 +88,9 @@ fn known_in<'a>(alloc: Global, refused: &RefusedIn<'a>) -> Result<Vec<Known<'a>>
 fn known_in_text<'a>(alloc: Global, refused: &RefusedIn<'a>) -> Result<Vec<Known<'a>>, AllocError> {
     let mut known = Vec::new(alloc);
     let texts = texts_of(alloc, refused)?;
-    for (number, at) in texts.names().iter().enumerate() {
+    for at in texts.names() {
         if at.span.file == refused.number() {
-            push_known(&mut known, &texts, number, *at)?;
+            push_known(&mut known, &texts, *at)?;
         }
     }
     Ok(known)
@@ -97,37 +105,28 @@ fn texts_of<'a>(alloc: Global, refused: &RefusedIn<'a>) -> Result<NamedTexts<'a>
     Ok(texts)
 }
 
-// Adds the name of this number. What a label sends belongs to the name before it.
+// Adds a name. What a label sends belongs to the name before it.
 fn push_known<'a>(
     known: &mut Vec<Known<'a>>,
     texts: &NamedTexts<'a>,
-    number: usize,
     at: NameAt,
 ) -> Result<(), AllocError> {
-    let Some(item) = texts.item(at) else {
-        return Ok(());
-    };
-    if at.role == Role::Label {
-        if let Some(side) = known.last_mut() {
-            side.name = with_label(texts, side.at.span, at.span);
+    match (at.role, at.kind) {
+        (Role::Label, _) => {
+            if let Some(side) = known.last_mut() {
+                side.name = with_label(texts, side.at.span, at.span);
+            }
+            Ok(())
         }
-        return Ok(());
+        (Role::Used, Kind::Device | Kind::Byte | Kind::Interrupt) => Ok(()),
+        (Role::Given, _) | (Role::Used, Kind::Message | Kind::Controller) => Ok(known.push(
+            Known {
+                name: texts.word(at),
+                at,
+                range: texts.range(at),
+            },
+        )?),
     }
-    let is_first = item.names == number;
-    if is_first
-        || matches!(
-            item.kind,
-            ItemKind::Never | ItemKind::Gives(Kind::Controller)
-        )
-    {
-        known.push(Known {
-            name: texts.word(at),
-            at,
-            item: item.kind,
-            is_first,
-        })?;
-    }
-    Ok(())
 }
 
 fn with_label<'a>(texts: &NamedTexts<'a>, controller: Span, label: Span) -> &'a [u8] {
@@ -272,8 +271,7 @@ fn push_place(alloc: Global, lines: &mut Lines, refused: &RefusedIn<'_>, stand: 
 fn stand_in_list(known: &[Known<'_>], word: &[u8]) -> Option<Stand> {
     let last = known.last()?;
     for one in known {
-        let is_listed = one.at.item == last.at.item && !one.is_first;
-        if is_listed && one.name == word {
+        if one.at.item == last.at.item && one.is_listed() && one.name == word {
             return Some(one.stand());
         }
     }
@@ -284,7 +282,7 @@ fn stand_in_list(known: &[Known<'_>], word: &[u8]) -> Option<Stand> {
 fn stand_of_maker(known: &[Known<'_>], kind: Kind, word: &[u8]) -> Option<Stand> {
     for one in known {
         let makes = match kind {
-            Kind::Message => one.gives(kind) && member_number(one.name, word).is_some(),
+            Kind::Message => one.gives(kind) && has_member(one.name, one.range, word),
             Kind::Controller => one.is_side() && is_part(one.name, word),
             _ => false,
         };
@@ -293,12 +291,6 @@ fn stand_of_maker(known: &[Known<'_>], kind: Kind, word: &[u8]) -> Option<Stand>
         }
     }
     None
-}
-
-// The number of the message with this name, if it is one of the family.
-fn member_number(family: &[u8], name: &[u8]) -> Option<u8> {
-    let digits = name.strip_prefix(family)?.strip_prefix(b"_")?;
-    str::from_utf8(digits).ok()?.parse::<u8>().ok()
 }
 
 // Whether the label makes a controller of this name.
@@ -312,25 +304,12 @@ fn is_part(label: &[u8], name: &[u8]) -> bool {
     }
 }
 
-// What stands before and after the `/` of a label.
-fn halves(label: &[u8]) -> Option<(&[u8], &[u8])> {
-    let at = label.iter().position(|byte| *byte == b'/')?;
-    Some((label.get(..at)?, label.get(at.saturating_add(1)..)?))
-}
-
 // A message that has the name of one of the family that this range makes.
 fn stand_of_member(known: &[Known<'_>], range: &[u8]) -> Option<Stand> {
     let family = known.last()?.name;
-    let (least, greatest) = str::from_utf8(range).ok()?.split_once("..")?;
-    let least = least.parse::<u8>().ok()?;
-    let greatest = greatest.parse::<u8>().ok()?;
     for one in known {
-        if one.gives(Kind::Message) {
-            if let Some(number) = member_number(family, one.name) {
-                if least <= number && number <= greatest {
-                    return Some(one.stand());
-                }
-            }
+        if one.gives(Kind::Message) && has_member(family, range, one.name) {
+            return Some(one.stand());
         }
     }
     None
@@ -352,9 +331,12 @@ fn side_among(known: &[Known<'_>], word: &[u8]) -> Stands {
 
 // The first side of the `never` that has no second one yet.
 fn first_side<'a>(known: &[Known<'a>]) -> Option<&'a [u8]> {
-    let last = known.last()?;
-    let is_first = last.is_side() && last.is_first;
-    is_first.then_some(last.name)
+    let (last, before) = known.split_last()?;
+    let is_second = match before.last() {
+        Some(other) => other.at.item == last.at.item,
+        None => false,
+    };
+    (last.is_side() && !is_second).then_some(last.name)
 }
 
 fn controller_of(side: &[u8]) -> &[u8] {
@@ -366,17 +348,14 @@ fn controller_of(side: &[u8]) -> &[u8] {
 
 // A `never` with these two, in either order.
 fn stand_of_never(known: &[Known<'_>], one: &[u8], other: &[u8]) -> Option<Stand> {
-    let mut first: &[u8] = &[];
+    let mut before = *known.first()?;
     for side in known {
-        if !side.is_side() {
-            continue;
-        }
-        let name = side.name;
-        if side.is_first {
-            first = name;
-        } else if first == one && name == other || first == other && name == one {
+        let are_two = side.is_side() && side.at.item == before.at.item;
+        let (first, second) = (before.name, side.name);
+        if are_two && (first == one && second == other || first == other && second == one) {
             return Some(side.stand());
         }
+        before = *side;
     }
     None
 }
@@ -503,10 +482,9 @@ fn push_nearest(
 // What has this name, where that is of another kind.
 fn other_kind(known: &[Known<'_>], kind: Kind, word: &[u8]) -> Option<Kind> {
     for one in known {
-        if let (ItemKind::Gives(other), true) = (one.item, one.is_first) {
-            if other != kind && one.name == word {
-                return Some(other);
-            }
+        let other = one.at.kind;
+        if other != kind && one.gives(other) && one.name == word {
+            return Some(other);
         }
     }
     None
@@ -556,10 +534,7 @@ fn push_all(
         }
         let is_shown = match listed {
             Listed::Of(kind) => one.gives(kind),
-            Listed::By(wanted) => {
-                let is_listed = one.item == ItemKind::Gives(Kind::Controller) && !one.is_first;
-                is_listed && controller == wanted
-            }
+            Listed::By(wanted) => one.is_listed() && controller == wanted,
         };
         if is_shown && nearest.add(alloc, one.name).is_err() {
             lines.fail();

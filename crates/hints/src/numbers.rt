@@ -64,10 +64,10 @@ impl<'a> Number<'a> {
     pub(crate) fn tell(self, lines: &mut Lines) {
         match self {
             Number::ByteSpan => lines.say(
-                "brief 1 has no spans of bytes: 'any' has all, and open bits have some, as 0x0X has 0x00 to 0x0F",
+                "a brief has no spans of bytes: 'any' has all, and open bits have some, as 0x0X has 0x00 to 0x0F",
             ),
             Number::AddressSpan => lines.say(
-                "brief 1 has no spans of addresses: open bits have some, as 0b00100xx has 0x10 to 0x13",
+                "a brief has no spans of addresses: open bits have some, as 0b00100xx has 0x10 to 0x13",
             ),
             Number::TenBits(word, value) => push_ten_bits(lines, word, value),
             Number::Beyond => {
@@ -118,23 +118,14 @@ fn has_digit_first(word: &str) -> bool {
 }
 
 fn has_hex_alone(digits: &str) -> bool {
-    for byte in digits.as_bytes() {
-        if !byte.is_ascii_hexdigit() {
-            return false;
-        }
-    }
-    true
+    digits.as_bytes().iter().all(u8::is_ascii_hexdigit)
 }
 
 // Whether these are the bits of an address or of a byte, which only lack what stands before them.
 fn is_bits(word: &str) -> bool {
-    if !matches!(word.len(), 7 | 8) {
-        return false;
-    }
-    for byte in word.as_bytes() {
-        if !matches!(*byte, b'0' | b'1') {
-            return false;
-        }
-    }
-    true
+    matches!(word.len(), 7 | 8)
+        && word
+            .as_bytes()
+            .iter()
+            .all(|byte| matches!(*byte, b'0' | b'1'))
 }

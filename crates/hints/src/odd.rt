@@ -2,10 +2,9 @@
 
 use crate::lines::Lines;
 use crate::values::Hints;
-use growing_text::Text;
 use lint::Oddity;
 use plan_core::Plan;
-use plan_words::{FileLine, PlanWords};
+use plan_words::PlanWords;
 use std::alloc::{AllocError, Global};
 
 // The most of them that are told.
@@ -27,7 +26,7 @@ pub(crate) fn push_oddities(
         }
         if count < MOST {
             if let Some(place) = words.at(oddity.spot()) {
-                lines.part(line_of(alloc, place)?);
+                lines.word(place.spelled(alloc)?.as_str());
                 lines.part(": ");
             }
             push_oddity(alloc, lines, words, *oddity)?;
@@ -60,12 +59,6 @@ fn is_unsent(oddity: Oddity<'_>) -> bool {
     matches!(oddity, Oddity::Unsent { .. })
 }
 
-fn line_of(alloc: Global, place: FileLine<'_>) -> Result<String, AllocError> {
-    let mut text = Text::new(alloc);
-    place.push_to(&mut text);
-    text.finish()
-}
-
 fn push_oddity(
     alloc: Global,
     lines: &mut Lines,
@@ -82,7 +75,7 @@ fn push_oddity(
             lines.part(format_args!("device '{second_name}' has the address of '{first_name}'"));
             if let Some(place) = words.at(first.spot) {
                 lines.part(", which stands at ");
-                lines.part(line_of(alloc, place)?);
+                lines.word(place.spelled(alloc)?.as_str());
             }
             lines.end();
         }

@@ -4,7 +4,7 @@ use crate::lines::Lines;
 use crate::odd::push_oddities;
 use crate::summaries::push_summary;
 use crate::values::Hints;
-use lint::Oddity;
+use lint::{Oddity, is_sent};
 use plan_core::Plan;
 use plan_words::PlanWords;
 use std::alloc::{AllocError, Global};
@@ -100,15 +100,6 @@ fn unsent_count(plan: &Plan) -> u32 {
         }
     }
     count
-}
-
-fn is_sent(plan: &Plan, message: u32) -> bool {
-    for k in 0..plan.controllers() {
-        if plan.controller_messages(k).contains(&message) {
-            return true;
-        }
-    }
-    false
 }
 
 fn push_nevers(lines: &mut Lines, plan: &Plan) {

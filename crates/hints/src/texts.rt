@@ -311,13 +311,7 @@ fn ends_item(language: Language, token: &[u8]) -> bool {
 }
 
 fn feeds_in(text: &[u8]) -> u64 {
-    let mut feeds = 0u64;
-    for byte in text {
-        if *byte == b'\n' {
-            feeds = feeds.saturating_add(1);
-        }
-    }
-    feeds
+    text.iter().filter(|byte| **byte == b'\n').count() as u64
 }
 
 // A count with dots after it. In the first version of plans the count was taken alone.
@@ -344,25 +338,16 @@ fn range_around(refused: &RefusedIn<'_>) -> Option<Span> {
 }
 
 fn digits_before(text: &[u8]) -> usize {
-    let mut digits = 0usize;
-    for byte in text.iter().rev() {
-        if !byte.is_ascii_digit() {
-            break;
-        }
-        digits = digits.saturating_add(1);
-    }
-    digits
+    text.iter()
+        .rev()
+        .take_while(|byte| byte.is_ascii_digit())
+        .count()
 }
 
 fn dots_and_digits(text: &[u8]) -> usize {
-    let mut count = 0usize;
-    for byte in text {
-        if *byte != b'.' && !byte.is_ascii_digit() {
-            break;
-        }
-        count = count.saturating_add(1);
-    }
-    count
+    text.iter()
+        .take_while(|byte| **byte == b'.' || byte.is_ascii_digit())
+        .count()
 }
 
 // Shows a part of the text in its line.
@@ -419,14 +404,8 @@ fn push_semicolon(lines: &mut Lines, refused: &RefusedIn<'_>, span: Span) {
 
 // What stands at the end of these bytes, up to white space.
 fn last_word(bytes: &[u8]) -> &str {
-    let mut from = bytes.len();
-    for byte in bytes.iter().rev() {
-        if byte.is_ascii_whitespace() {
-            break;
-        }
-        from = from.saturating_sub(1);
-    }
-    str::from_utf8(bytes.get(from..).unwrap_or(&[])).unwrap_or("")
+    let word = bytes.rsplit(u8::is_ascii_whitespace).next().unwrap_or(&[]);
+    str::from_utf8(word).unwrap_or("")
 }
 
 fn push_token(alloc: Global, lines: &mut Lines, refused: &RefusedIn<'_>, expected: Expected) {

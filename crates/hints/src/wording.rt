@@ -12,14 +12,14 @@ use plan_text::{Expected, Language, is_plan};
 pub(crate) fn foreign(language: Language) -> &'static str {
     match language {
         Language::Plan => "a plan is ASCII, in its comments too",
-        Language::Brief => "a brief is ASCII, in its comments too",
+        Language::Brief => "a brief is ASCII, but for the comments of a 'brief 2'",
     }
 }
 
 const PLAN_VERSION: &str =
     "a plan begins with 'plan 1', or with 'plan 2' where it has ranges of counts or 'never'";
 
-const BRIEF_VERSION: &str = "a brief begins with 'brief 1'";
+const BRIEF_VERSION: &str = "a brief begins with 'brief 1' or 'brief 2'";
 
 /// Says P2. One that is like a brief was taken as that.
 pub(crate) fn push_version(lines: &mut Lines, refused: &RefusedIn<'_>) {

@@ -4,6 +4,7 @@ use crate::kinds::LOOKED_AT;
 use crate::lines::Lines;
 use crate::numbers::Number;
 use crate::texts::{RefusedIn, called};
+use brief_tokens::is_board_word;
 use plan_core::Name;
 use plan_text::words::count_ends;
 use plan_text::{Expected, Language};
@@ -110,6 +111,17 @@ pub(crate) fn push_reason(
     } else if expected == Expected::KnownTarget && is_free_name(alloc, word) {
         lines.say("an interrupt has an address without open bits, and this device has some");
     } else if takes_name(expected) && is_name(word) {
+        push_keyword(lines, language, word);
+    }
+}
+
+// Says of which texts this is a word.
+fn push_keyword(lines: &mut Lines, language: Language, word: &str) {
+    if is_board_word(word) {
+        lines.say(format_args!(
+            "'{word}' is a word of every 'brief 2', and cannot be a name there"
+        ));
+    } else {
         let what = called(language);
         lines.say(format_args!("'{word}' is a word of every {what}, and cannot be a name"));
     }
@@ -170,7 +182,7 @@ fn reason_of(expected: Expected, word: &str) -> Option<&'static str> {
     match expected {
         Expected::Item { never } => reason_of_item(never, word),
         Expected::BriefItem if word == "brief" => {
-            Some("'brief 1' stands once: further briefs are given as further files")
+            Some("a brief begins once: further briefs are given as further files")
         }
         Expected::Further(_) => reason_of_further(word),
         Expected::Times { ranges } if is_range(word) => Some(if ranges {
@@ -308,12 +320,10 @@ fn is_free_name(alloc: Global, word: &str) -> bool {
 
 // Which of these words it is, but for capital letters.
 fn in_small_letters(words: &[&'static str], word: &str) -> Option<&'static str> {
-    for known in words {
-        if known.trim_matches('\'').eq_ignore_ascii_case(word) {
-            return Some(*known);
-        }
-    }
-    None
+    words
+        .iter()
+        .find(|known| known.trim_matches('\'').eq_ignore_ascii_case(word))
+        .copied()
 }
 
 // An address of seven bits.
@@ -364,10 +374,5 @@ fn half(digits: &str) -> Option<Address<'_>> {
 }
 
 fn has_only(word: &str, letters: &str) -> bool {
-    for letter in word.chars() {
-        if !letters.contains(letter) {
-            return false;
-        }
-    }
-    true
+    word.chars().all(|letter| letters.contains(letter))
 }

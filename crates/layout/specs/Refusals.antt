@@ -1,10 +1,10 @@
 -- Which texts have no layout, and why: the first two lexemes are those of no plan and of no brief, or what the lexemes end with is
 -- not the end of the text.
-use Rattle.std.specs.Prelude.{ℕ, List, Option, Some, None, Result, Ok, Err, codes, unwrap_or, if◌then◌else◌}
+use Rattle.std.specs.Prelude.{ℕ, Bool, true, false, List, Option, Some, None, Result, Ok, Err, codes, unwrap_or, if◌then◌else◌}
 use Rattle.std.specs.Str.{bytes_eq}
-use Rattle.lexer.specs.Lexemes.{Alphabet, no_dots, dots_after, briefs, Lexemes, next, last, word, sign, text_end, stray, foreign, lexemes_of}
+use Rattle.lexer.specs.Lexemes.{Alphabet, no_dots, dots_after, briefs, boards, Lexemes, next, last, word, sign, text_end, stray, foreign, lexemes_of}
 use Rattle.lexer.specs.declared.lexemes.Letters.{Letters}
-use Rattle.lexer.specs.declared.lexemes.Letters.TheVariants.{Plain, Dots, Brief}
+use Rattle.lexer.specs.declared.lexemes.Letters.TheVariants.{Plain, Dots, Brief, Board}
 use Rattle.plan_text.specs.declared.errors.PlanError.{PlanError}
 use Rattle.plan_text.specs.declared.errors.PlanError.TheVariants.{Unexpected, NotAscii, Version}
 
@@ -15,11 +15,12 @@ no_version (last text_end line) = Version line
 no_version (last stray line) = Unexpected line
 no_version (last foreign line) = NotAscii line
 
--- what a text has after its first two lexemes: the letters of each version of plans, and those of briefs
+-- what a text has after its first two lexemes: the letters of each version of plans and of briefs
 abbrev pub alphabet_of : Letters → Alphabet
 alphabet_of Plain = no_dots
 alphabet_of Dots = dots_after 2
 alphabet_of Brief = briefs
+alphabet_of Board = boards
 
 -- after `plan`
 abbrev pub plan_letters : Lexemes → Result Letters PlanError
@@ -29,7 +30,7 @@ plan_letters (next (word bytes) line rest) =
     else Err (Version line)
 plan_letters lexemes = Err (no_version lexemes)
 
--- after `brief`; before another version it is no brief
+-- after `brief`; before another version it is no brief of the first
 abbrev pub brief_letters : Lexemes → Option (Result Letters PlanError)
 brief_letters (next (word bytes) line rest) = if bytes_eq bytes (codes "1") then Some (Ok Brief) else None
 brief_letters (next (sign byte) line rest) = None
@@ -42,6 +43,21 @@ abbrev pub brief_head : Lexemes → Option (Result Letters PlanError)
 brief_head (next (word bytes) line rest) = if bytes_eq bytes (codes "brief") then brief_letters rest else None
 brief_head lexemes = None
 
+-- whether the first two words are `brief` and `2`
+abbrev pub is_second_version : Lexemes → Bool
+is_second_version (next (word bytes) line rest) = bytes_eq bytes (codes "2")
+is_second_version lexemes = false
+
+abbrev pub is_board : Lexemes → Bool
+is_board (next (word bytes) line rest) = if bytes_eq bytes (codes "brief") then is_second_version rest else false
+is_board lexemes = false
+
+-- the letters of a brief of either version; what is none of the second is judged as one of the first
+abbrev pub or_board : Option (Result Letters PlanError) → Bool → Option (Result Letters PlanError)
+or_board (Some (Ok letters)) second = Some (Ok letters)
+or_board brief true = Some (Ok Board)
+or_board brief false = brief
+
 -- where it is `plan`; else the letters are those of a brief, if it is one
 abbrev pub head_or : Option (Result Letters PlanError) → Lexemes → Result Letters PlanError
 head_or brief (next (word bytes) line rest) =
@@ -50,7 +66,8 @@ head_or brief lexemes = unwrap_or brief (Err (no_version lexemes))
 
 -- the letters of a text, or the refusal of its first two lexemes
 unfoldable pub letters_in : List ℕ → Result Letters PlanError
-letters_in text = head_or (brief_head (lexemes_of briefs 1 text)) (lexemes_of no_dots 1 text)
+letters_in text =
+    head_or (or_board (brief_head (lexemes_of briefs 1 text)) (is_board (lexemes_of boards 1 text))) (lexemes_of no_dots 1 text)
 
 -- the refusal of what the lexemes end with
 abbrev pub stranger : Lexemes → Option PlanError

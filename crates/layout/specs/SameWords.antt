@@ -2,7 +2,7 @@
 use Rattle.std.specs.Prelude.{◌≡◌, ℕ, Bool, not, ◌||◌, ◌==◌, List}
 use Rattle.std.specs.List.{filter}
 use Rattle.message_tree.specs.Codes.{code}
-use Rattle.lexer.specs.Lexemes.{Alphabet, no_dots, dots_after, briefs, Lexemes, next, last, lexemes_of}
+use Rattle.lexer.specs.Lexemes.{Alphabet, no_dots, dots_after, briefs, boards, Lexemes, next, last, lexemes_of}
 
 -- these lexemes, all of them on line 0
 abbrev pub without_lines : Lexemes → Lexemes
@@ -17,9 +17,10 @@ Alike one other = without_lines one ≡ without_lines other
 abbrev pub SameBy : Alphabet → List ℕ → List ℕ → Type 0
 SameBy a one other = Alike (lexemes_of a 1 one) (lexemes_of a 1 other)
 
--- by those of the first and of the second version of plans, and by those of briefs
+-- by those of the first and of the second version of plans, and of briefs
 abbrev pub SameWords : List ℕ → List ℕ → Type 0
-SameWords one other = SameBy no_dots one other × SameBy (dots_after 2) one other × SameBy briefs one other
+SameWords one other =
+    SameBy no_dots one other × SameBy (dots_after 2) one other × SameBy briefs one other × SameBy boards one other
 
 -- space, tab, carriage return and line feed
 abbrev pub is_white : ℕ → Bool

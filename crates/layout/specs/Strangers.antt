@@ -2,7 +2,7 @@
 use Rattle.std.specs.Prelude.{ℕ, suc, Option, Some, None, Result, Ok, Err}
 use Rattle.lexer.specs.Lexemes.{Lexemes, next, last}
 use Rattle.lexer.specs.declared.lexemes.Letters.{Letters}
-use Rattle.lexer.specs.declared.lexemes.Letters.TheVariants.{Brief}
+use Rattle.lexer.specs.declared.lexemes.Letters.TheVariants.{Brief, Board}
 use Rattle.lexer.specs.declared.lexemes.Lexeme.{Lexeme}
 use Rattle.lexer.specs.declared.lexemes.Symbol.{Symbol}
 use Rattle.lexer.specs.declared.lexemes.Symbol.TheVariants as symbols
@@ -14,6 +14,7 @@ use Rattle.layout.specs.declared.heads.Unread.{Unread}
 -- what a head says of the letters
 abbrev pub head_said : Head → Option (Result Letters PlanError)
 head_said heads.Brief = Some (Ok Brief)
+head_said heads.Board = Some (Ok Board)
 head_said (heads.Unread unread) = Some (Err unread.refused.error)
 head_said heads.Other = None
 

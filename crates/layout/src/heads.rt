@@ -1,9 +1,9 @@
 // The first two tokens of a text, which say its language, and why a text has no layout.
 
 ghost use Rattle.std.specs.Prelude.{◌≡◌, Ok, Err, Some, IfOk, IfErr};
-ghost use Rattle.layout.specs.Refusals.{letters_in, plan_letters, brief_head, brief_letters, no_version, stranger};
+ghost use Rattle.layout.specs.Refusals.{letters_in, plan_letters, or_board, is_board, is_second_version, brief_head, brief_letters, no_version, stranger};
 ghost use Rattle.layout.specs.Strangers.{head_said, IsStranger};
-ghost use Rattle.lexer.specs.Lexemes.{Lexemes, no_dots, briefs, lexemes_of};
+ghost use Rattle.lexer.specs.Lexemes.{Lexemes, no_dots, briefs, boards, lexemes_of};
 ghost use Rattle.lexer.specs.Reading.{left_of, with_lexeme};
 
 use lexer::{Letters, Lexeme, Lexer, Spot, Symbol};
@@ -46,6 +46,7 @@ pub(crate) fn letters_of(text: &[u8]) -> Result<Letters, Unread>
         Symbol::Word(b"plan") => plan_letters(text, &mut lexer),
         _ => match brief {
             Head::Brief => Ok(Letters::Brief),
+            Head::Board => Ok(Letters::Board),
             Head::Unread(unread) => Err(unread),
             Head::Other => Err(no_version(Language::Plan, text, &lexer, first)),
         },
@@ -69,8 +70,10 @@ fn plan_letters(text: &[u8], lexer: &mut Lexer<'_>) -> Result<Letters, Unread>
 // How a text begins that is no plan.
 #[derive(Clone, Copy)]
 enum Head {
-    // As a brief.
+    // As a brief of the first version.
     Brief,
+    // As one of the second.
+    Board,
     // As a brief whose version is no token.
     Unread(Unread),
     // The first word is not `brief`, or its version is another word.
@@ -78,6 +81,35 @@ enum Head {
 }
 
 fn head_of_brief(text: &[u8]) -> Head
+    ensures { head_said result ≡ or_board (brief_head (lexemes_of briefs 1 text.now)) (is_board (lexemes_of boards 1 text.now)) }
+{
+    let is_board = is_board(text);
+    match head_of_first_version(text) {
+        Head::Brief => Head::Brief,
+        Head::Unread(unread) if !is_board => Head::Unread(unread),
+        Head::Other if !is_board => Head::Other,
+        _ => Head::Board,
+    }
+}
+
+fn is_board(text: &[u8]) -> bool
+    ensures { result ≡ is_board (lexemes_of boards 1 text.now) }
+{
+    let mut lexer = Lexer::new(text, Letters::Board);
+    match lexer.next().symbol {
+        Symbol::Word(b"brief") => is_second_version(&mut lexer),
+        _ => false,
+    }
+}
+
+fn is_second_version(lexer: &mut Lexer<'_>) -> bool
+    requires { lexer.old.letters ≡ Letters.Board }
+    ensures { result ≡ is_second_version (left_of boards lexer.old) }
+{
+    matches!(lexer.next().symbol, Symbol::Word(b"2"))
+}
+
+fn head_of_first_version(text: &[u8]) -> Head
     ensures { head_said result ≡ brief_head (lexemes_of briefs 1 text.now) }
 {
     let mut lexer = Lexer::new(text, Letters::Brief);

@@ -252,12 +252,9 @@ fn comment_in(bytes: &[u8]) -> Option<&[u8]> {
 }
 
 fn without_blanks(bytes: &[u8]) -> &[u8] {
-    let mut end = bytes.len();
-    for byte in bytes.iter().rev() {
-        if !matches!(*byte, b' ' | b'\t' | b'\r') {
-            break;
-        }
-        end = end.saturating_sub(1);
-    }
-    bytes.get(..end).unwrap_or(bytes)
+    let is_blank = |byte: &&u8| matches!(**byte, b' ' | b'\t' | b'\r');
+    let blanks = bytes.iter().rev().take_while(is_blank).count();
+    bytes
+        .get(..bytes.len().saturating_sub(blanks))
+        .unwrap_or(bytes)
 }

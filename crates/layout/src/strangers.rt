@@ -19,6 +19,7 @@ pub(crate) fn stranger_in(text: &[u8], letters: Letters) -> Option<Unread>
         Letters::Plain => stranger_by(text, Language::Plan, Letters::Plain),
         Letters::Dots => stranger_with_dots(text),
         Letters::Brief => stranger_by(text, Language::Brief, Letters::Brief),
+        Letters::Board => stranger_by(text, Language::Brief, Letters::Board),
     }
 }
 

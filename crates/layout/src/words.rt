@@ -2,7 +2,7 @@
 
 ghost use Rattle.std.specs.Prelude.{◌≡◌, true, not, IfOk};
 ghost use Rattle.std.specs.List.{filter};
-ghost use Rattle.lexer.specs.Lexemes.{Alphabet, letters, later, no_dots, dots_after, briefs, Lexemes};
+ghost use Rattle.lexer.specs.Lexemes.{Alphabet, letters, later, no_dots, dots_after, briefs, boards, Lexemes};
 ghost use Rattle.lexer.specs.Reading.{left_of, with_lexeme};
 ghost use Rattle.layout.specs.SameWords.{Alike, SameBy, SameBytes, SameWords, is_white};
 
@@ -16,6 +16,7 @@ pub(crate) fn have_same_words(one: &[u8], other: &[u8]) -> bool
     are_same_by(one, other, Letters::Plain)
         && are_same_with_dots(one, other)
         && are_same_by(one, other, Letters::Brief)
+        && are_same_by(one, other, Letters::Board)
 }
 
 // By these letters from the first lexeme on.

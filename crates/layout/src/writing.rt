@@ -94,12 +94,7 @@ fn row_of<'a>(tokens: &[Token<'a>]) -> Option<Row<'a>> {
 
 // Whether none of these tokens begins an item.
 fn begins_none(tokens: &[Token<'_>]) -> bool {
-    for token in tokens {
-        if token.number == 0 {
-            return false;
-        }
-    }
-    true
+    tokens.iter().all(|token| token.number != 0)
 }
 
 fn name_cell(row: Option<Row<'_>>, above: Option<Row<'_>>, is_parted: bool) -> Cell {
@@ -167,7 +162,8 @@ fn put_tokens(page: &mut Page, line: Line<'_>, tokens: &[Token<'_>], name: Cell)
 }
 
 fn blanks_between(before: Token<'_>, token: Token<'_>) -> usize {
-    if matches!(before.bytes, b"(" | b"*") || matches!(token.bytes, b")" | b"*") {
+    let is_call = matches!(before.bytes, b"wr" | b"rd") && token.bytes == b"(".as_slice();
+    if is_call || matches!(before.bytes, b"(" | b"*") || matches!(token.bytes, b")" | b"*") {
         0
     } else {
         1

@@ -5,12 +5,10 @@ use Rattle.capture_check.specs.Explained.{Leaver}
 use Rattle.capture_check.specs.Transactions.{Recorded}
 use Rattle.decoding.specs.Decoding.{DecodesDump}
 use Rattle.decoding.specs.Sinks.{HasTaken, no_call, next_call}
-use Rattle.plan_core.specs.Contents.{Contents}
 use Rattle.pulses.specs.Following.{quiet_transactions}
 use Rattle.vcd_read.specs.Probes.{Finder}
 use Rattle.run_parts.specs.declared.runs.Status.TheVariants.{Good}
 use Rattle.lessons.specs.declared.checking.Learned.{Learned}
-use Rattle.lessons.specs.declared.paths.Step.{Step}
 use Rattle.lessons.specs.declared.seen.Sight.{Sight}
 use Rattle.lessons.specs.declared.seen.Sights.{Sights}
 use Rattle.lessons.specs.Lessons.{Teaches, marked, unmarked, odd_in, path_seen, paths_in, seen_in}

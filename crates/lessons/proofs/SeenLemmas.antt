@@ -49,11 +49,6 @@ same_paths a b e path at = subst (λ (ps : List (List Step)). Contains ps path) 
 pub shown_same : (a b : Sights) (ts : List Recorded) → paths_in b ≡ paths_in a → Shown a ts b
 shown_same a b ts e path at = inl (subst (λ (ps : List (List Step)). Contains ps path) e at)
 
--- it counts as none
-pub sees_odd : (a b : Sights) (t : Recorded) → b.before ≡ a.before → b.view ≡ a.view → paths_in b ≡ paths_in a → odd_in b ≢ [] → Sees a (t ∷ []) b
-sees_odd a b t brief view paths odd =
-    sees_one a b t brief view (shown_same a b (t ∷ []) paths) (same_paths a b paths) (λ some. odd) (λ all stopped. inr odd)
-
 -- it has one of the paths
 pub sees_path : (a b : Sights) (t : Recorded) → b.before ≡ a.before → b.view ≡ a.view → paths_in b ≡ paths_in a → odd_in b ≡ odd_in a →
     IsAmong (paths_in b) t.marks → Sees a (t ∷ []) b

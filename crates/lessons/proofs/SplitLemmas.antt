@@ -22,9 +22,6 @@ test_passes (One ∷ xs) (One ∷ ys) never = test_passes xs ys (below One One x
 test_passes (One ∷ xs) (Either ∷ ys) never = test_passes xs ys (below One Either xs ys never)
 test_passes (Either ∷ xs) (y ∷ ys) never = test_passes xs ys (below Either y xs ys never)
 
-no_bit : (k : ℕ) (x : Bit) → None ≡ Some x → ⊥
-no_bit k x e = cc
-
 -- a place splits them
 test_fails : (xs ys : List Bit) (k : ℕ) → SplitAt xs ys k → false ≡ never_split xs ys
 test_fails [] ys k (inl h) = cc (h.0)

@@ -40,12 +40,10 @@ fn kind_of(node: &Node) -> Option<Kind> {
 
 // Whether a place before this one is of the same kind.
 fn is_told(tree: &Tree, before: usize, kind: Kind) -> bool {
-    for node in tree.nodes.iter().take(before) {
-        if kind_of(node) == Some(kind) {
-            return true;
-        }
-    }
-    false
+    tree.nodes
+        .iter()
+        .take(before)
+        .any(|node| kind_of(node) == Some(kind))
 }
 
 fn push_kind(alloc: Global, line: &mut Lines, tree: &Tree, kind: Kind) {

@@ -153,12 +153,10 @@ impl<'a> BriefBefore<'a> {
                 return true;
             }
         }
-        for family in self.origins.families.iter() {
-            if family.name.as_str() == word {
-                return true;
-            }
-        }
-        false
+        self.origins
+            .families
+            .iter()
+            .any(|family| family.name.as_str() == word)
     }
 
     /// Whether a controller of this name lists the message.
@@ -191,12 +189,10 @@ impl<'a> BriefBefore<'a> {
                 return true;
             }
         }
-        for origin in self.origins.controllers.iter() {
-            if origin.controller.as_str() == word {
-                return true;
-            }
-        }
-        false
+        self.origins
+            .controllers
+            .iter()
+            .any(|origin| origin.controller.as_str() == word)
     }
 
     /// The one device with this address in all bits.

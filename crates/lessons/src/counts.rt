@@ -93,12 +93,9 @@ fn counts_at(likes: &[Like], place: usize, own: u8) -> Counts {
 }
 
 fn is_there(likes: &[Like], place: usize, count: u8) -> bool {
-    for like in likes {
-        if like.place == place && like.count == count {
-            return true;
-        }
-    }
-    false
+    likes
+        .iter()
+        .any(|like| like.place == place && like.count == count)
 }
 
 fn join(item: &mut Item, likes: &[Like], counts: Counts) -> Result<(), AllocError> {

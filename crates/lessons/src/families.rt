@@ -96,12 +96,9 @@ fn free_of(
 }
 
 fn is_in_one(items: &[Item], number: usize) -> bool {
-    for item in items {
-        if item.members.as_slice().contains(&number) {
-            return true;
-        }
-    }
-    false
+    items
+        .iter()
+        .any(|item| item.members.as_slice().contains(&number))
 }
 
 // A message in the words of a brief, up to the data bytes that end it, and these. The words have all that is done after answers.
@@ -182,12 +179,7 @@ fn most_of(shapes: &[Shape], like: &Shape) -> u64 {
 
 // Whether there is a message like this one with so many data bytes at its end.
 fn is_there(shapes: &[Shape], like: &Shape, length: u64) -> bool {
-    for shape in shapes {
-        if shape.run.length == length && have_one_stem(shape, like) {
-            return true;
-        }
-    }
-    false
+    shapes.iter().any(|shape| shape.run.length == length && have_one_stem(shape, like))
 }
 
 fn have_one_stem(one: &Shape, other: &Shape) -> bool {

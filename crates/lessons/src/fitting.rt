@@ -1,10 +1,9 @@
 // Whether a transaction has a path: its marks followed through the steps.
 
-ghost use Rattle.std.specs.Prelude.{◌≡◌, ◌++◌, [], ◌∷◌, true, option_map};
+ghost use Rattle.std.specs.Prelude.{◌≡◌, [], true, option_map};
 ghost use Rattle.capture_check.specs.Along.{after_bits, may_be};
 ghost use Rattle.lessons.specs.Fitting.{after_acked, after_again, after_answer, after_lead, after_level, after_levels};
 ghost use Rattle.lessons.specs.Fitting.{after_read_byte, after_read_bytes, after_step, is_stop, path_fits, steps_fit, then_after};
-ghost use Rattle.message_tree.specs.Patterns.{address_bits, pattern_bits};
 ghost use Rattle.lessons.specs.Plans.{HasMarks, bytes_before_last, sent_bits};
 
 use crate::paths::{Sent, Step};
@@ -199,38 +198,8 @@ fn bits_of(sent: Sent) -> [Bit; 8]
     ensures { result ≡ sent_bits sent }
 {
     match sent {
-        Sent::Write(address) => header_bits(&Address::new(0x7f, address), Bit::Zero),
-        Sent::Read(address, _) => header_bits(&Address::new(0x7f, address), Bit::One),
-        Sent::Register(byte) | Sent::Data(byte) => data_bits(&Pattern::new(0xff, byte)),
+        Sent::Write(address) => Address::new(0x7f, address).header(Bit::Zero),
+        Sent::Read(address, _) => Address::new(0x7f, address).header(Bit::One),
+        Sent::Register(byte) | Sent::Data(byte) => Pattern::new(0xff, byte).bits(),
     }
-}
-
-fn header_bits(address: &Address, direction: Bit) -> [Bit; 8]
-    ensures { result ≡ address_bits address.now ++ direction ∷ [] }
-{
-    [
-        address.bit(0),
-        address.bit(1),
-        address.bit(2),
-        address.bit(3),
-        address.bit(4),
-        address.bit(5),
-        address.bit(6),
-        direction,
-    ]
-}
-
-fn data_bits(byte: &Pattern) -> [Bit; 8]
-    ensures { result ≡ pattern_bits byte.now }
-{
-    [
-        byte.bit(0),
-        byte.bit(1),
-        byte.bit(2),
-        byte.bit(3),
-        byte.bit(4),
-        byte.bit(5),
-        byte.bit(6),
-        byte.bit(7),
-    ]
 }

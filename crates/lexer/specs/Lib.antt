@@ -1,2 +1,3 @@
 pub mod Lexemes
+pub mod Fronts
 pub mod Reading

@@ -2,7 +2,7 @@
 use Rattle.std.specs.Prelude.{◌≡◌, ℕ, Bool, false, ◌||◌, ◌==◌, List, [], ◌∷◌, length}
 use Rattle.message_tree.specs.Codes.{code}
 use Rattle.lexer.specs.declared.lexemes.Letters.{Letters}
-use Rattle.lexer.specs.declared.lexemes.Letters.TheVariants.{Plain, Dots, Brief}
+use Rattle.lexer.specs.declared.lexemes.Letters.TheVariants.{Plain, Dots, Brief, Board}
 use Rattle.lexer.specs.declared.lexemes.Symbol.{Symbol}
 use Rattle.lexer.specs.declared.lexemes.Symbol.TheVariants as symbols
 use Rattle.lexer.specs.declared.lexemes.Lexeme.{Lexeme}
@@ -31,6 +31,7 @@ abbrev pub alphabet : Letters → spec.Alphabet
 alphabet Plain = spec.no_dots
 alphabet Dots = spec.dots_after 0
 alphabet Brief = spec.briefs
+alphabet Board = spec.boards
 
 -- a symbol on its line, and these lexemes after it
 abbrev pub with_symbol : Symbol → ℕ → spec.Lexemes → spec.Lexemes

@@ -9,18 +9,21 @@ pub enum Letters {
     Dots,
     /// `.` and `/` are parts of words, and `(`, `)` and `*` stand by themselves: briefs.
     Brief,
+    /// Those of briefs; from `"` to the next `"` of the line is a word, and comments have any bytes: the second version of
+    /// briefs.
+    Board,
 }
 
 /// What stands at one place of a text, after the white space and the comments before it.
 #[derive(Clone, Copy)]
 pub enum Symbol<'a> {
-    /// A maximal run of parts of words.
+    /// A maximal run of parts of words, or a string with its quotes.
     Word(&'a [u8]),
     /// A character that stands by itself.
     Sign(u8),
     /// An ASCII character that belongs to no lexeme.
     Stray,
-    /// A byte of 128 or more, inside a comment or outside.
+    /// A byte of 128 or more, outside of comments, or inside of one that has no such bytes.
     Foreign,
     /// The end of the text.
     End,

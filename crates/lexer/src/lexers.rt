@@ -1,10 +1,10 @@
 // The lexemes of a text, one at a time.
 
-ghost use Rattle.std.specs.Prelude.{◌≡◌, ℕ, ◌<◌, ◌≤◌, ◌+◌, ◌^◌, length, not, ◌&&◌, ◌==◌};
-ghost use Rattle.std.specs.Char.{is_ascii};
+ghost use Rattle.std.specs.Prelude.{◌≡◌, ℕ, ◌<◌, ◌≤◌, ◌+◌, ◌^◌, length, IfSome};
 ghost use Rattle.std.specs.List.{prefix_len};
-ghost use Rattle.lexer.specs.Lexemes.{Alphabet, letters, later, is_word_part, is_sign, lexemes_of, in_comment};
+ghost use Rattle.lexer.specs.Lexemes.{Alphabet, letters, later, is_word_part, lexemes_of, in_comment};
 
+use crate::fronts::{comment_end, is_part_of_word, is_quote, is_sign, string_end};
 use crate::lexemes::{Letters, Lexeme, Spot, Symbol};
 
 /// What is left of a text.
@@ -60,6 +60,15 @@ impl<'a> Lexer<'a> {
                     let (word, rest) = self.rest.split_at(self.word_end());
                     self.rest = rest;
                     Symbol::Word(word)
+                } else if is_quote(*first, self.letters) {
+                    match string_end(rest) {
+                        Some(end) => {
+                            let (word, rest) = self.rest.split_at(end);
+                            self.rest = rest;
+                            Symbol::Word(word)
+                        }
+                        None => Symbol::Stray,
+                    }
                 } else if first.is_ascii() {
                     Symbol::Stray
                 } else {
@@ -86,7 +95,7 @@ impl<'a> Lexer<'a> {
 
     // Skips white space and comments. It stops before a foreign byte also inside a comment.
     fn skip_blank(&mut self)
-        ensures same { (a : Alphabet) → left_of a self.new ≡ left_of a self.old }
+        ensures same { (a : Alphabet) → letters a ≡ self.old.letters → left_of a self.new ≡ left_of a self.old }
         ensures here { BeginsHere self.new.rest.now }
         ensures letters { self.new.letters ≡ self.old.letters }
         ensures shorter { unread self.new ≤ unread self.old }
@@ -98,7 +107,7 @@ impl<'a> Lexer<'a> {
                     self.rest = rest;
                 }
                 b' ' | b'\t' | b'\r' => self.rest = rest,
-                b'#' => self.rest = after_comment(rest),
+                b'#' => self.rest = after_comment(rest, self.letters),
                 _ => return,
             }
         }
@@ -116,35 +125,11 @@ impl<'a> Lexer<'a> {
     }
 }
 
-// What follows a comment after its `#`: the end of its line, a foreign byte, or nothing.
-fn after_comment(bytes: &[u8]) -> &[u8]
-    ensures lexemes { (a : Alphabet) (line : ℕ) → lexemes_of a line result.now ≡ in_comment a line bytes.now }
+// What follows a comment after its `#`: the end of its line, a foreign byte where comments have none, or nothing.
+fn after_comment(bytes: &[u8], by: Letters) -> &[u8]
+    ensures lexemes { (a : Alphabet) (line : ℕ) → letters a ≡ by →
+        lexemes_of a line result.now ≡ in_comment a line bytes.now }
     ensures shorter { length result.now ≤ length bytes.now }
 {
-    &bytes[comment_end(bytes)..]
-}
-
-// How many bytes of a comment stand at the front: all up to the end of its line, or to a foreign byte.
-fn comment_end(bytes: &[u8]) -> usize
-    ensures end { result ≡ prefix_len (λ byte. not (byte == 10) && is_ascii byte) bytes.now }
-    ensures within { result ≤ length bytes.now }
-{
-    bytes
-        .iter()
-        .take_while(|byte| **byte != b'\n' && byte.is_ascii())
-        .count()
-}
-
-fn is_part_of_word(byte: u8, letters: Letters) -> bool
-    ensures { result ≡ is_word_part letters byte }
-{
-    let is_dot = byte == b'.' && letters != Letters::Plain;
-    let is_slash = byte == b'/' && letters == Letters::Brief;
-    byte.is_ascii_alphanumeric() || byte == b'_' || is_dot || is_slash
-}
-
-fn is_sign(byte: u8, letters: Letters) -> bool
-    ensures { result ≡ is_sign letters byte }
-{
-    byte == b';' || letters == Letters::Brief && matches!(byte, b'(' | b')' | b'*')
+    &bytes[comment_end(bytes, by)..]
 }

@@ -3,6 +3,7 @@
 //! `specs/Lexemes.antt` defines them for all bytes. Which words are keywords is for each language to say.
 #![tactic(auto)]
 
+mod fronts;
 mod lexemes;
 mod lexers;
 

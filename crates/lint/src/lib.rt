@@ -143,12 +143,7 @@ fn push_devices<'a>(found: &mut Vec<Oddity<'a>>, devices: &'a [Device]) -> Resul
 
 // The first of these devices that has this address.
 fn with_address(devices: &[Device], address: Address) -> Option<&Device> {
-    for device in devices {
-        if device.address == address {
-            return Some(device);
-        }
-    }
-    None
+    devices.iter().find(|device| device.address == address)
 }
 
 // Whether it begins with 0000 or 11111. What begins with 11110 is the first byte of an address of ten bits.
@@ -157,13 +152,8 @@ fn is_reserved(address: Address) -> bool {
 }
 
 // Whether so many bits at its beginning are these.
-fn begins_with(address: Address, bit: Bit, count: u8) -> bool {
-    for place in 0..7u8 {
-        if place < count && address.bit(place) != bit {
-            return false;
-        }
-    }
-    true
+fn begins_with(address: Address, bit: Bit, count: usize) -> bool {
+    address.bits().iter().take(count).all(|own| *own == bit)
 }
 
 fn push_bytes<'a>(found: &mut Vec<Oddity<'a>>, bytes: &'a [NamedByte]) -> Result<(), AllocError> {
@@ -224,7 +214,8 @@ fn push_unsent(
     Ok(())
 }
 
-fn is_sent(plan: &Plan, message: u32) -> bool {
+/// Whether a controller of the plan lists this message.
+pub fn is_sent(plan: &Plan, message: u32) -> bool {
     for k in 0..plan.controllers() {
         if plan.controller_messages(k).contains(&message) {
             return true;

@@ -68,13 +68,6 @@ pub record Mends (plan : Contents) (faults : List (ℕ × Fault)) (nevers : List
   pub wanted : All (HaveUnsafePair plan) nevers
   pub new : AreNew plan.nevers nevers
 
-pub mends_none : (plan : Contents) (faults : List (ℕ × Fault)) → Mends plan faults [] 0
-mends_none plan faults = record {
-  covers = λ t p f x y c m d k lt e g h i. absurd (omega (arith, lt));
-  wanted = All-nil (HaveUnsafePair plan);
-  new = tt;
-}
-
 module _ (plan : Contents) (faults : List (ℕ × Fault)) (are : AreFaults plan faults) (nevers : List (ℕ × ℕ)) (n : ℕ) (so_far : Mends plan faults nevers n) (p : ℕ) (f : Fault) (stands : slice_get faults n ≡ Some (p, f)) (x y : ℕ) (at : slice_get (pairs_of plan) p ≡ Some (x, y)) where
   -- the fault at n too is one of those that these items answer
   covered : (more : List (ℕ × ℕ)) → ((c d : ℕ) → list_any (names_both c d) nevers ≡ true → list_any (names_both c d) more ≡ true) → ((c m d k : ℕ) → slice_get (participants_of plan) x ≡ Some (Sending c m) → slice_get (participants_of plan) y ≡ Some (Sending d k) → list_any (names_both c d) more ≡ true) → (t q : ℕ) (g : Fault) (v w c m d k : ℕ) → t < n + 1 → slice_get faults t ≡ Some (q, g) → slice_get (pairs_of plan) q ≡ Some (v, w) → slice_get (participants_of plan) v ≡ Some (Sending c m) → slice_get (participants_of plan) w ≡ Some (Sending d k) → list_any (names_both c d) more ≡ true

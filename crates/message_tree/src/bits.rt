@@ -1,6 +1,6 @@
 // The bits of addresses and of data bytes, of which some may be open.
 
-ghost use Rattle.std.specs.Prelude.{◌≡◌, ◌<◌, ◌≤◌, ◌^◌, bit_and, MatchOption};
+ghost use Rattle.std.specs.Prelude.{◌≡◌, ◌<◌, ◌≤◌, ◌^◌, [], ◌∷◌, ◌++◌, bit_and, MatchOption};
 ghost use Rattle.std.specs.Int.{bit_at as digit};
 ghost use Rattle.message_tree.specs.Bits.{bit_from, bits_below, IsFirstSplit, NeverSplit};
 ghost use Rattle.message_tree.specs.Digits.{IsHighestOne};
@@ -47,6 +47,22 @@ impl Pattern {
         bit_at(self.known, self.value, 7 - k)
     }
 
+    /// All eight bits, in the order of sending.
+    pub fn bits(&self) -> [Bit; 8]
+        ensures { result ≡ pattern_bits self.now }
+    {
+        [
+            self.bit(0),
+            self.bit(1),
+            self.bit(2),
+            self.bit(3),
+            self.bit(4),
+            self.bit(5),
+            self.bit(6),
+            self.bit(7),
+        ]
+    }
+
     /// The first place, in the order of sending, at which both bits are known and different.
     pub fn first_split(&self, other: &Pattern) -> Option<u8>
         ensures { MatchOption result (NeverSplit (pattern_bits self.now) (pattern_bits other.now))
@@ -87,6 +103,29 @@ impl Address {
         ensures { slice_get (address_bits self.now) k ≡ Some result }
     {
         bit_at(self.known, self.value, 6 - k)
+    }
+
+    /// All seven bits, in the order of sending.
+    pub fn bits(&self) -> [Bit; 7]
+        ensures { result ≡ address_bits self.now }
+    {
+        [
+            self.bit(0),
+            self.bit(1),
+            self.bit(2),
+            self.bit(3),
+            self.bit(4),
+            self.bit(5),
+            self.bit(6),
+        ]
+    }
+
+    /// The eight bits of a header with this direction bit, in the order of sending (UM10204, 3.1.10).
+    pub fn header(&self, direction: Bit) -> [Bit; 8]
+        ensures { result ≡ address_bits self.now ++ direction ∷ [] }
+    {
+        let [a, b, c, d, e, f, g] = self.bits();
+        [a, b, c, d, e, f, g, direction]
     }
 
     /// The first place, in the order of sending, at which both bits are known and different.

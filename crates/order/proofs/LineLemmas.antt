@@ -1,14 +1,12 @@
 -- The lines of a report, one after another.
-use Rattle.std.proofs.Common.{◌≡◌, ℕ, zero, suc, ◌+◌, ◌<◌, ◌≤◌, Bool, true, false, not, ◌&&◌, Option, Some, None, is_none, Result, Ok, Err, OnOk, is_ok, if◌then◌else◌, List, [], ◌∷◌, ◌++◌, String, Global, length, drop, slice_get, string_bytes, codes, min, inl, inr, refl, ap, sym, ◌∙◌, subst, arith, append_assoc, append-nil}
+use Rattle.std.proofs.Common.{◌≡◌, ℕ, zero, suc, ◌+◌, ◌≤◌, Bool, true, false, not, ◌&&◌, Option, Some, None, is_none, Result, Ok, Err, OnOk, is_ok, if◌then◌else◌, List, [], ◌∷◌, ◌++◌, length, drop, slice_get, codes, min, inl, inr, refl, ap, sym, ◌∙◌, arith, append_assoc, append-nil}
 use Rattle.std.proofs.lemmas.Bool.{cases_lt}
 use Rattle.std.proofs.lemmas.List.{drop_all}
 use Rattle.std.proofs.lemmas.Option.{slice_get_past}
 use Rattle.arbitration.specs.declared.spans.Outcomes.{Outcomes}
 use Rattle.arbitration.specs.declared.spans.Slots.{Slots}
-use Rattle.order.specs.Labels.{AreLabels}
-use Rattle.order.specs.Lines.{slots_text, way_texts, ways_text, pair_text, pair_lines, total_text, total_lines}
+use Rattle.order.specs.Lines.{slots_text, ways_text, pair_lines}
 use Rattle.order.specs.WayParts.{way_part}
-use Rattle.order.specs.declared.totals.Total.{Total}
 use Rattle.plan_core.specs.Contents.{Contents}
 use Rattle.plan_core.specs.Labels.{label_of, participant_label}
 use Rattle.plan_core.specs.Participants.{participants_of, participant_count}
@@ -44,26 +42,6 @@ drop_suc [] k x e = cc
 drop_suc (y ∷ xs) zero x e = let d : y ≡ x = cc in ap (λ z. z ∷ xs) d
 drop_suc (y ∷ xs) (suc k) x e = drop_suc xs k x e
 
-pub pair_step : (plan : Contents) (pairs : List (ℕ × ℕ)) (ways : List (Option Outcomes)) (k n : ℕ) (p : ℕ × ℕ) (way : Option Outcomes) (text more all : List ℕ) → slice_get pairs k ≡ Some p → slice_get ways k ≡ Some way → more ≡ text ++ pair_text n (label_of plan p.0) (label_of plan p.1) way → text ++ pair_lines plan n (drop k pairs) (drop k ways) ≡ all → more ++ pair_lines plan (n + 1) (drop (k + 1) pairs) (drop (k + 1) ways) ≡ all
-pair_step plan pairs ways k n p way text more all at_pair at_way e so_far =
-    let left : List ℕ = pair_lines plan (n + 1) (drop (suc k) pairs) (drop (suc k) ways) in
-    let line : List ℕ = pair_text n (label_of plan p.0) (label_of plan p.1) way in
-    let lines : pair_lines plan n (drop k pairs) (drop k ways) ≡ line ++ left =
-    ap (λ ps. pair_lines plan n ps (drop k ways)) (drop_suc pairs k p at_pair)
-    ∙ ap (pair_lines plan n (p ∷ drop (suc k) pairs)) (drop_suc ways k way at_way) in
-    let suc_is : k + 1 ≡ suc k = omega arith in
-    ap (λ j. more ++ pair_lines plan (n + 1) (drop j pairs) (drop j ways)) suc_is
-    ∙ (ap (λ t. t ++ left) e ∙ (append_assoc text line left ∙ (ap (λ t. text ++ t) (sym lines) ∙ so_far)))
-
-pub total_step : (plan : Contents) (totals : List Total) (k : ℕ) (t : Total) (text more all : List ℕ) → slice_get totals k ≡ Some t → more ≡ text ++ total_text (label_of plan k) t → text ++ total_lines plan k (drop k totals) ≡ all → more ++ total_lines plan (k + 1) (drop (k + 1) totals) ≡ all
-total_step plan totals k t text more all at e so_far =
-    let left : List ℕ = total_lines plan (k + 1) (drop (suc k) totals) in
-    let line : List ℕ = total_text (label_of plan k) t in
-    let lines : total_lines plan k (drop k totals) ≡ line ++ left = ap (total_lines plan k) (drop_suc totals k t at) in
-    let suc_is : k + 1 ≡ suc k = omega arith in
-    ap (λ j. more ++ total_lines plan (k + 1) (drop j totals)) suc_is
-    ∙ (ap (λ us. us ++ left) e ∙ (append_assoc text line left ∙ (ap (λ us. text ++ us) (sym lines) ∙ so_far)))
-
 -- ---- at the end
 
 no_way_left : (plan : Contents) (n : ℕ) (pairs : List (ℕ × ℕ)) → pair_lines plan n pairs [] ≡ []
@@ -80,9 +58,6 @@ no_pair_left plan pairs ways k n e =
           let past : length pairs ≤ k = omega arith in
           ap (λ ps. pair_lines plan n ps (drop k ways)) (drop_all k pairs past)
     ]
-
-pub no_total_left : (plan : Contents) (totals : List Total) (k n : ℕ) → length totals ≤ k → total_lines plan n (drop k totals) ≡ []
-no_total_left plan totals k n past = ap (total_lines plan n) (drop_all k totals past)
 
 -- ---- the ways of a pair as they are written
 

@@ -4,7 +4,6 @@ use Rattle.std.proofs.lemmas.List.{take_more}
 use Rattle.std.proofs.lemmas.Option.{get_or_from_slice_get, slice_get_within}
 use Rattle.order.specs.Lines.{order_lines}
 use Rattle.order.specs.Orders.{IsOrder, OrderedPlan}
-use Rattle.order.specs.Totals.{totals_of}
 use Rattle.order.specs.declared.orders.Order.{Order}
 use Rattle.plan_core.specs.Contents.{Contents}
 use Rattle.plan_core.specs.Pairs.{pairs_of}

@@ -1,7 +1,6 @@
 -- How the pairs of a plan may end, one after another, beside its faults.
-use Rattle.std.proofs.Common.{◌≡◌, ℕ, zero, suc, ◌+◌, ◌<◌, true, false, ◌==◌, Option, Some, None, List, [], ◌∷◌, ◌++◌, length, drop, slice_get, refl, ap, sym, ◌∙◌, subst, arith, add-one, eq-eqb, inl, inr}
+use Rattle.std.proofs.Common.{◌≡◌, ℕ, zero, suc, ◌+◌, ◌<◌, true, false, ◌==◌, Option, Some, None, List, [], ◌∷◌, ◌++◌, length, drop, slice_get, refl, ap, sym, ◌∙◌, subst, arith, add-one, inl, inr}
 use Rattle.std.proofs.lemmas.Bool.{cases_eq, eqb-false, ne_eqb}
-use Rattle.std.proofs.lemmas.List.{length-append}
 use Rattle.certificate.specs.declared.values.Fault.{Fault}
 use Rattle.arbitration.specs.declared.spans.Outcomes.{Outcomes}
 use Rattle.arbitration.proofs.Runs.{ends_span, first_in_runs, second_in_runs}
@@ -141,9 +140,6 @@ module _ (plan : Contents) (verdicts : List Verdict) (right : AreVerdicts plan v
 pub record SoFar (plan : Contents) (faults : List (ℕ × Fault)) (verdicts : List Verdict) (met n : ℕ) (ways : List (Option Outcomes)) : Type 0 where
   pub each : AreWaysOf plan ways
   pub left : drop met faults ≡ faults_of (drop n verdicts)
-
-pub none_so_far : (plan : Contents) (faults : List (ℕ × Fault)) (right : AreFaults plan faults) → SoFar plan faults right.verdicts 0 0 []
-none_so_far plan faults right = record { each = λ i x y way e p. cc; left = right.these }
 
 module _ (plan : Contents) (faults : List (ℕ × Fault)) (right : AreFaults plan faults) (met n x y : ℕ) (ways : List (Option Outcomes)) (here : slice_get (pairs_of plan) n ≡ Some (x, y)) (count : length ways ≡ n) (so_far : SoFar plan faults right.verdicts met n ways) where
   pub unsafe_next : is_first (drop met faults) n ≡ true → SoFar plan faults right.verdicts (met + 1) (n + 1) (ways ++ None ∷ [])

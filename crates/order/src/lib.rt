@@ -1,9 +1,9 @@
 //! Who wins arbitration: a value for each pair of a plan, and its lines; and a summary of it.
 //!
 //! What is said of a pair is the answer of `arbitration`, whose contract says what it means. `known` keeps it for each two
-//! senders, `orders` has the value, `totals` counts for each participant, and `lines` has the words. `scores` counts for each
-//! participant against each side, a controller or an interrupt, and `summaries` has the words for people. `laws` says that
-//! value and lines together are the report for a plan.
+//! senders, `orders` has the value, `totals` counts for each participant, and `lines` has the words. `scores` counts
+//! for each participant against each side, a controller or an interrupt, and `summaries` has the words for people.
+//! `laws` says that value and lines together are the report for a plan.
 #![tactic(auto)]
 
 mod known;

@@ -1,8 +1,9 @@
-//! Where what stands in a plan comes from: for people, who know the briefs and not the plan. These are values alone, so who
-//! only speaks of texts does not stand on what reads them. No clause speaks of them.
+//! Where what stands in a plan comes from: for people, who know the briefs and not the plan. These are values alone, so
+//! who only speaks of texts does not stand on what reads them. No clause speaks of them.
 //!
-//! `Origins` says of what a plan has where that stands. `spans` has all items of the texts, and the names in them, each with its
-//! bytes; `recording` finds them among the tokens that a reader takes, and `texts` says what they are the names of.
+//! `Origins` says of what a plan has where that stands. `spans` has all items of the texts, and the names in them, each
+//! with its bytes; `recording` finds them among the tokens that a reader takes, and `texts` says what they are the names
+//! of, and which names a family or a label makes.
 #![tactic(auto)]
 
 mod recording;
@@ -13,7 +14,7 @@ use message_tree::{Address, Pattern};
 use plan_core::Name;
 pub use recording::{Part, TokenAt};
 pub use spans::{Head, Item, ItemKind, Kind, Language, NameAt, Role, Span, Spans};
-pub use texts::NamedTexts;
+pub use texts::{NamedTexts, halves, has_member};
 
 /// A place in briefs.
 #[derive(Clone, Copy, PartialEq, Eq, Drop)]

@@ -2,6 +2,7 @@
 // plan or a brief, so it goes on where that is refused.
 
 use crate::spans::{Head, Item, ItemKind, Kind, Language, NameAt, Role, Span, Spans};
+use crate::texts::halves;
 
 /// What a token is to the names of a text.
 #[derive(Clone, Copy)]
@@ -83,10 +84,8 @@ impl Spans {
         let item = Item {
             kind,
             span: self.span(at.start, at.end),
-            line: at.line,
             value: None,
             range: None,
-            names: self.names.len(),
         };
         self.open = Open {
             kind: Some(kind),
@@ -146,7 +145,7 @@ impl Spans {
     // What stands after the name that an item gives.
     fn set_value(&mut self, given: Kind, at: TokenAt) {
         let value = self.span(at.start, at.end);
-        if !matches!(given, Kind::Device | Kind::Byte | Kind::Interrupt) {
+        if !matches!(given, Kind::Device | Kind::Byte) {
             return;
         }
         if let Some(item) = self.items.last_mut() {
@@ -174,28 +173,23 @@ impl Spans {
         }
     }
 
-    // A controller, or a label: a controller and what it sends.
+    // A controller, or a label: a controller and what it sends. Of no controller there is no label.
     fn add_side(&mut self, word: &[u8], at: TokenAt) {
-        let Some(length) = word.iter().position(is_slash) else {
+        let Some((controller, label)) = halves(word) else {
             return self.add(word, at, Kind::Controller, Role::Used);
         };
-        let (controller, label) = word.split_at(length);
-        let middle = at.start.saturating_add(length);
+        if !begins_name(controller) {
+            return;
+        }
+        let end = at.start.saturating_add(controller.len());
+        let start = end.saturating_add(1);
         self.add(
             controller,
-            TokenAt { end: middle, ..at },
+            TokenAt { end, ..at },
             Kind::Controller,
             Role::Used,
         );
-        self.add(
-            label.get(1..).unwrap_or(&[]),
-            TokenAt {
-                start: middle.saturating_add(1),
-                ..at
-            },
-            Kind::Message,
-            Role::Label,
-        );
+        self.add(label, TokenAt { start, ..at }, Kind::Message, Role::Label);
     }
 
     // A name. What begins with no letter is none.
@@ -231,8 +225,4 @@ fn begins_name(word: &[u8]) -> bool {
         Some(first) => first.is_ascii_alphabetic(),
         None => false,
     }
-}
-
-fn is_slash(byte: &u8) -> bool {
-    *byte == b'/'
 }

@@ -59,13 +59,10 @@ pub struct Item {
     pub kind: ItemKind,
     /// From its first word up to its `;`, or up to its last token where it has none.
     pub span: Span,
-    pub line: u64,
-    /// What stands after the name of a device, a byte or an interrupt.
+    /// What stands after the name of a device or a byte.
     pub value: Option<Span>,
     /// The range of a message, which makes it a family.
     pub range: Option<Span>,
-    /// How many names stand before those of the item.
-    pub names: usize,
 }
 
 /// What a name does in its item.
@@ -91,8 +88,15 @@ pub struct NameAt {
     pub item: usize,
 }
 
-/// The items and the names of texts, in the order of the texts. Where a text is refused, they are those before that, and those
-/// after it up to what is no token.
+impl NameAt {
+    /// Whether its item gives it to one of this kind.
+    pub fn gives(self, kind: Kind) -> bool {
+        self.role == Role::Given && self.kind == kind
+    }
+}
+
+/// The items and the names of texts, in the order of the texts. Where a text is refused, they are those before that, and
+/// those after it up to what is no token.
 pub struct Spans {
     pub(crate) heads: Vec<Option<Head>>,
     pub(crate) items: Vec<Item>,
@@ -173,9 +177,13 @@ impl Spans {
         self.items.get(at.item).copied()
     }
 
-    /// Whether the text of this number has an item.
+    /// Whether the text of this number has an item. The items stand in the order of the texts.
     pub fn has_items(&self, file: u32) -> bool {
-        self.items.iter().any(|item| item.span.file == file)
+        let before = self.items.partition_point(|item| item.span.file < file);
+        match self.items.get(before) {
+            Some(item) => item.span.file == file,
+            None => false,
+        }
     }
 
     /// The name that stands at this place of a text: around it, or right before it.

@@ -1,6 +1,6 @@
 // Names in texts: which they are, where they are given, and what they stand for.
 
-use crate::spans::{Item, ItemKind, Kind, NameAt, Role, Spans};
+use crate::spans::{Item, Kind, NameAt, Spans};
 use std::alloc::{AllocError, Global};
 
 /// Texts, and the names in them.
@@ -57,7 +57,7 @@ impl<'a> NamedTexts<'a> {
         at.span.of(self.text(at.span.file))
     }
 
-    /// What stands after a name that an item gives to a device, a byte or an interrupt.
+    /// What stands after a name that an item gives to a device or a byte.
     pub fn value(&self, at: NameAt) -> &'a [u8] {
         match self.spans.item(at) {
             Some(
@@ -80,11 +80,9 @@ impl<'a> NamedTexts<'a> {
 
     /// Where one of this kind gets this name: it is the first one.
     pub fn given(&self, kind: Kind, name: &[u8]) -> Option<NameAt> {
-        for item in self.spans.items() {
-            if let Some(at) = self.given_by(*item, kind) {
-                if self.word(at) == name {
-                    return Some(at);
-                }
+        for at in self.names() {
+            if at.gives(kind) && self.word(*at) == name {
+                return Some(*at);
             }
         }
         None
@@ -92,28 +90,40 @@ impl<'a> NamedTexts<'a> {
 
     // Where the family gets its name that makes the message of this one.
     fn family(&self, name: &[u8]) -> Option<NameAt> {
-        for item in self.spans.items() {
-            if let (Some(at), Some(range)) = (self.given_by(*item, Kind::Message), item.range) {
-                if has_member(self.word(at), range.of(self.text(range.file)), name) {
-                    return Some(at);
-                }
+        for at in self.names() {
+            if at.gives(Kind::Message) && has_member(self.word(*at), self.range(*at), name) {
+                return Some(*at);
             }
         }
         None
     }
 
-    // The name that an item gives to one of this kind.
-    fn given_by(&self, item: Item, kind: Kind) -> Option<NameAt> {
-        if item.kind != ItemKind::Gives(kind) {
-            return None;
+    /// The range of the message in whose item a name stands. Without one it is no family.
+    pub fn range(&self, at: NameAt) -> &'a [u8] {
+        match self.spans.item(at) {
+            Some(
+                Item {
+                    range: Some(range),
+                    ..
+                },
+            ) => range.of(self.text(range.file)),
+            _ => &[],
         }
-        let at = *self.names().get(item.names)?;
-        (at.role == Role::Given && at.kind == kind).then_some(at)
     }
 }
 
-// Whether a family with this range has a message of this name.
-fn has_member(family: &[u8], range: &[u8], name: &[u8]) -> bool {
+/// What stands before and after the `/` of a label.
+pub fn halves(label: &[u8]) -> Option<(&[u8], &[u8])> {
+    let at = label.iter().position(is_slash)?;
+    Some((label.get(..at)?, label.get(at.saturating_add(1)..)?))
+}
+
+fn is_slash(byte: &u8) -> bool {
+    *byte == b'/'
+}
+
+/// Whether a family with this range has a message of this name.
+pub fn has_member(family: &[u8], range: &[u8], name: &[u8]) -> bool {
     match (range_of(range), number_after(family, name)) {
         (Some((least, greatest)), Some(number)) => least <= number && number <= greatest,
         _ => false,

@@ -1,7 +1,6 @@
 // Who takes part, as the page has it: all names, and what each participant sends.
 
 use crate::nodes::{Node, address, nodes_of};
-use bus_rows::spelled;
 use message_tree::Address;
 use order::{Order, Total};
 use plan_core::{Participant, Plan};
@@ -226,7 +225,7 @@ impl<'a> Participants<'a> {
 // Where the message of a participant stands, or the interrupt that it is.
 fn place_of(alloc: Global, words: PlanWords<'_>, p: u32) -> Result<Option<String>, AllocError> {
     match words.item_at(p) {
-        Some(place) => Ok(Some(spelled(alloc, place)?)),
+        Some(place) => Ok(Some(place.spelled(alloc)?)),
         None => Ok(None),
     }
 }

@@ -69,18 +69,12 @@ from_marks marks i j a b p q e d r s same nodes have m =
     let never : NeverMeet nodes p.root q.root = meet_later nodes have.0 h.0 l.0 p.beginning p.root q.root p.node q.node h.1 at m in
     subst (λ (k : ℕ). NeverMeet nodes k b) r (subst (NeverMeet nodes p.root) s never)
 
-pub from_roots : (marks : List Mark) (a b : ℕ) → MeetsLater marks a b (a, b)
-from_roots marks a b nodes have m = m
-
 -- ---- marks that are made
 
 leads_kept : (nodes old new : List Node) → Keeps old new → (d b x to : ℕ) → Leads nodes old d b x to → Leads nodes new d b x to
 leads_kept nodes old new keeps zero b x to h = h
 leads_kept nodes old new keeps (suc d) b x to h =
     (h.0, h.1, h.2, h.3, h.4, keeps h.0 _ h.5, h.6, leads_kept nodes old new keeps d h.1 x h.2 h.7)
-
-pub no_marks : (nodes bs : List Node) (marks : List Mark) → marks ≡ [] → AreMarks nodes bs marks
-no_marks nodes bs marks e = rw e (λ k m h. cc)
 
 pub marks_kept : (nodes old new : List Node) (marks : List Mark) → Keeps old new → AreMarks nodes old marks → AreMarks nodes new marks
 marks_kept nodes old new marks keeps are k m e =

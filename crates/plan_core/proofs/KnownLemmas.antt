@@ -12,11 +12,6 @@ holds_at P [] k x h e = cc
 holds_at P (y ∷ xs) zero x h e = let d : y ≡ x = cc in subst P d h.0
 holds_at P (y ∷ xs) (suc k) x h e = holds_at P xs k x h.1 e
 
-pub never_known : (plan : Plan) (k : ℕ) (n : ℕ × ℕ) → slice_get (plan_contents plan).nevers k ≡ Some n → (n.0 < length (plan_contents plan).controllers) × (n.1 < length (plan_contents plan).controllers)
-never_known plan k n e =
-    let P : ℕ × ℕ → Type 0 = λ m. (m.0 < length (plan_contents plan).controllers) × (m.1 < length (plan_contents plan).controllers) in
-    holds_at P (plan_contents plan).nevers k n (recursion_from_All P (plan_contents plan).nevers (limits_of plan).nevers.known) e
-
 value_holds_at : (P : List ℕ → Type 0) (xs : List (List ℕ × List ℕ)) (k : ℕ) (v : List ℕ) → AllByRecursion (λ c. P c.1) xs → slice_get (values_of xs) k ≡ Some v → P v
 value_holds_at P [] k v h e = cc
 value_holds_at P (x ∷ xs) zero v h e = let d : x.1 ≡ v = cc in subst P d h.0

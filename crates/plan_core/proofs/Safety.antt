@@ -33,11 +33,6 @@ item_of_kind x (Sent b) e s h = absurd (s refl)
 item_of_kind x (Heard b) e s h = absurd (h refl)
 item_of_kind _ _ e s h = cc
 
--- the bit of an item that is sent
-sent_bit : (x : Item) → kind_of x ≡ kind.Sent → (b : Bool) × (x ≡ Sent b)
-sent_bit (Sent b) h = (b, refl)
-sent_bit _ h = cc
-
 heard_bit : (x : Item) → kind_of x ≡ kind.Heard → (b : Bool) × (x ≡ Heard b)
 heard_bit (Heard b) h = (b, refl)
 heard_bit _ h = cc

@@ -1,13 +1,11 @@
 -- Messages that a controller lists, as a search of its list finds them.
-use Rattle.std.proofs.Common.{◌≡◌, ℕ, ◌<◌, ◌==◌, true, false, List, length, Some, slice_get, get_or, sym, subst, arith}
+use Rattle.std.proofs.Common.{◌≡◌, ℕ, ◌==◌, true, false, List, Some, slice_get, get_or, sym, subst}
 use Rattle.std.specs.Prelude.{Contains}
 use Rattle.std.specs.List.{list_any}
 use Rattle.std.specs.Map.{values_of}
 use Rattle.std.proofs.lemmas.Bool.{eq-eqb, eqb-true}
 use Rattle.std.proofs.lemmas.List.Folds.{list_any_at}
-use Rattle.std.proofs.lemmas.Map.Entries.{length-values_of}
 use Rattle.std.proofs.lemmas.Map.Views.{Contains-from_any}
-use Rattle.std.proofs.lemmas.Option.{slice_get_within}
 use Rattle.plan_findings.specs.Unchecked.{IsListed}
 use Rattle.plan_core.specs.Contents.{Contents}
 
@@ -32,8 +30,3 @@ lacks plan message controller messages here found others at has =
     let same : messages ≡ others = cc in
     let there = finds_what_is_there messages message (subst (λ (xs : List ℕ). Contains xs message) (sym same) has) in
     cc
-
-pub is_nowhere : (plan : Contents) (message count : ℕ) → count ≡ length plan.controllers → ((controller : ℕ) → controller < count → Lacks plan message controller) → IsListed plan message → ⊥
-is_nowhere plan message count whole none it =
-    let within = slice_get_within (values_of plan.controllers) it.controller it.messages it.here in
-    none it.controller (omega (arith, within, length-values_of plan.controllers, whole)) it.messages it.here it.has

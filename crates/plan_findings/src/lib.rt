@@ -1,9 +1,9 @@
 //! What is found out about a plan, its certificate and its rehearsal, as values that each form may show.
 //!
-//! `unchecked` has what a check does not look at, `mistakes` and `breaks` what is wrong with a certificate (`broken` what is sent
-//! up to there), `tracks` what starters put along a wire. `whys` says why a pair is unsafe, and `offers` what is offered to mend
-//! unsafe pairs, in words that several forms have; `rewritten` says there which messages could be families. `details` is how much
-//! a form tells of unsafe pairs. What mends a plan is found in `remedies`.
+//! `unchecked` has what a check does not look at, `mistakes` and `breaks` what is wrong with a certificate (`broken`
+//! what is sent up to there), `tracks` what starters put along a wire. `whys` says why a pair is unsafe, and `offers`
+//! what is offered to mend unsafe pairs, in words that several forms have; `rewritten` says there which messages could
+//! be families. `details` is how much a form tells of unsafe pairs. What mends a plan is found in `remedies`.
 #![tactic(auto)]
 
 mod breaks;

@@ -380,12 +380,7 @@ fn ends_open(plan: &Plan, run: Run) -> bool {
 }
 
 fn is_open(byte: Pattern) -> bool {
-    for k in 0..8u8 {
-        if byte.bit(k) != Bit::Either {
-            return false;
-        }
-    }
-    true
+    byte.bits().iter().all(|bit| *bit == Bit::Either)
 }
 
 fn items_of(

@@ -40,7 +40,6 @@ use run_ends::{Ended, Extras, Findings, Halt, Sources, Style};
 use run_parts::devices::reading::READS;
 use run_parts::{Input, Output, RunError, Status, read_within, write_lines};
 use std::alloc::{AllocError, Global};
-use std::rt::Files;
 use std::thread::Threads;
 use std::time::Clock;
 use verdicts::{Checked, Gate};
@@ -53,7 +52,7 @@ const FEW: usize = 20;
 // ---- check
 
 /// Checks the plan that the readers give.
-pub fn check<R: Files + Print + Eprint + Clock + AllocGlobal + Threads + Sync, I: Input, O: Output>(
+pub fn check<R: Eprint + Clock + AllocGlobal + Threads + Sync, I: Input, O: Output>(
     rt: &R,
     plans: &mut Sources<'_, I>,
     out: &mut O,

@@ -28,19 +28,13 @@ use plan_words::PlanWords;
 use run_ends::{Ended, Extras, Findings, Halt, Sources, Style};
 use run_parts::{Input, Output, RunError, Status, write_lines};
 use std::alloc::{AllocError, Global};
-use std::rt::Files;
 use std::sync::Wait;
 use std::thread::Threads;
 use std::time::Clock;
 use waves::wave_of_bench;
 
 /// Rehearses the plan that the first readers give, with the certificate of the second.
-pub fn bench<
-    R: Files + Print + Eprint + AllocGlobal + Threads + Wait + Clock + Sync,
-    I: Input,
-    J: Input,
-    O: Output,
->(
+pub fn bench<R: AllocGlobal + Threads + Wait + Clock + Sync, I: Input, J: Input, O: Output>(
     rt: &R,
     plans: &mut Sources<'_, I>,
     cert: &mut J,
@@ -62,11 +56,7 @@ pub fn bench<
 }
 
 /// Rehearses the plan that the readers give by the certificate that is made of it here.
-pub fn bench_alone<
-    R: Files + Print + Eprint + AllocGlobal + Threads + Wait + Clock + Sync,
-    I: Input,
-    O: Output,
->(
+pub fn bench_alone<R: AllocGlobal + Threads + Wait + Clock + Sync, I: Input, O: Output>(
     rt: &R,
     plans: &mut Sources<'_, I>,
     out: &mut O,

@@ -2,7 +2,7 @@
 use Rattle.std.proofs.Common.{◌≡◌, ◌≤◌, ◌-◌, ℕ, List, ◌∷◌, ◌++◌, codes, refl, ap, sym, ◌∙◌, length, take, drop, get_or, inr}
 use Rattle.std.proofs.lemmas.List.{take-append-drop}
 use Rattle.lexer.specs.declared.lexemes.Letters.{Letters}
-use Rattle.lexer.specs.declared.lexemes.Letters.TheVariants.{Plain, Dots, Brief}
+use Rattle.lexer.specs.declared.lexemes.Letters.TheVariants.{Plain, Dots, Brief, Board}
 use Rattle.lexer.specs.Lexemes.{lexemes_of, letters}
 use Rattle.lexer.specs.Reading.{alphabet}
 use Rattle.lexer.proofs.LexemeLemmas.{front_is, later_alphabet}
@@ -45,3 +45,4 @@ else_stop_here l line whole rest is more blank =
     both Plain line after = refl
     both Dots line after = refl
     both Brief line after = refl
+    both Board line after = refl

@@ -1,12 +1,12 @@
 -- Whole texts. The first two tokens are the same whether or not `.` is a part of words after them, and so the version that
 -- they say is that of the text.
 use Rattle.std.proofs.Common.{◌≡◌, ℕ, ◌+◌, List, [], ◌∷◌, Bool, true, false, Some, None, refl, sym, ap, ◌∙◌, subst}
-use Rattle.std.specs.Prelude.{codes, Result, Ok, Err, if◌then◌else◌}
+use Rattle.std.specs.Prelude.{codes, ◌==◌, Result, Ok, Err, if◌then◌else◌}
 use Rattle.std.specs.Str.{bytes_eq}
 use Rattle.lexer.specs.declared.lexemes.Letters.{Letters}
-use Rattle.lexer.specs.Lexemes.{Alphabet, no_dots, dots_after, letters, later, Lexeme, sign, Lexemes, Ending, text_end, foreign, stray, Class, line_feed, blank, number_sign, sign_byte, word_part, foreign_byte, stray_byte, class_of, begins_with_part, put_before, raw_lexemes, in_comment, lexemes_of}
+use Rattle.lexer.specs.Lexemes.{Alphabet, no_dots, dots_after, letters, later, Lexeme, sign, Lexemes, Ending, text_end, foreign, stray, Class, line_feed, blank, number_sign, sign_byte, word_part, quote, foreign_byte, stray_byte, is_string_part, has_any_comment, class_of, begins_with_part, put_before, raw_lexemes, in_comment, in_string, lexemes_of}
 use Rattle.lexer.specs.Lexemes as lexemes
-use Rattle.lexer.proofs.LexemeLemmas.{lexemes_at, comment_at, part_at}
+use Rattle.lexer.proofs.LexemeLemmas.{lexemes_at, comment_at, foreign_at, string_by, part_at}
 use Rattle.plan_core.specs.Contents.{Contents, empty}
 use Rattle.plan_core.proofs.BuildingLemmas.{same-bytes_eq}
 use Rattle.plan_text.specs.declared.errors.PlanError.{PlanError}
@@ -36,35 +36,51 @@ alike_part true d e line byte bytes h = alike_before d e _ _ byte h
 alike_part false d e line byte bytes h = goes (lexemes.word (byte ∷ [])) line line bytes refl refl
 
 alike_at : (k : Class) (d e : Alphabet) (line byte : ℕ) (bytes : List ℕ) → letters d ≡ letters e → Alike d e (raw_lexemes d (line + 1) bytes) (raw_lexemes e (line + 1) bytes) →
-    Alike d e (raw_lexemes d line bytes) (raw_lexemes e line bytes) → Alike d e (in_comment d line bytes) (in_comment e line bytes) → Alike d e (lexemes_at k d line byte bytes) (lexemes_at k e line byte bytes)
-alike_at line_feed d e line byte bytes same f h c = f
-alike_at blank d e line byte bytes same f h c = h
-alike_at number_sign d e line byte bytes same f h c = c
-alike_at sign_byte d e line byte bytes same f h c = goes (sign byte) line line bytes refl refl
-alike_at word_part d e line byte bytes same f h c =
+    Alike d e (raw_lexemes d line bytes) (raw_lexemes e line bytes) → Alike d e (in_comment d line bytes) (in_comment e line bytes) → Alike d e (in_string d line bytes) (in_string e line bytes) → Alike d e (lexemes_at k d line byte bytes) (lexemes_at k e line byte bytes)
+alike_at line_feed d e line byte bytes same f h c s = f
+alike_at blank d e line byte bytes same f h c s = h
+alike_at number_sign d e line byte bytes same f h c s = c
+alike_at sign_byte d e line byte bytes same f h c s = goes (sign byte) line line bytes refl refl
+alike_at word_part d e line byte bytes same f h c s =
     subst (λ (t : Letters). Alike d e (part_at (begins_with_part (letters d) bytes) d line byte bytes) (part_at (begins_with_part t bytes) e line byte bytes)) same
     (alike_part (begins_with_part (letters d) bytes) d e line byte bytes h)
-alike_at foreign_byte d e line byte bytes same f h c = ends foreign line refl refl
-alike_at stray_byte d e line byte bytes same f h c = ends stray line refl refl
+alike_at quote d e line byte bytes same f h c s = alike_before d e _ _ byte s
+alike_at foreign_byte d e line byte bytes same f h c s = ends foreign line refl refl
+alike_at stray_byte d e line byte bytes same f h c s = ends stray line refl refl
 
-alike_comment_at : (k : Class) (d e : Alphabet) (line : ℕ) (bytes : List ℕ) → Alike d e (raw_lexemes d (line + 1) bytes) (raw_lexemes e (line + 1) bytes) →
+alike_foreign : (any : Bool) (d e : Alphabet) (line : ℕ) (bytes : List ℕ) → Alike d e (in_comment d line bytes) (in_comment e line bytes) → Alike d e (foreign_at any d line bytes) (foreign_at any e line bytes)
+alike_foreign true d e line bytes c = c
+alike_foreign false d e line bytes c = ends foreign line refl refl
+
+alike_comment_at : (k : Class) (d e : Alphabet) (line : ℕ) (bytes : List ℕ) → letters d ≡ letters e → Alike d e (raw_lexemes d (line + 1) bytes) (raw_lexemes e (line + 1) bytes) →
     Alike d e (in_comment d line bytes) (in_comment e line bytes) → Alike d e (comment_at k d line bytes) (comment_at k e line bytes)
-alike_comment_at line_feed d e line bytes f c = f
-alike_comment_at foreign_byte d e line bytes f c = ends foreign line refl refl
-alike_comment_at k d e line bytes f c = c
+alike_comment_at line_feed d e line bytes same f c = f
+alike_comment_at foreign_byte d e line bytes same f c =
+    subst (λ (t : Letters). Alike d e (foreign_at (has_any_comment (letters d)) d line bytes) (foreign_at (has_any_comment t) e line bytes)) same
+    (alike_foreign (has_any_comment (letters d)) d e line bytes c)
+alike_comment_at k d e line bytes same f c = c
+
+alike_string_at : (closes inner : Bool) (d e : Alphabet) (line byte : ℕ) (bytes : List ℕ) → Alike d e (in_string d line bytes) (in_string e line bytes) → Alike d e (string_by closes inner d line byte bytes) (string_by closes inner e line byte bytes)
+alike_string_at true inner d e line byte bytes s = goes (lexemes.word (byte ∷ [])) line line bytes refl refl
+alike_string_at false true d e line byte bytes s = alike_before d e _ _ byte s
+alike_string_at false false d e line byte bytes s = ends stray line refl refl
+
+alike_string : (d e : Alphabet) (line : ℕ) (bytes : List ℕ) → Alike d e (in_string d line bytes) (in_string e line bytes)
+alike_string d e line [] = ends stray line refl refl
+alike_string d e line (byte ∷ bytes) = alike_string_at (byte == 34) (is_string_part byte) d e line byte bytes (alike_string d e line bytes)
 
 mutual
   alike_raw : (d e : Alphabet) (line : ℕ) (bytes : List ℕ) → letters d ≡ letters e → Alike d e (raw_lexemes d line bytes) (raw_lexemes e line bytes)
   alike_raw d e line [] same = ends text_end line refl refl
   alike_raw d e line (byte ∷ bytes) same =
       subst (λ (t : Letters). Alike d e (lexemes_at (class_of (letters d) byte) d line byte bytes) (lexemes_at (class_of t byte) e line byte bytes)) same
-      (alike_at (class_of (letters d) byte) d e line byte bytes same (alike_raw d e (line + 1) bytes same) (alike_raw d e line bytes same) (alike_comment d e line bytes same))
+      (alike_at (class_of (letters d) byte) d e line byte bytes same (alike_raw d e (line + 1) bytes same) (alike_raw d e line bytes same) (alike_comment d e line bytes same) (alike_string d e line bytes))
 
   alike_comment : (d e : Alphabet) (line : ℕ) (bytes : List ℕ) → letters d ≡ letters e → Alike d e (in_comment d line bytes) (in_comment e line bytes)
   alike_comment d e line [] same = ends text_end line refl refl
   alike_comment d e line (byte ∷ bytes) same =
       subst (λ (t : Letters). Alike d e (comment_at (class_of (letters d) byte) d line bytes) (comment_at (class_of t byte) e line bytes)) same
-      (alike_comment_at (class_of (letters d) byte) d e line bytes (alike_raw d e (line + 1) bytes same) (alike_comment d e line bytes same))
+      (alike_comment_at (class_of (letters d) byte) d e line bytes same (alike_raw d e (line + 1) bytes same) (alike_comment d e line bytes same))
 
 -- the same token, and then tokens of the same bytes
 record Followed (d e : Alphabet) (line : ℕ) (bytes : List ℕ) (token : Token) (place : ℕ) (rest : Tokens) : Type 0 where

@@ -2,7 +2,7 @@
 use Rattle.std.proofs.Common.{◌≡◌, ◌+◌, ℕ, List, [], ◌∷◌, true, refl, ap, take, drop, ◌⊎◌}
 use Rattle.std.specs.List.{prefix_len}
 use Rattle.lexer.specs.declared.lexemes.Letters.{Letters}
-use Rattle.lexer.specs.declared.lexemes.Letters.TheVariants.{Plain, Dots, Brief}
+use Rattle.lexer.specs.declared.lexemes.Letters.TheVariants.{Plain, Dots, Brief, Board}
 use Rattle.lexer.specs.Lexemes.{Alphabet, letters, later, is_word_part, is_sign, text_end}
 use Rattle.lexer.proofs.LexemeLemmas as lexemes
 use Rattle.plan_text.specs.Tokens.{next, last, semicolon, tokens_from, tokens_of, token_of_word}
@@ -25,6 +25,7 @@ is_semicolon : (l : Letters) → is_sign l 59 ≡ true
 is_semicolon Plain = refl
 is_semicolon Dots = refl
 is_semicolon Brief = refl
+is_semicolon Board = refl
 
 pub semicolon_here : (a : Alphabet) (line : ℕ) (rest others : List ℕ) → rest ≡ 59 ∷ others → tokens_of a line rest ≡ next semicolon line (tokens_of (later a) line others)
 unfolding tokens_of

@@ -4,7 +4,7 @@ use Rattle.std.specs.List.{list_all, prefix_len}
 use Rattle.std.proofs.lemmas.Bool.{and_parts, and_from, ne_eqb}
 use Rattle.std.proofs.lemmas.List.{take_at, drop_at}
 use Rattle.lexer.specs.declared.lexemes.Letters.{Letters}
-use Rattle.lexer.specs.declared.lexemes.Letters.TheVariants.{Plain, Dots, Brief}
+use Rattle.lexer.specs.declared.lexemes.Letters.TheVariants.{Plain, Dots, Brief, Board}
 use Rattle.lexer.specs.Lexemes.{Alphabet, letters, later, is_word_part, begins_with_part}
 use Rattle.message_tree.proofs.BitLemmas.{length-bits_below}
 use Rattle.message_tree.specs.declared.bits.Bit.{Bit}
@@ -36,6 +36,7 @@ pub space_apart : (ls : Letters) (rest : List ℕ) → Apart ls (32 ∷ rest)
 space_apart Plain rest = refl
 space_apart Dots rest = refl
 space_apart Brief rest = refl
+space_apart Board rest = refl
 
 -- a word that begins with no letter from `a` to `w` is no keyword
 pub no_keyword : (byte : ℕ) (bytes : List ℕ) → (97 ≤ byte → 119 < byte) → token_of_word (byte ∷ bytes) ≡ word (byte ∷ bytes)

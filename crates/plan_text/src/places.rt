@@ -58,6 +58,8 @@ pub enum Expected {
     BriefByte,
     /// How often a data byte stands, which may be a range.
     Times { ranges: bool },
+    /// `(` or `)` around the address of `wr` or `rd`.
+    Bracket { opens: bool },
     /// What stands after `else` in a brief: `stop` or `(`.
     Refusal,
     /// A controller of a brief, or a label.
@@ -75,6 +77,8 @@ pub struct Further {
     pub refusal: bool,
     /// A data byte.
     pub bytes: bool,
+    /// It may be one that follows from others: `wr`, `rd`, `pec` or `sum`.
+    pub made: bool,
     /// `)` in place of `;`.
     pub is_inner: bool,
 }

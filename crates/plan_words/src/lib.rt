@@ -1,8 +1,8 @@
 //! What people call the participants and the controllers of a plan, and where these stand: in the words of the briefs that
 //! mean it, where it was given so, and else in its own.
 //!
-//! A brief may split a controller, so that a plan has `bmc_set/set` where people have written `bmc/set`. Only words for people
-//! are made here: the exact lines of reports have the names of the plan.
+//! A brief may split a controller, so that a plan has `bmc_set/set` where people have written `bmc/set`. Only words for
+//! people are made here: the exact lines of reports have the names of the plan.
 #![tactic(auto)]
 
 mod sides;
@@ -47,11 +47,17 @@ pub struct FileLine<'a> {
 }
 
 impl FileLine<'_> {
-    /// Adds `FILE:LINE`, as editors take it. What is hidden in the name is escaped.
-    pub fn push_to(self, text: &mut Text) {
-        push_shown(text, self.file);
+    /// `FILE:LINE`, as editors take it. What is hidden in the name is escaped.
+    ///
+    /// # Errors
+    ///
+    /// Where an allocation fails.
+    pub fn spelled(self, alloc: Global) -> Result<String, AllocError> {
+        let mut text = Text::new(alloc);
+        push_shown(&mut text, self.file);
         text.push(":");
         text.push_number(self.line);
+        text.finish()
     }
 }
 

@@ -105,10 +105,6 @@ passes_some : (t : Put → Bool) (o : Option Put) (x : Put) → o ≡ Some x →
 unfolding passes
 passes_some t o x e = ap (passes t) e
 
-is_not_true : (b : Bool) → (b ≡ true → ⊥) → b ≡ false
-is_not_true true h = absurd (h refl)
-is_not_true false h = refl
-
 passes_any : (o : Option Put) → passes any_put o ≡ true → o ≢ None
 unfolding passes
 passes_any None h e = cc

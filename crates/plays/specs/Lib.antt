@@ -1,6 +1,7 @@
 pub mod Games
-pub mod Plays
-pub mod Words
-pub mod Tallies
 pub mod Laws
+pub mod Plays
+pub mod Refusals
 pub mod Starters
+pub mod Tallies
+pub mod Words

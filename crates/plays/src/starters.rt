@@ -1,10 +1,12 @@
 // Which starters a bench is opened for.
 
-ghost use Rattle.std.specs.Prelude.{◌≡◌, ◌<◌, Some, None, All, IfOk, IfErr};
+ghost use Rattle.std.specs.Prelude.{◌≡◌, ◌<◌, Some, None, All, IfOk, IfErr, is_some};
 ghost use Rattle.std.specs.List.{list_any};
+ghost use Rattle.std.specs.Option.{option_map};
 ghost use Rattle.plan_core.specs.Participants.{participant_count, forbidden};
 ghost use Rattle.plan_core.specs.PlanContents.{plan_contents};
 ghost use Rattle.plays.specs.Starters.{shares_controller, refusal_behind, starters_refusal};
+ghost use Rattle.plays.specs.Refusals.{reason_of};
 
 use plan_core::Plan;
 use run_errors::OpenError;
@@ -50,45 +52,45 @@ fn check_starter(plan: &Plan, before: &[u32], starter: u32) -> Result<(), OpenEr
     if starter >= plan.participants() {
         return Err(OpenError::Unknown);
     }
-    if sends_already(plan, before, starter) {
+    if sends_already(plan, before, starter).is_some() {
         return Err(OpenError::SameController);
     }
-    if is_forbidden(plan, before, starter) {
+    if forbidden_with(plan, before, starter).is_some() {
         return Err(OpenError::Never);
     }
     Ok(())
 }
 
-// Whether the starter, or a sending of its controller, is among those before it.
-fn sends_already(plan: &Plan, before: &[u32], starter: u32) -> bool
+// The first of those before it that is the starter, or a sending of its controller.
+fn sends_already(plan: &Plan, before: &[u32], starter: u32) -> Option<u32>
     requires known { All (λ y. y < participant_count (plan_contents plan.now)) before.now }
     requires within { starter < participant_count (plan_contents plan.now) }
-    ensures { result ≡ list_any (λ y. shares_controller (plan_contents plan.now) y starter) before.now }
+    ensures { is_some result ≡ list_any (λ y. shares_controller (plan_contents plan.now) y starter) before.now }
 {
     for other in before {
         if *other == starter || plan.same_controller(*other, starter) {
-            return true;
+            return Some(*other);
         }
     }
-    false
+    None
 }
 
-// Whether a `never` names the starter's controller and that of one before it.
-fn is_forbidden(plan: &Plan, before: &[u32], starter: u32) -> bool
+// The first of those before it whose controller a `never` names beside the starter's.
+fn forbidden_with(plan: &Plan, before: &[u32], starter: u32) -> Option<u32>
     requires known { All (λ y. y < participant_count (plan_contents plan.now)) before.now }
     requires within { starter < participant_count (plan_contents plan.now) }
-    ensures { result ≡ list_any (λ y. forbidden (plan_contents plan.now) y starter) before.now }
+    ensures { is_some result ≡ list_any (λ y. forbidden (plan_contents plan.now) y starter) before.now }
 {
     for other in before {
         if plan.forbids(*other, starter) {
-            return true;
+            return Some(*other);
         }
     }
-    false
+    None
 }
 
-/// The same as `check_starters` in words of these labels of theirs, where it refuses them: the first starter that cannot start, with
-/// the first one before it with which it cannot.
+/// The same as `check_starters` in words of these labels of theirs, where it refuses them: the first starter that cannot
+/// start, with the first one before it with which it cannot.
 ///
 /// # Errors
 ///
@@ -98,7 +100,10 @@ pub fn refused_among(
     plan: &Plan,
     labels: &[&str],
     starters: &[u32],
-) -> Result<Option<RefusedStarters>, AllocError> {
+) -> Result<Option<RefusedStarters>, AllocError>
+    ensures { IfOk result (λ refused.
+        option_map reason_of refused ≡ starters_refusal (plan_contents plan.now) starters.now) }
+{
     if starters.is_empty() {
         return Ok(Some(RefusedStarters::Nobody));
     }
@@ -119,16 +124,13 @@ pub fn refused_among(
 fn clash_with(plan: &Plan, before: &[u32], starter: u32) -> Option<RefusedStarters>
     requires known { All (λ y. y < participant_count (plan_contents plan.now)) before.now }
     requires within { starter < participant_count (plan_contents plan.now) }
+    ensures { option_map reason_of result ≡ refusal_behind (plan_contents plan.now) before.now starter }
 {
-    for other in before {
-        if *other == starter || plan.same_controller(*other, starter) {
-            return Some(RefusedStarters::OneController(*other, starter));
-        }
+    if let Some(other) = sends_already(plan, before, starter) {
+        return Some(RefusedStarters::OneController(other, starter));
     }
-    for other in before {
-        if plan.forbids(*other, starter) {
-            return Some(RefusedStarters::Apart(*other, starter));
-        }
+    match forbidden_with(plan, before, starter) {
+        Some(other) => Some(RefusedStarters::Apart(other, starter)),
+        None => None,
     }
-    None
 }

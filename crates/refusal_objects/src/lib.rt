@@ -142,6 +142,7 @@ fn text_word(expected: InText) -> &'static str {
         InText::KnownTarget => "known target",
         InText::BriefByte => "byte",
         InText::Times { .. } => "times",
+        InText::Bracket { .. } => "bracket",
         InText::Refusal => "nack",
         InText::Party => "side",
         InText::Further(further) if further.bytes => "byte or further",

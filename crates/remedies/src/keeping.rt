@@ -323,13 +323,9 @@ fn left_out_by(words: PlanWords<'_>, groups: &Groups, items: &[Apart]) -> u64 {
 
 // How many pairs the plan has of this participant and what a side stands for.
 fn pairs_with(words: PlanWords<'_>, groups: &Groups, x: u32, side: Side) -> u64 {
-    let mut pairs = 0u64;
-    for y in 0..words.plan().participants() {
-        if groups.has(side, y) && are_a_pair(words, x, y) {
-            pairs = pairs.saturating_add(1);
-        }
-    }
-    pairs
+    let participants = 0..words.plan().participants();
+    let is_one = |y: &u32| groups.has(side, *y) && are_a_pair(words, x, *y);
+    participants.filter(is_one).count() as u64
 }
 
 fn are_a_pair(words: PlanWords<'_>, x: u32, y: u32) -> bool {

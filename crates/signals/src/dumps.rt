@@ -30,12 +30,13 @@ pub struct Dump<'a, 'l, J> {
 }
 
 /// A dump that is open, in parts: a reader that gives it from its beginning on, and what is asked of it.
+#[derive(Drop)]
 pub struct OpenDump<'d, 'a, J> {
     pub vcd: &'d mut Watched<Again<'a, J>>,
     pub scl: Probe<'d>,
     pub sda: Probe<'d>,
-    /// The further lines that were asked for.
-    pub others: &'d [Option<Line>],
+    // the further lines that were asked for
+    pub(crate) others: &'d [Option<Line>],
     /// How long a level has to last, in steps of the dump.
     pub least: u64,
     /// What is wrong with the dump, where it is refused.
@@ -179,9 +180,9 @@ impl<'a, 'l, J: Input> Dump<'a, 'l, J> {
             vcd,
             scl,
             sda,
-            others: _,
             least,
             wrong,
+            ..
         } = self.parts();
         decode(alloc, vcd, scl, sda, least, sink, wrong)
     }

@@ -114,7 +114,7 @@ pub fn pick<'a, J: Input>(
 /// # Errors
 ///
 /// `Read` where the reader fails, and `NoMemory`.
-pub fn pick_with<'a, 'n, J: Input>(
+pub(crate) fn pick_with<'a, 'n, J: Input>(
     alloc: Global,
     vcd: &'a mut J,
     scl: Probe<'n>,

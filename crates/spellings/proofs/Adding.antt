@@ -1,6 +1,6 @@
 -- A text that grows by some words and then by more grows by all of them, and a word is written bit by bit.
 
-use Rattle.std.proofs.Common.{◌≡◌, ◌<◌, ◌≤◌, ◌+◌, ℕ, zero, suc, Bool, true, false, ◌||◌, List, [], ◌∷◌, ◌++◌, refl, ap, sym, ◌∙◌, append_assoc, append-nil, map, take, drop, length, get_or, Some, slice_get, lit<, le_refl, subst, add-one}
+use Rattle.std.proofs.Common.{◌≡◌, ◌<◌, ◌≤◌, ◌+◌, ℕ, zero, suc, Bool, true, false, ◌||◌, List, [], ◌∷◌, ◌++◌, refl, ap, sym, ◌∙◌, append_assoc, append-nil, map, take, drop, length, get_or, Some, slice_get, lit<, subst, add-one}
 use Rattle.std.specs.List.{list_any, flat_map}
 use Rattle.std.specs.Map.{keys_of, values_of}
 use Rattle.std.specs.Prelude.{Result, Ok, Err, OnOk}
@@ -37,10 +37,10 @@ bits_more base b c bits k x at before more =
     let step : take (k + 1) bits ≡ take k bits ++ (x ∷ []) = ap (λ n. take n bits) (add-one k) ∙ take-suc bits k x (slice_get_within bits k x at) ∙ ap (λ y. take k bits ++ (y ∷ [])) (get_or_from_slice_get bits k x x at) in
     more ∙ ap (λ l. l ++ (bit_symbol x ∷ [])) before ∙ append_assoc base (map bit_symbol (take k bits)) (bit_symbol x ∷ []) ∙ ap (λ l. base ++ l) (sym (ap (map bit_symbol) step ∙ map-append bit_symbol (take k bits) (x ∷ [])))
 
--- all bits are written after a space
-pub bits_whole : (old b : List ℕ) (bits : List Bit) (n : ℕ) → length bits ≡ n → b ≡ (old ++ (32 ∷ [])) ++ map bit_symbol (take n bits) → Adds old b (map bit_symbol bits ∷ [])
-bits_whole old b bits n len written =
-    written ∙ ap (λ l. (old ++ (32 ∷ [])) ++ map bit_symbol l) (take_all n bits (subst (λ m. length bits ≤ m) len (le_refl (length bits)))) ∙ append_assoc old (32 ∷ []) (map bit_symbol bits) ∙ ap (λ l. old ++ l) (sym (append-nil (32 ∷ map bit_symbol bits)))
+-- all bits are written after this front
+pub bits_after : (front old b : List ℕ) (bits : List Bit) (n : ℕ) → length bits ≤ n → b ≡ (old ++ (32 ∷ front)) ++ map bit_symbol (take n bits) → Adds old b ((front ++ map bit_symbol bits) ∷ [])
+bits_after front old b bits n long written =
+    written ∙ ap (λ l. (old ++ (32 ∷ front)) ++ map bit_symbol l) (take_all n bits long) ∙ append_assoc old (32 ∷ front) (map bit_symbol bits) ∙ ap (λ l. old ++ l) (sym (append-nil (32 ∷ (front ++ map bit_symbol bits))))
 
 -- a word, what follows an ACK, 'else' and what follows a NACK
 pub adds_node : {X E : Type 0} (r : Result X E) (t0 t1 t2 t3 t4 : List ℕ) (word else_word : List ℕ) (acked refused : List (List ℕ))

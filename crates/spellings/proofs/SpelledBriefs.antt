@@ -17,6 +17,8 @@ use Rattle.lexer.specs.Lexemes.{text_end}
 use Rattle.plan_text.specs.Values.{address_by}
 use Rattle.spellings.proofs.CanonicalItems.{All-here, message_named, controller_named, sent_named, interrupt_named, both_named}
 use Rattle.lexer.specs.Lexemes.{lexemes_of}
+use Rattle.lexer.specs.declared.lexemes.Letters.TheVariants.{Brief}
+use Rattle.brief_tokens.specs.Heads.{opened}
 use Rattle.brief_tokens.specs.declared.symbols.Keyword.{Keyword}
 use Rattle.brief_tokens.specs.declared.symbols.Keyword.TheVariants as keywords
 use Rattle.brief_tokens.specs.declared.symbols.Sign.TheVariants as signs
@@ -94,11 +96,11 @@ no_halves name is =
     ap (λ n. halves_at n name) (all_before name (name_bytes_all name is))
     ∙ ap (λ (t : Bool). if t then Some (take (length name) name, drop (length name + 1) name) else None) (le-ltb (length name) (length name) (omega arith))
 
-side_read : (name : List ℕ) → IsName name → side_by name ≡ Some (whole name)
+side_read : (name : List ℕ) → IsName name → side_by Brief name ≡ Some (whole name)
 unfolding side_by
 side_read name is = rw (no_halves name is, is) refl
 
-said_side : (name : List ℕ) → IsName name → is_brief_word name ≡ false → Said (name ∷ []) (SpellsAs side_by (whole name))
+said_side : (name : List ℕ) → IsName name → is_brief_word name ≡ false → Said (name ∷ []) (SpellsAs (side_by Brief) (whole name))
 said_side name is free = record { says = λ line rest apart. (name, ((said_name name is free).says line rest apart).0, side_read name is) }
 
 -- ---- items one by one
@@ -106,38 +108,38 @@ said_side name is free = record { says = λ line rest apart. (name, ((said_name 
 abbrev IsFree : List ℕ → Type 0
 IsFree name = is_brief_word name ≡ false
 
-message_said : (name : List ℕ) (f : FrameTree) → IsName name → IsFree name → (line : ℕ) (rest : List ℕ) → SpellsItem (message_brief (name, f)) (tokens_of line (message_line (name, f) ++ rest)) (tokens_of (line + 1) rest)
+message_said : (name : List ℕ) (f : FrameTree) → IsName name → IsFree name → (line : ℕ) (rest : List ℕ) → SpellsItem Brief (message_brief (name, f)) (tokens_of line (message_line (name, f) ++ rest)) (tokens_of (line + 1) rest)
 unfolding token_of_word
 message_said name f is free line rest = item_said (codes "message") keywords.Message refl refl (ended_then (said_name name is free) (ended_last (said_frame f))) line rest
 
 controller_said : (plan : Contents) (c : List ℕ × List ℕ) → IsName c.0 → IsFree c.0 → All IsName (map (name_at plan.messages) c.1) → All IsFree (map (name_at plan.messages) c.1)
-    → (line : ℕ) (rest : List ℕ) → SpellsItem (controller_brief plan c) (tokens_of line (controller_line plan c ++ rest)) (tokens_of (line + 1) rest)
+    → (line : ℕ) (rest : List ℕ) → SpellsItem Brief (controller_brief plan c) (tokens_of line (controller_line plan c ++ rest)) (tokens_of (line + 1) rest)
 unfolding token_of_word
 controller_said plan c is free are all_free line rest = item_said (codes "controller") keywords.Controller refl refl (ended_then (said_name c.0 is free) (ended_last (said_names (map (name_at plan.messages) c.1) are all_free))) line rest
 
-interrupt_said : (i : List ℕ × ℕ) → IsName i.0 → IsFree i.0 → (line : ℕ) (rest : List ℕ) → SpellsItem (interrupt_brief i) (tokens_of line (interrupt_line i ++ rest)) (tokens_of (line + 1) rest)
+interrupt_said : (i : List ℕ × ℕ) → IsName i.0 → IsFree i.0 → (line : ℕ) (rest : List ℕ) → SpellsItem Brief (interrupt_brief i) (tokens_of line (interrupt_line i ++ rest)) (tokens_of (line + 1) rest)
 unfolding token_of_word
 interrupt_said i is free line rest = item_said (codes "interrupt") keywords.Interrupt refl refl (ended_then (said_name i.0 is free) (ended_last (said_word (target_said (address_by 127 i.1))))) line rest
 
 never_said : (plan : Contents) (n : ℕ × ℕ) → IsName (name_at plan.controllers n.0) × IsName (name_at plan.controllers n.1) → IsFree (name_at plan.controllers n.0) → IsFree (name_at plan.controllers n.1)
-    → (line : ℕ) (rest : List ℕ) → SpellsItem (never_brief plan n) (tokens_of line (never_line plan n ++ rest)) (tokens_of (line + 1) rest)
+    → (line : ℕ) (rest : List ℕ) → SpellsItem Brief (never_brief plan n) (tokens_of line (never_line plan n ++ rest)) (tokens_of (line + 1) rest)
 unfolding token_of_word
 never_said plan n are one_free other_free line rest = item_said (codes "never") keywords.Never refl refl (ended_then (said_side _ are.0 one_free) (ended_last (said_side _ are.1 other_free))) line rest
 
 -- ---- items up to the end of a text
 
 abbrev UpToEnd : List BriefItem → List ℕ → Type 0
-UpToEnd items bytes = (line : ℕ) → (last_line : ℕ) × SpellsItems items (tokens_of line bytes) (tokens.last text_end last_line)
+UpToEnd items bytes = (line : ℕ) → (last_line : ℕ) × SpellsItems Brief items (tokens_of line bytes) (tokens.last text_end last_line)
 
 module _ {X : Type 0} (item : X → BriefItem) (line_of : X → List ℕ) (all : List X)
-    (said : (before : List X) (x : X) (after : List X) → before ++ (x ∷ after) ≡ all → (line : ℕ) (rest : List ℕ) → SpellsItem (item x) (tokens_of line (line_of x ++ rest)) (tokens_of (line + 1) rest)) where
+    (said : (before : List X) (x : X) (after : List X) → before ++ (x ∷ after) ≡ all → (line : ℕ) (rest : List ℕ) → SpellsItem Brief (item x) (tokens_of line (line_of x ++ rest)) (tokens_of (line + 1) rest)) where
   spelled_from : (before xs : List X) → before ++ xs ≡ all → (others : List BriefItem) (rest : List ℕ) → UpToEnd others rest → UpToEnd (map item xs ++ others) (flat_map line_of xs ++ rest)
   spelled_from before [] e others rest end line = end line
   spelled_from before (x ∷ xs) e others rest end line =
       let after : List ℕ = flat_map line_of xs ++ rest in
       let more = spelled_from (before ++ (x ∷ [])) xs (append_assoc before (x ∷ []) xs ∙ e) others rest end (line + 1) in
       let front = ap (tokens_of line) (append_assoc (line_of x) (flat_map line_of xs) rest) in
-      (more.0, (tokens_of (line + 1) after, subst (λ from. SpellsItem (item x) from (tokens_of (line + 1) after)) (sym front) (said before x xs e line after), more.1))
+      (more.0, (tokens_of (line + 1) after, subst (λ from. SpellsItem Brief (item x) from (tokens_of (line + 1) after)) (sym front) (said before x xs e line after), more.1))
 
 -- ---- the whole text
 
@@ -184,11 +186,11 @@ module _ (plan : Contents) (limits : IsWithinLimits plan) (free : has_brief_word
       (spelled_from interrupt_brief interrupt_line t (λ before x after e. interrupt_said x (interrupt_named plan limits before x after e) (All-here before x after t e (λ y. IsFree y.0) (free_entries t free_two.1))) [] t refl _ _ nevers))
 
   spelled : Spells (brief_spelled plan) (brief_items plan)
-  unfolding brief_spelled tokens_of token_of_word lexemes_of
+  unfolding brief_spelled opened tokens_of token_of_word lexemes_of
   spelled =
       let lines : List ℕ = flat_map message_line plan.messages ++ (flat_map (controller_line plan) plan.controllers ++ (flat_map interrupt_line plan.interrupts ++ flat_map (never_line plan) plan.nevers)) in
       let items = items_said 2 in
-      record { line = items.0; whole = (tokens_of 1 (codes " 1\n" ++ lines), (1, refl), (tokens_of 2 lines, (1, refl), items.1)) }
+      record { letters = Brief; rest = tokens_of 2 lines; line = items.0; head = refl; whole = items.1 }
 
 pub written_means : (plan : Contents) → IsWithinLimits plan → has_brief_word plan ≡ false → Means (brief_spelled plan) plan
 written_means plan limits free =

@@ -1,10 +1,10 @@
 -- What the writer of briefs adds, bit by bit.
-use Rattle.std.proofs.Common.{◌≡◌, ◌≢◌, ℕ, ◌+◌, ◌<◌, ◌≤◌, ◌^◌, Bool, true, false, ◌&&◌, List, [], ◌∷◌, ◌++◌, length, get_or, map, take, drop, Option, Some, slice_get, inl, inr, refl, ap, sym, ◌∙◌, subst, arith, append_assoc, append-nil}
+use Rattle.std.proofs.Common.{◌≡◌, ◌≢◌, ℕ, ◌+◌, ◌<◌, ◌≤◌, ◌^◌, Bool, true, false, ◌&&◌, List, [], ◌∷◌, ◌++◌, length, get_or, map, take, drop, Option, Some, inl, inr, refl, ap, sym, ◌∙◌, subst, arith, append_assoc}
 use Rattle.std.specs.List.{list_all}
 use Rattle.std.specs.Prelude.{◌⊎◌, ◌==◌, None, Result, Ok, Err, OnOk, codes, if◌then◌else◌}
 use Rattle.std.proofs.lemmas.Bool.Decides.{nat_tests}
 use Rattle.std.proofs.Math.Pow.{pow_mono}
-use Rattle.std.proofs.lemmas.List.{drop_more, take_all}
+use Rattle.std.proofs.lemmas.List.{drop_more}
 use Rattle.message_tree.specs.declared.bits.Bit.{Bit}
 use Rattle.message_tree.specs.declared.bits.Pattern.{Pattern}
 use Rattle.message_tree.specs.declared.bits.Address.{Address}
@@ -16,17 +16,6 @@ use Rattle.spellings.specs.Canonical.{Adds, spaced, item_line}
 use Rattle.plan_text.specs.Values.{address_by}
 use Rattle.spellings.proofs.Adding.{adds_then, then_adds}
 use Rattle.spellings.specs.Spelling.{digit_symbol, data_of, data_word, target_of, target_word}
-
--- eight bits, each of which is known
-pub eight : (bits : List Bit) (a b c d e f g h : Bit) → length bits ≡ 8 → slice_get bits 0 ≡ Some a → slice_get bits 1 ≡ Some b → slice_get bits 2 ≡ Some c → slice_get bits 3 ≡ Some d → slice_get bits 4 ≡ Some e → slice_get bits 5 ≡ Some f → slice_get bits 6 ≡ Some g → slice_get bits 7 ≡ Some h
-    → a ∷ b ∷ c ∷ d ∷ e ∷ f ∷ g ∷ h ∷ [] ≡ bits
-eight (p ∷ q ∷ r ∷ s ∷ t ∷ u ∷ v ∷ w ∷ []) a b c d e f g h long at_a at_b at_c at_d at_e at_f at_g at_h = cc
-eight bits a b c d e f g h long at_a at_b at_c at_d at_e at_f at_g at_h = absurd (omega arith)
-
-pub seven : (bits : List Bit) (a b c d e f g : Bit) → length bits ≡ 7 → slice_get bits 0 ≡ Some a → slice_get bits 1 ≡ Some b → slice_get bits 2 ≡ Some c → slice_get bits 3 ≡ Some d → slice_get bits 4 ≡ Some e → slice_get bits 5 ≡ Some f → slice_get bits 6 ≡ Some g
-    → a ∷ b ∷ c ∷ d ∷ e ∷ f ∷ g ∷ [] ≡ bits
-seven (p ∷ q ∷ r ∷ s ∷ t ∷ u ∷ v ∷ []) a b c d e f g long at_a at_b at_c at_d at_e at_f at_g = cc
-seven bits a b c d e f g long at_a at_b at_c at_d at_e at_f at_g = absurd (omega arith)
 
 module _ {X : Type 0} (xs : List X) (k : ℕ) (d x : X) (within : k < length xs) (is : get_or xs k d ≡ x) where
   pub rest_is : drop k xs ≡ x ∷ drop (k + 1) xs
@@ -42,11 +31,6 @@ module _ {X : Type 0} (xs : List X) (k : ℕ) (d x : X) (within : k < length xs)
 -- at most four digits in base 2
 pub four_digits : (n k : ℕ) → n < 2 ^ k → k ≤ 4 → n < 16
 four_digits n k small few = omega (arith, small, pow_mono few)
-
--- all bits are written after this front
-pub bits_after : (front old b : List ℕ) (bits : List Bit) (n : ℕ) → length bits ≤ n → b ≡ (old ++ (32 ∷ front)) ++ map bit_symbol (take n bits) → Adds old b ((front ++ map bit_symbol bits) ∷ [])
-bits_after front old b bits n long written =
-    written ∙ ap (λ l. (old ++ (32 ∷ front)) ++ map bit_symbol l) (take_all n bits long) ∙ append_assoc old (32 ∷ front) (map bit_symbol bits) ∙ ap (λ l. old ++ l) (sym (append-nil (32 ∷ (front ++ map bit_symbol bits))))
 
 -- ---- words one after the other
 

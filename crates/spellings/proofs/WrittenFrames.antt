@@ -9,9 +9,10 @@ use Rattle.message_tree.specs.Trees as trees
 use Rattle.message_tree.specs.declared.bits.Pattern.{Pattern}
 use Rattle.plan_text.specs.Symbols.{bit_symbol, pattern_word}
 use Rattle.plan_text.proofs.ValueLemmas.{pattern_found}
-use Rattle.brief_text.specs.Drafts.{Draft, frame_meant, bytes_meant, tail_meant, repeated}
+use Rattle.brief_text.specs.Codes.{unknown, after_bits}
+use Rattle.brief_text.specs.Drafts.{Draft, frame_on, bytes_on, tail_on, repeated, repeated_on, after_header}
 use Rattle.brief_text.specs.Fitting.{KnowsFrame, KnowsBytes, KnowsTail, frame_ranges, bytes_ranges, tail_ranges}
-use Rattle.brief_text.specs.Trees.{spelled, times, BriefBytes, data_byte, no_more, go_on}
+use Rattle.brief_text.specs.Trees.{spelled, times, BriefBytes, data_byte, no_more, stop_here, go_on}
 use Rattle.spellings.specs.Writing.{Run, same_pattern, goes_on, ended_by, with_byte, after_run, frame_brief, bytes_brief, tail_brief}
 
 some_is : {A : Type 0} (x y : A) → Some x ≡ Some y → x ≡ y
@@ -42,40 +43,53 @@ abbrev in_run : Option Run → PayloadTree → PayloadTree
 in_run None p = p
 in_run (Some run) p = repeated run.1 run.0 p stop
 
-module _ (draft : Draft) (n : ℕ) where
-  run_meant : (run : Option Run) (b : BriefBytes) → bytes_meant draft n (after_run run b) ≡ in_run run (bytes_meant draft n b)
-  run_meant None b = refl
-  run_meant (Some run) b = refl
+-- so many copies, where nothing depends on the path up to them
+copies : (k : ℕ) (bits : Pattern) (acked : _ → PayloadTree) (refused : _ → TailTree) (a : PayloadTree) (r : TailTree) → ((path : _) → acked path ≡ a) → ((path : _) → refused path ≡ r)
+    → (path : _) → repeated_on k bits acked refused path ≡ repeated k bits a r
+copies zero bits acked refused a r first others path = first path
+copies (suc k) bits acked refused a r first others path =
+    let next = after_bits path bits in
+    λ i. trees.byte bits (copies k bits acked refused a r first others next i) (others next i)
 
-  -- a byte that goes on with the run, or ends it
-  run_goes : (run : Option Run) (bits : Pattern) (acked : PayloadTree) → in_run (ended_by run bits) (in_run (Some (with_byte run bits)) acked) ≡ in_run run (trees.byte bits acked stop)
-  run_goes None bits acked = refl
-  run_goes (Some run) bits acked = by_test (goes_on run bits) refl
-    where
-      by_test : (t : Bool) → goes_on run bits ≡ t → in_run (if t then None else Some run) (repeated (if t then run.1 + 1 else 1) bits acked stop) ≡ repeated run.1 run.0 (trees.byte bits acked stop) stop
-      by_test true is =
-          let same = pattern_is run.0 bits (and_parts (same_pattern run.0 bits) (nat_lt run.1 255) is).0 in
-          one_more run.1 bits acked stop ∙ ap (λ b. repeated run.1 b (trees.byte bits acked stop) stop) (sym same)
-      by_test false is = refl
+-- a byte that goes on with the run, or ends it
+run_goes : (run : Option Run) (bits : Pattern) (acked : PayloadTree) → in_run (ended_by run bits) (in_run (Some (with_byte run bits)) acked) ≡ in_run run (trees.byte bits acked stop)
+run_goes None bits acked = refl
+run_goes (Some run) bits acked = by_test (goes_on run bits) refl
+  where
+    by_test : (t : Bool) → goes_on run bits ≡ t → in_run (if t then None else Some run) (repeated (if t then run.1 + 1 else 1) bits acked stop) ≡ repeated run.1 run.0 (trees.byte bits acked stop) stop
+    by_test true is =
+        let same = pattern_is run.0 bits (and_parts (same_pattern run.0 bits) (nat_lt run.1 255) is).0 in
+        one_more run.1 bits acked stop ∙ ap (λ b. repeated run.1 b (trees.byte bits acked stop) stop) (sym same)
+    by_test false is = refl
+
+-- no byte follows from others: it is the same on every path
+module _ (draft : Draft) (n : ℕ) where
+  run_meant : (run : Option Run) (b : BriefBytes) (p : PayloadTree) → ((path : _) → bytes_on draft n b path ≡ p) → (path : _) → bytes_on draft n (after_run run b) path ≡ in_run run p
+  run_meant None b p same path = same path
+  run_meant (Some run) b p same path = copies run.1 run.0 (bytes_on draft n b) (tail_on draft n stop_here) p stop same (λ q. refl) path
 
   mutual
-    pub frame_said : (f : FrameTree) → frame_meant draft n (frame_brief f) ≡ f
-    frame_said (write address acked refused) = λ i. write address (bytes_said acked None i) (tail_said refused i)
-    frame_said (read address count after refused) = λ i. read address count (tail_said after i) (tail_said refused i)
+    pub frame_said : (f : FrameTree) (path : _) → frame_on draft n (frame_brief f) path ≡ f
+    frame_said (write address acked refused) path =
+        let next = after_header draft false (spelled address) path in
+        λ i. write address (bytes_said acked None next i) (tail_said refused next i)
+    frame_said (read address count after refused) path =
+        let next = after_header draft true (spelled address) path in
+        λ i. read address count (tail_said after unknown i) (tail_said refused next i)
 
-    bytes_said : (p : PayloadTree) (run : Option Run) → bytes_meant draft n (bytes_brief p run) ≡ in_run run p
-    bytes_said (trees.byte bits acked stop) run =
-        run_meant (ended_by run bits) (bytes_brief acked (Some (with_byte run bits)))
-        ∙ ap (in_run (ended_by run bits)) (bytes_said acked (Some (with_byte run bits)))
+    bytes_said : (p : PayloadTree) (run : Option Run) (path : _) → bytes_on draft n (bytes_brief p run) path ≡ in_run run p
+    bytes_said (trees.byte bits acked stop) run path =
+        let longer : Option Run = Some (with_byte run bits) in
+        run_meant (ended_by run bits) (bytes_brief acked longer) (in_run longer acked) (λ q. bytes_said acked longer q) path
         ∙ run_goes run bits acked
-    bytes_said (trees.byte bits acked (again frame)) run =
-        run_meant run (data_byte (spelled bits) (times 1) (go_on (frame_brief frame)) (bytes_brief acked None))
-        ∙ (λ i. in_run run (trees.byte bits (bytes_said acked None i) (again (frame_said frame i))))
-    bytes_said (last tail) run = run_meant run (no_more (tail_brief tail)) ∙ (λ i. in_run run (last (tail_said tail i)))
+    bytes_said (trees.byte bits acked (again frame)) run path =
+        run_meant run (data_byte (spelled bits) (times 1) (go_on (frame_brief frame)) (bytes_brief acked None)) (trees.byte bits acked (again frame))
+        (λ q i. trees.byte bits (bytes_said acked None (after_bits q bits) i) (again (frame_said frame (after_bits q bits) i))) path
+    bytes_said (last tail) run path = run_meant run (no_more (tail_brief tail)) (last tail) (λ q i. last (tail_said tail q i)) path
 
-    tail_said : (t : TailTree) → tail_meant draft n (tail_brief t) ≡ t
-    tail_said stop = refl
-    tail_said (again frame) = λ i. again (frame_said frame i)
+    tail_said : (t : TailTree) (path : _) → tail_on draft n (tail_brief t) path ≡ t
+    tail_said stop path = refl
+    tail_said (again frame) path = λ i. again (frame_said frame path i)
 
 -- every value is spelled out
 module _ (draft : Draft) where

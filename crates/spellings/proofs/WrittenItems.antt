@@ -23,6 +23,7 @@ use Rattle.plan_core.specs.declared.limits.TheConstants.{MOST_CONTROLLERS, MOST_
 use Rattle.plan_core.proofs.BuildingLemmas.{position-None, message_parts, controller_allowed, name_allowed}
 use Rattle.plan_text.specs.Values.{address_by}
 use Rattle.spellings.proofs.CanonicalItems.{up_to_messages, up_to_controllers, message_fits, controller_fits, interrupt_fits}
+use Rattle.brief_text.specs.Codes.{at_start}
 use Rattle.brief_text.specs.Drafts.{Draft, with_item}
 use Rattle.brief_text.specs.Fitting.{Fits, ListFits, MakeUp}
 use Rattle.brief_text.specs.Judging.{message_refusal_of, is_taken, controller_refusal_of, all_of, sendings, listing_refusal}
@@ -31,6 +32,7 @@ use Rattle.brief_text.specs.Trees.{Side, BriefItem}
 use Rattle.brief_text.specs.Words.{known_number}
 use Rattle.spellings.specs.Writing.{frame_brief, message_brief, controller_brief, interrupt_brief}
 use Rattle.brief_text.proofs.GrowLemmas.{each_within}
+use Rattle.brief_text.proofs.PathLemmas.{outline_of}
 use Rattle.spellings.proofs.WrittenFrames.{frame_said, frame_known, frame_free}
 
 -- ---- items of one kind, each of which fits what those before it make up
@@ -125,12 +127,12 @@ module _ (plan : Contents) where
             knows = frame_known d x.1;
             ranges = frame_free x.1;
             members = tt;
-            each = each_within d x.0 None (frame_brief x.1) (ap size_refusal (frame_said d 1 x.1) ∙ fit.1);
+            each = each_within d x.0 None (frame_brief x.1) (outline_of d 1 (frame_brief x.1) (ap size_refusal (frame_said d 1 x.1 at_start) ∙ fit.1));
           }
 
       pub message_adds_here : with_item (staged before [] [] []) (message_brief x) ≡ staged (before ++ (x ∷ [])) [] [] []
       unfolding with_item with_message
-      message_adds_here = λ i. staged (before ++ ((x.0, frame_said (staged before [] [] []) 1 x.1 i) ∷ [])) [] [] []
+      message_adds_here = λ i. staged (before ++ ((x.0, frame_said (staged before [] [] []) 1 x.1 at_start i) ∷ [])) [] [] []
 
     -- ---- controllers
 

@@ -122,12 +122,7 @@ fn is_taken(plan: &Plan, earlier: &[Family], name: &Name) -> bool {
             return true;
         }
     }
-    for family in earlier {
-        if family.name == *name {
-            return true;
-        }
-    }
-    false
+    earlier.iter().any(|family| family.name == *name)
 }
 
 // The longest family of this name from this message on, which has so many bytes.
@@ -248,26 +243,16 @@ fn growth_of(shorter: &[Piece], longer: &[Piece]) -> Option<Growth> {
 
 // How many pieces at the front are the same.
 fn alike(one: &[Piece], other: &[Piece]) -> usize {
-    let mut count = 0usize;
-    for piece in one {
-        if other.get(count) != Some(piece) {
-            break;
-        }
-        count = count.saturating_add(1);
-    }
-    count
+    one.iter().zip(other).take_while(|(a, b)| *a == *b).count()
 }
 
 // How many pieces at the end are this one.
 fn equal_at_the_end(pieces: &[Piece], piece: Piece) -> usize {
-    let mut count = 0usize;
-    for other in pieces.iter().rev() {
-        if *other != piece {
-            break;
-        }
-        count = count.saturating_add(1);
-    }
-    count
+    pieces
+        .iter()
+        .rev()
+        .take_while(|other| **other == piece)
+        .count()
 }
 
 // ---- pieces
@@ -367,12 +352,7 @@ fn messages(text: &mut String, plan: &Plan, families: &[Family]) -> Result<(), A
 
 // The family that begins with this message.
 fn family_from(families: &[Family], k: u32) -> Option<&Family> {
-    for family in families {
-        if family.first == k {
-            return Some(family);
-        }
-    }
-    None
+    families.iter().find(|family| family.first == k)
 }
 
 fn push_family(text: &mut String, family: &Family) -> Result<(), AllocError> {
@@ -470,12 +450,7 @@ fn listed(
 
 // The family with all of whose messages these numbers begin.
 fn family_listed<'a>(families: &'a [Family], numbers: &[u32]) -> Option<&'a Family> {
-    for family in families {
-        if has_all_of(numbers, family) {
-            return Some(family);
-        }
-    }
-    None
+    families.iter().find(|family| has_all_of(numbers, family))
 }
 
 fn has_all_of(numbers: &[u32], family: &Family) -> bool {

@@ -94,7 +94,19 @@ pub(crate) fn count(text: &mut String, it: &Count) -> Result<(), AllocError>
     }
 }
 
-pub(crate) fn symbol(bit: Bit) -> char
+// These bits, as a word that begins so.
+pub(crate) fn in_bits(text: &mut String, front: &str, bits: &[Bit]) -> Result<(), AllocError>
+    ensures { OnOk result (Adds (string_bytes text.old) (string_bytes text.new)
+        ((front.now ++ map bit_symbol bits.now) ∷ [])) }
+{
+    word(text, front)?;
+    for bit in bits {
+        text.push(symbol(*bit))?;
+    }
+    Ok(())
+}
+
+fn symbol(bit: Bit) -> char
     ensures { result ≡ bit_symbol bit }
 {
     match bit {

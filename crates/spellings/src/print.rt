@@ -11,7 +11,7 @@ ghost use Rattle.spellings.specs.Canonical.{message_line, interrupt_line};
 ghost use Rattle.spellings.specs.Canonical.{version_line, plan_text};
 ghost use Rattle.plan_text.specs.Grammar.{Spells};
 
-use crate::items::{controllers, count, end, nevers, symbol, word};
+use crate::items::{controllers, count, end, in_bits, nevers, word};
 use message_tree::{Address, Frame, Pattern, Payload, Tail};
 use plan_core::Plan;
 use std::alloc::{AllocError, Global};
@@ -205,19 +205,11 @@ fn tail_has_range(it: &Tail) -> bool
 fn address(text: &mut String, it: &Address) -> Result<(), AllocError>
     ensures { OnOk result (Adds (string_bytes text.old) (string_bytes text.new) (address_word it.now ∷ [])) }
 {
-    text.push(' ')?;
-    for k in 0..7 {
-        text.push(symbol(it.bit(k)))?;
-    }
-    Ok(())
+    in_bits(text, "", &it.bits())
 }
 
 fn pattern(text: &mut String, it: &Pattern) -> Result<(), AllocError>
     ensures { OnOk result (Adds (string_bytes text.old) (string_bytes text.new) (pattern_word it.now ∷ [])) }
 {
-    text.push(' ')?;
-    for k in 0..8 {
-        text.push(symbol(it.bit(k)))?;
-    }
-    Ok(())
+    in_bits(text, "", &it.bits())
 }

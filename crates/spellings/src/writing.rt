@@ -1,15 +1,13 @@
 // A brief of a plan.
 
-ghost use Rattle.std.specs.Prelude.{◌≡◌, ◌<◌, ◌≤◌, ◌⊎◌, [], ◌∷◌, ◌++◌, IfOk, IfErr, IfSome, OnOk, length, map};
+ghost use Rattle.std.specs.Prelude.{◌≡◌, ◌<◌, ◌≤◌, ◌⊎◌, [], ◌∷◌, ◌++◌, IfOk, IfErr, IfSome, OnOk, length};
 ghost use Rattle.std.specs.Prelude.{codes, string_bytes, true, false, is_some};
 ghost use Rattle.std.specs.List.{find, flat_map, list_all};
 ghost use Rattle.std.specs.Map.{keys_of};
 ghost use Rattle.std.specs.Option.{option_map};
-ghost use Rattle.message_tree.specs.Patterns.{address_bits, pattern_bits};
 ghost use Rattle.message_tree.specs.Trees.{frame_tree, payload_tree, tail_tree};
 ghost use Rattle.plan_core.specs.NameBytes.{name_bytes};
 ghost use Rattle.plan_core.specs.PlanContents.{plan_contents};
-ghost use Rattle.plan_text.specs.Symbols.{bit_symbol};
 ghost use Rattle.spellings.specs.Canonical.{Adds};
 ghost use Rattle.brief_text.specs.Briefs.{Means};
 ghost use Rattle.brief_tokens.specs.Names.{is_brief_word, has_brief_word, first_brief_word, LacksBrief};
@@ -21,7 +19,7 @@ ghost use Rattle.brief_text.specs.Words.{known_number};
 ghost use Rattle.spellings.specs.Writing.{ended_by, with_byte};
 
 use crate::families::gathered;
-use crate::items::{controllers, count, end, nevers, symbol, word};
+use crate::items::{controllers, count, end, in_bits, nevers, word};
 use crate::print::print_plan;
 use brief_text::expand_brief;
 use brief_tokens::is_brief_word;
@@ -314,9 +312,9 @@ fn repeated(text: &mut String, run: Run) -> Result<(), AllocError>
 pub(crate) fn pattern(text: &mut String, it: &Pattern) -> Result<(), AllocError>
     ensures { OnOk result (Adds (string_bytes text.old) (string_bytes text.new) (data_word it.now ∷ [])) }
 {
-    let bits = bits_of_pattern(it);
+    let bits = it.bits();
     let (Some(high), Some(low)) = (digit(&bits[..4]), digit(&bits[4..])) else {
-        return in_bits(text, &bits);
+        return in_bits(text, "0b", &bits);
     };
     if high != 'X' {
         return in_hex(text, high, low);
@@ -330,40 +328,11 @@ pub(crate) fn pattern(text: &mut String, it: &Pattern) -> Result<(), AllocError>
 pub(crate) fn address(text: &mut String, it: &Address) -> Result<(), AllocError>
     ensures { OnOk result (Adds (string_bytes text.old) (string_bytes text.new) (target_word it.now ∷ [])) }
 {
-    let bits = bits_of_address(it);
+    let bits = it.bits();
     let (Some(high), Some(low)) = (digit(&bits[..3]), digit(&bits[3..])) else {
-        return in_bits(text, &bits);
+        return in_bits(text, "0b", &bits);
     };
     in_hex(text, high, low)
-}
-
-fn bits_of_pattern(it: &Pattern) -> [Bit; 8]
-    ensures { result ≡ pattern_bits it.now }
-{
-    [
-        it.bit(0),
-        it.bit(1),
-        it.bit(2),
-        it.bit(3),
-        it.bit(4),
-        it.bit(5),
-        it.bit(6),
-        it.bit(7),
-    ]
-}
-
-fn bits_of_address(it: &Address) -> [Bit; 7]
-    ensures { result ≡ address_bits it.now }
-{
-    [
-        it.bit(0),
-        it.bit(1),
-        it.bit(2),
-        it.bit(3),
-        it.bit(4),
-        it.bit(5),
-        it.bit(6),
-    ]
 }
 
 fn in_hex(text: &mut String, high: char, low: char) -> Result<(), AllocError>
@@ -374,17 +343,6 @@ fn in_hex(text: &mut String, high: char, low: char) -> Result<(), AllocError>
     text.push_str(" 0x")?;
     text.push(high)?;
     text.push(low)
-}
-
-fn in_bits(text: &mut String, bits: &[Bit]) -> Result<(), AllocError>
-    ensures { OnOk result (Adds (string_bytes text.old) (string_bytes text.new)
-        ((codes "0b" ++ map bit_symbol bits.now) ∷ [])) }
-{
-    text.push_str(" 0b")?;
-    for bit in bits {
-        text.push(symbol(*bit))?;
-    }
-    Ok(())
 }
 
 // The digit of these bits, where all of them are known or all are open.

@@ -88,6 +88,39 @@ fn refused_briefs_have_all_their_names(rt: HostRuntime) {
     assert!(rt; headless.head(0).is_none() && headless.names().len() == 6);
 }
 
+// Whether something in this text gives a name to this message.
+fn defines(alloc: Global, spans: &Spans, text: &[u8], message: &[u8]) -> Result<bool, AllocError> {
+    let mut texts = NamedTexts::new(alloc, spans)?;
+    texts.add(text)?;
+    Ok(texts.definition(Kind::Message, message).is_some())
+}
+
+// What is no name, as what begins with a digit, hands nothing on to what stands beside it.
+#[test]
+fn what_is_no_name_gives_none(rt: HostRuntime) {
+    let alloc = rt.alloc();
+    let text =
+        b"message 1st write 0x50 any*1..3 ; message set write fan ; controller k set ; never 2nd/set k ; never k/3rd k ;";
+    let mut spans = Spans::new(alloc);
+    record(text, &mut spans);
+    assert!(rt;
+        names_in(alloc, &spans, text).as_deref() == Ok("m=set d:fan c=k m:set c:k c:k c:k ")
+    );
+    assert!(rt; defines(alloc, &spans, text, b"set") == Ok(true));
+    assert!(rt; defines(alloc, &spans, text, b"set_2") == Ok(false));
+}
+
+#[test]
+fn texts_have_items_or_none(rt: HostRuntime) {
+    let mut spans = Spans::new(rt.alloc());
+    record(b"", &mut spans);
+    record(b"device fan 0x50 ; device hub 0x51 ;", &mut spans);
+    record(b"brief", &mut spans);
+    record(b"byte go 0x01 ;", &mut spans);
+    assert!(rt; !spans.has_items(0) && spans.has_items(1));
+    assert!(rt; !spans.has_items(2) && spans.has_items(3) && !spans.has_items(4));
+}
+
 #[test]
 fn plans_have_their_names(rt: HostRuntime) {
     let alloc = rt.alloc();

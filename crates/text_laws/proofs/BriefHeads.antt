@@ -10,87 +10,34 @@ use Rattle.brief_text.specs.Splitting.{plan_meant}
 use Rattle.brief_text.specs.Trees.{BriefItem}
 use Rattle.brief_text.proofs.SaysLemmas.{text_takes, start}
 use Rattle.brief_tokens.specs.declared.symbols.Keyword.{Keyword}
-use Rattle.brief_tokens.specs.Heads.{after_head, after_version}
-use Rattle.brief_tokens.specs.Tokens.{Tokens, next, keyword, word, keyword_of, token_of_word, tokens_from, tokens_of}
-use Rattle.layout.specs.Refusals.{brief_letters, brief_head, head_or, letters_in, stranger, refusal_by, refusal_of, no_version}
+use Rattle.brief_tokens.specs.Heads.{after_head, after_version, opened_by, opened}
+use Rattle.brief_tokens.specs.Tokens.{Tokens, next, keyword, keyword_of, token_of_word, tokens_from, tokens_of}
+use Rattle.layout.specs.Refusals.{brief_letters, brief_head, is_board, or_board, head_or, letters_in, refusal_by, refusal_of, no_version}
 use Rattle.lexer.specs.declared.lexemes.Letters.{Letters}
 use Rattle.lexer.specs.declared.lexemes.Letters.TheVariants.{Brief}
-use Rattle.lexer.specs.Lexemes.{Lexemes, text_end, stray, foreign, no_dots, briefs, lexemes_of}
+use Rattle.lexer.specs.Lexemes.{Lexemes, text_end, stray, foreign, no_dots, briefs, boards, lexemes_of}
 use Rattle.plan_text.specs.declared.errors.PlanError.{PlanError}
 use Rattle.plan_text.specs.Reader.{◌>>=◌, version_at}
 use Rattle.plan_text.specs.Refusals.{First}
 use Rattle.plan_text.proofs.TextLemmas.{text_refused}
-use Rattle.text_laws.proofs.BriefWords.{end_of, brief_ends}
+use Rattle.text_laws.proofs.BriefWords.{brief_ends}
 use Rattle.text_laws.proofs.FirstWords.{FirstIs, first_same, first_too}
 use Rattle.text_laws.proofs.Heads.{first_refused, no_head as not_plan}
+use Rattle.text_laws.proofs.OpenedBriefs.{no_keyword, some_keyword, brief_word, opened_letters, opened_none, second_none, board_lettered, no_board}
 use Rattle.std.specs.Str.{bytes_eq}
-use Rattle.given_plans.specs.Given.{is_version, IsNeither, no_plan, no_brief, no_head}
+use Rattle.given_plans.specs.Given.{is_version, is_second, begins_second, IsNeither, no_plan, no_brief, no_head}
 use Rattle.brief_tokens.specs.declared.symbols.Keyword.TheVariants as keywords
 use Rattle.lexer.specs.Lexemes as lexemes
 use Rattle.plan_text.specs.Tokens as plan_tokens
 use Rattle.plan_text.specs.declared.errors.PlanError.TheVariants as errors
 
--- ---- tokens end as their lexemes do
-
-ends_alike : (all : Lexemes) → end_of (tokens_from all) ≡ stranger all
-ends_alike (lexemes.next lexeme line rest) = ends_alike rest
-ends_alike (lexemes.last text_end line) = refl
-ends_alike (lexemes.last stray line) = refl
-ends_alike (lexemes.last foreign line) = refl
-
--- ---- words and keywords
-
-pub no_keyword : (bytes : List ℕ) → keyword_of bytes ≡ None → token_of_word bytes ≡ word bytes
-unfolding token_of_word
-no_keyword bytes e = rw e refl
-
-pub some_keyword : (bytes : List ℕ) (k : Keyword) → keyword_of bytes ≡ Some k → token_of_word bytes ≡ keyword k
-unfolding token_of_word
-some_keyword bytes k e = rw e refl
-
--- a word that is told as a word
-word_is : (bytes others : List ℕ) → token_of_word bytes ≡ word others → bytes ≡ others
-word_is bytes others h = grind (arith, common_steps, no_keyword, some_keyword)
-
-pub brief_word : (bytes : List ℕ) → token_of_word bytes ≡ keyword keywords.Brief → bytes ≡ codes "brief"
-unfolding token_of_word
-brief_word bytes h = same-bytes_eq bytes (codes "brief") (grind arith)
-
 -- ---- what is read
 
--- the first two words of a brief
-record BriefFront (all : Lexemes) : Type 0 where
-  line : ℕ
-  at : ℕ
-  more : Lexemes
-  is : all ≡ lexemes.next (lexemes.word (codes "brief")) line (lexemes.next (lexemes.word (codes "1")) at more)
-
-second_is : (all : Lexemes) (line : ℕ) (rest : Tokens) → tokens_from all ≡ next (word (codes "1")) line rest → (at : ℕ) × (more : Lexemes) × (all ≡ lexemes.next (lexemes.word (codes "1")) at more)
-second_is (lexemes.next (lexemes.word b) at more) line rest h =
-    let token : token_of_word b ≡ word (codes "1") = cc in
-    (at, more, ap (λ (n : List ℕ). lexemes.next (lexemes.word n) at more) (word_is b (codes "1") token))
-second_is (lexemes.next (lexemes.sign c) at more) line rest h = absurd cc
-second_is (lexemes.last ending at) line rest h = absurd cc
-
-front_is : (all : Lexemes) (line at : ℕ) (rest : Tokens) → tokens_from all ≡ next (keyword keywords.Brief) line (next (word (codes "1")) at rest) → BriefFront all
-front_is (lexemes.next (lexemes.word b) here more) line at rest h = grind (arith, common_steps, second_is, brief_word)
-front_is (lexemes.next (lexemes.sign c) here more) line at rest h = absurd cc
-front_is (lexemes.last ending here) line at rest h = absurd cc
-
--- by the letters of plans its first word is not `plan`
-plan_side : (all : Lexemes) → FirstIs all → head_or (Some (Ok Brief)) all ≡ Ok Brief
-plan_side all first = ap (head_or (Some (Ok Brief))) first.3
-
 items_laid_out : (text : List ℕ) (items : List BriefItem) → Spells text items → refusal_of text ≡ None
-unfolding letters_in refusal_of tokens_of
+unfolding refusal_of
 items_laid_out text items said =
-    let s = said.whole in
-    let first = s.1.1 ∙ ap (next (keyword keywords.Brief) s.1.0) s.2.1.1 in
-    let front = front_is (lexemes_of briefs 1 text) s.1.0 s.2.1.0 s.2.0 first in
-    let brief = ap brief_head front.is in
-    let plan = first_same text (codes "rief", front.line, lexemes.next (lexemes.word (codes "1")) front.at front.more, front.is) in
-    let letters = ap (λ o. head_or o (lexemes_of no_dots 1 text)) brief ∙ plan_side (lexemes_of no_dots 1 text) plan in
-    ap (λ (r : Result Letters PlanError). refusal_by r text) letters ∙ sym (ends_alike (lexemes_of briefs 1 text)) ∙ brief_ends text items said
+    let letters = opened_letters text said.letters said.rest said.head in
+    ap (λ (r : Result Letters PlanError). refusal_by r text) letters.0 ∙ letters.1 ∙ brief_ends text items said
 
 pub brief_laid_out : (text : List ℕ) (draft after : Draft) → text_read draft text ≡ Ok after → refusal_of text ≡ None
 brief_laid_out text draft after is = let said = text_takes text draft after is in items_laid_out text said.items said.spelled
@@ -105,12 +52,35 @@ second_stranger rest e_ e line = grind (arith, common_steps)
 
 head_stranger : (all : Lexemes) (e : PlanError) → brief_head all ≡ Some (bad e) → after_head (tokens_from all) ≡ Err e
 unfolding token_of_word
-head_stranger all e_ e = grind (arith, common_steps, same-bytes_eq, second_stranger)
+head_stranger (lexemes.next (lexemes.word b) line rest) e h = by (bytes_eq b (codes "brief")) refl h
+  where
+    by : (t : Bool) → bytes_eq b (codes "brief") ≡ t → (if t then brief_letters rest else None) ≡ Some (bad e) → after_head (tokens_from (lexemes.next (lexemes.word b) line rest)) ≡ Err e
+    by true is g = ap (λ (n : List ℕ). after_head (tokens_from (lexemes.next (lexemes.word n) line rest))) (same-bytes_eq b (codes "brief") is) ∙ second_stranger rest e g line
+    by false is g = absurd cc
+head_stranger (lexemes.next (lexemes.sign c) line rest) e h = absurd cc
+head_stranger (lexemes.last ending line) e h = absurd cc
 
-pub brief_refused : (text : List ℕ) (e : PlanError) → brief_head (lexemes_of briefs 1 text) ≡ Some (bad e) → IsRefused text e
-unfolding brief_read text_read tokens_of
-brief_refused text e h =
-    ap (λ r. (r >>= λ rest. items_in (length text) no_items (start rest)) >>= λ draft. Ok (plan_meant draft)) (head_stranger (lexemes_of briefs 1 text) e h)
+refused_head : (text : List ℕ) (e : PlanError) → opened text ≡ Err e → IsRefused text e
+unfolding brief_read text_read
+refused_head text e h = ap (λ r. (r >>= λ head. items_in head.0 (length text) no_items (start head.1)) >>= λ draft. Ok (plan_meant draft)) h
+
+-- the text is none of the second version
+abbrev IsNoBoard : List ℕ → Type 0
+IsNoBoard text = is_board (lexemes_of boards 1 text) ≡ false
+
+opens_no_second : (first : Result Tokens PlanError) → is_second (opened_by first None) ≡ false
+opens_no_second (Ok rest) = refl
+opens_no_second (Err e) = refl
+
+begins_no_second : (text : List ℕ) → IsNoBoard text → begins_second text ≡ false
+unfolding opened
+begins_no_second text first =
+    let head = after_head (tokens_of 1 text) in
+    ap (λ second. is_second (opened_by head second)) (second_none text first) ∙ opens_no_second head
+
+pub brief_refused : (text : List ℕ) (e : PlanError) → brief_head (lexemes_of briefs 1 text) ≡ Some (bad e) → IsNoBoard text → IsRefused text e
+unfolding tokens_of
+brief_refused text e h first = refused_head text e (opened_none text e (head_stranger (lexemes_of briefs 1 text) e h) (second_none text first))
 
 pub plan_refused : (text : List ℕ) (e : PlanError) → head_or None (lexemes_of no_dots 1 text) ≡ Err e → First text e
 unfolding plan_tokens.tokens_of
@@ -176,9 +146,8 @@ head_lacks (lexemes.last text_end line) none first = (errors.Version line, refl,
 head_lacks (lexemes.last stray line) none first = absurd (true≢false (sym first))
 head_lacks (lexemes.last foreign line) none first = absurd (true≢false (sym first))
 
-lacks_read : (text : List ℕ) → LacksHead (tokens_of 1 text) → (e : PlanError) × IsRefused text e × (is_version e ≡ true)
-unfolding brief_read text_read
-lacks_read text h = (h.0, ap (λ r. (r >>= λ rest. items_in (length text) no_items (start rest)) >>= λ draft. Ok (plan_meant draft)) h.1, h.2)
+lacks_read : (text : List ℕ) → LacksHead (tokens_of 1 text) → IsNoBoard text → (e : PlanError) × IsRefused text e × (is_version e ≡ true)
+lacks_read text h first = (h.0, refused_head text h.0 (opened_none text h.0 h.1 (second_none text first)), h.2)
 
 -- ---- heads of plans
 
@@ -213,24 +182,38 @@ refused_as_plan : (text : List ℕ) → FirstIs (lexemes_of no_dots 1 text) → 
 unfolding plan_tokens.tokens_of
 refused_as_plan text first = let h = no_plan_head (lexemes_of no_dots 1 text) first in (h.0, text_refused text (errors.Version h.0) h.1)
 
-pub head_exact : (text : List ℕ) (e : PlanError) → letters_in text ≡ Err e → IsNeither text e
-unfolding letters_in tokens_of
-head_exact text e h = by (brief_head (lexemes_of briefs 1 text)) refl h
+first_exact : (text : List ℕ) (e : PlanError) → IsNoBoard text → head_or (brief_head (lexemes_of briefs 1 text)) (lexemes_of no_dots 1 text) ≡ Err e → IsNeither text e
+unfolding tokens_of
+first_exact text e first h = by (brief_head (lexemes_of briefs 1 text)) refl h
   where
     by_version : brief_head (lexemes_of briefs 1 text) ≡ None → head_or None (lexemes_of no_dots 1 text) ≡ Err e → (t : Bool) → is_version e ≡ t → IsNeither text e
-    by_version none g false is = no_plan (plan_refused text e g) is
+    by_version none g false is = no_plan (begins_no_second text first) (plan_refused text e g) is
     by_version none g true is =
-        let brief = lacks_read text (head_lacks (lexemes_of briefs 1 text) none (first_too text (plan_first (lexemes_of no_dots 1 text) e g is))) in
+        let brief = lacks_read text (head_lacks (lexemes_of briefs 1 text) none (first_too text (plan_first (lexemes_of no_dots 1 text) e g is))) first in
         no_head (plan_refused text e g) is brief.1 brief.2
 
     by_brief : (r : Result Letters PlanError) → brief_head (lexemes_of briefs 1 text) ≡ Some r → head_or (Some r) (lexemes_of no_dots 1 text) ≡ Err e → IsNeither text e
     by_brief r is g =
-        let first = first_same text (brief_begins (lexemes_of briefs 1 text) r is) in
-        let own : r ≡ Err e = sym (ap (head_or (Some r)) first.3) ∙ g in
+        let begins = first_same text (brief_begins (lexemes_of briefs 1 text) r is) in
+        let own : r ≡ Err e = sym (ap (head_or (Some r)) begins.3) ∙ g in
         let refused = is ∙ ap (λ (x : Result Letters PlanError). Some x) own in
-        let plan = refused_as_plan text first in
-        no_brief plan.1 refl (brief_refused text e refused) (stranger_no_version (lexemes_of briefs 1 text) e refused)
+        let plan = refused_as_plan text begins in
+        no_brief plan.1 refl (brief_refused text e refused first) (stranger_no_version (lexemes_of briefs 1 text) e refused)
 
     by : (o : Option (Result Letters PlanError)) → brief_head (lexemes_of briefs 1 text) ≡ o → head_or o (lexemes_of no_dots 1 text) ≡ Err e → IsNeither text e
     by None is g = by_version is g (is_version e) refl
     by (Some r) is g = by_brief r is g
+
+pub head_exact : (text : List ℕ) (e : PlanError) → letters_in text ≡ Err e → IsNeither text e
+unfolding letters_in
+head_exact text e h = by (is_board (lexemes_of boards 1 text)) refl
+  where
+    head : List ℕ → Option (Result Letters PlanError) → Result Letters PlanError
+    head other o = head_or o (lexemes_of no_dots 1 other)
+
+    by : (t : Bool) → is_board (lexemes_of boards 1 text) ≡ t → IsNeither text e
+    by true is = let lettered = board_lettered text is in let no = sym lettered.1 ∙ h in absurd cc
+    by false is =
+        let brief = brief_head (lexemes_of briefs 1 text) in
+        let same = ap (or_board brief) is ∙ no_board brief in
+        first_exact text e is (sym (ap (head text) same) ∙ h)

@@ -3,7 +3,7 @@ use Rattle.std.proofs.Common.{◌≡◌, ℕ, Bool, true, false, List, Option, S
 use Rattle.std.proofs.lemmas.Grind.{common_steps}
 use Rattle.std.specs.Prelude.{Result, Ok, Err, if◌then◌else◌}
 use Rattle.std.specs.Str.{bytes_eq}
-use Rattle.layout.specs.Refusals.{alphabet_of, plan_letters, brief_head, head_or, letters_in, stranger, refusal_by, refusal_of}
+use Rattle.layout.specs.Refusals.{alphabet_of, plan_letters, brief_head, is_board, or_board, head_or, letters_in, stranger, refusal_by, refusal_of}
 use Rattle.lexer.specs.declared.lexemes.Letters.{Letters}
 use Rattle.lexer.specs.declared.lexemes.Letters.TheVariants.{Plain}
 use Rattle.lexer.specs.Lexemes.{Lexemes, text_end, stray, foreign, Alphabet, no_dots, lexemes_of}
@@ -80,7 +80,7 @@ plan_laid_out text plan spelled =
     let items = items_take _ v.0 empty (spot (third text v.0) 0) plan v.2 in
     let ends = (items_respect v.0 items.0 empty plan).ends (third text v.0) (last text_end items.1.0) items.1.1 in
     let whole = sym (ends_alike (lexemes_of (dots_of v.0) 1 text)) ∙ sym (after_end (tokens_of (dots_of v.0) 1 text)) ∙ sym (after_end (after_one (tokens_of (dots_of v.0) 1 text))) ∙ ends in
-    let letters = head_told (lexemes_of no_dots 1 text) v.0 (brief_head (lexemes_of lexemes.briefs 1 text)) v.1 in
+    let letters = head_told (lexemes_of no_dots 1 text) v.0 (or_board (brief_head (lexemes_of lexemes.briefs 1 text)) (is_board (lexemes_of lexemes.boards 1 text))) v.1 in
     ap (λ (r : Result Letters PlanError). refusal_by r text) letters.0 ∙ ap (λ a. stranger (lexemes_of a 1 text)) letters.1 ∙ whole
 
 -- ---- heads that are refused

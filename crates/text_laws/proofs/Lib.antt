@@ -3,6 +3,8 @@ pub mod Membership
 pub mod JoinedNames
 pub mod EntryNames
 pub mod PlanWords
+pub mod FirstWords
+pub mod OpenedBriefs
 pub mod BriefWords
 pub mod SameMeanings
 pub mod SeveralLemmas
@@ -13,7 +15,6 @@ pub mod SoundItems
 pub mod MeantLemmas
 pub mod MeantPlans
 pub mod ApartLemmas
-pub mod FirstWords
 pub mod Heads
 pub mod BriefHeads
 pub mod DumpSamples

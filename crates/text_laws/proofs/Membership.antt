@@ -156,9 +156,6 @@ module _ {A B : Type 0} where
 
 -- ---- names
 
-pub among_in : (name : List ℕ) (names : List (List ℕ)) → list_any (bytes_eq name) names ≡ true → In name names
-among_in name names h = let f = any_in (bytes_eq name) names h in subst (λ (x : List ℕ). In x names) (sym (same-bytes_eq name f.0 f.2)) f.1
-
 pub in_among : (name : List ℕ) (names : List (List ℕ)) → In name names → list_any (bytes_eq name) names ≡ true
 in_among name names h = in_any (bytes_eq name) names name h (bytes_eq-same name name refl)
 

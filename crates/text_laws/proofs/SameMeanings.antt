@@ -17,7 +17,7 @@ use Rattle.text_laws.proofs.BriefWords.{same_says}
 use Rattle.text_laws.proofs.PlanWords.{same_spells}
 
 pub turned : (text other : List ℕ) → SameWords text other → SameWords other text
-turned text other same = (sym same.0, sym same.1, sym same.2)
+turned text other same = (sym same.0, sym same.1, sym same.2, sym same.3)
 
 pub same_read : (text other : List ℕ) (draft after : Draft) → SameWords text other → text_read draft text ≡ Ok after → text_read draft other ≡ Ok after
 same_read text other draft after same is = text_again other draft after (same_says text other draft after same (text_takes text draft after is))

@@ -24,8 +24,8 @@ use Rattle.brief_text.specs.Drafts.{Draft, members_or, stands_for, address_said,
 use Rattle.brief_text.specs.Fitting.{ListFits, Fits, MakeUp, frame_ranges, bytes_ranges, tail_ranges, often_ranges}
 use Rattle.brief_text.specs.Judging.{is_family, is_message, taken_names, is_taken, controller_refusal_of, all_of, have_one_of, sendings, listing_refusal, is_side, part_refusal, first_refusal, second_refusal}
 use Rattle.brief_text.specs.Splitting.{side_name, labels_of, parts}
-use Rattle.brief_text.specs.Trees.{Side, device, byte, controller, interrupt, never_both, Said, Times, BriefFrame, write_to, read_from, BriefBytes, data_byte, no_more, BriefTail, stop_here, go_on, BriefItem, message}
-use Rattle.brief_text.specs.Words.{known_number, is_range, is_brief_name, is_no_slash, halves_at, around_slash, whole_side, label_side, side_from, side_by}
+use Rattle.brief_text.specs.Trees.{Side, device, byte, controller, interrupt, never_both, Said, Times, BriefFrame, write_to, read_from, BriefBytes, data_byte, made_byte, no_more, BriefTail, stop_here, go_on, BriefItem, message}
+use Rattle.brief_text.specs.Words.{known_number, is_range, is_further_word, is_brief_name, is_no_slash, halves_at, around_slash, whole_side, label_side, side_from, side_by}
 use Rattle.text_laws.proofs.EntryNames.{has_name_in, keys_both, in_keys_left, in_keys_either, lookup_in}
 use Rattle.text_laws.proofs.Membership.{In, Distinct, in_left, in_right, in_either, in_last, distinct_both, distinct_push, in_map, any_in, in_any, is_false, not_both, true_or_false, or_either, in_among, holds, holds_in, in_holds}
 use Rattle.text_laws.proofs.SoundDrafts.{family_of, ListSound, LabelSound, SideSound, Sound}
@@ -33,6 +33,7 @@ use Rattle.text_laws.proofs.PartLemmas.{one_side}
 use Rattle.plan_core.proofs.ContentsLemmas.{empty_within}
 use Rattle.brief_text.specs.Grammar.{SpellsFrame, SpellsBytes, SpellsNext, SpellsRefused, SpellsOften, SpellsItem, SpellsItems}
 use Rattle.brief_text.proofs.TakesLemmas.{le_from}
+use Rattle.lexer.specs.declared.lexemes.Letters.{Letters}
 use Rattle.brief_tokens.specs.Names.{is_brief_word}
 use Rattle.brief_tokens.specs.Tokens.{Tokens}
 use Rattle.text_laws.specs.Several.{EachSpells, all_items, WasRead}
@@ -377,25 +378,28 @@ some_side side = Some side
 halves_are : (slash : ℕ) (word : List ℕ) (halves : List ℕ × List ℕ) → halves_at slash word ≡ Some halves → (slash < length word) × (take slash word ≡ halves.0) × (drop (slash + 1) word ≡ halves.1)
 halves_are slash word halves e = grind (arith, common_steps, ltb-true)
 
-label_named : (word first second : List ℕ) → around_slash word ≡ Some (first, second) → length word ≤ 32 → is_brief_name first ≡ true → is_brief_name second ≡ true → IsName (first ++ codes "_" ++ second)
+-- what a name of briefs is among others
+plain_name : (letters : Letters) (bytes : List ℕ) → is_brief_name letters bytes ≡ true → is_name bytes ≡ true
+plain_name letters bytes is =
+    (and_parts (is_name bytes) (not (is_brief_word bytes)) (and_parts (is_name bytes && not (is_brief_word bytes)) (not (is_further_word letters bytes)) is).0).0
+
+label_named : (word first second : List ℕ) → around_slash word ≡ Some (first, second) → length word ≤ 32 → is_name first ≡ true → is_name second ≡ true → IsName (first ++ codes "_" ++ second)
 unfolding around_slash
-label_named word first second e short f g =
+label_named word first second e short front back =
     let at = halves_are (prefix_len is_no_slash word) word (first, second) e in
-    let front = and_parts (is_name first) (not (is_brief_word first)) f in
-    let back = and_parts (is_name second) (not (is_brief_word second)) g in
     let taken = length-take (prefix_len is_no_slash word) word in
     let dropped = length-drop (prefix_len is_no_slash word + 1) word in
     let one = ap length at.1 in
     let two = ap length at.2 in
     let whole = length-append (first ++ codes "_") second in
     let start = length-append first (codes "_") in
-    is_joined first second front.0 (name_parts second back.0).all (omega (arith, taken, dropped, one, two, whole, start, at.0, short))
+    is_joined first second front (name_parts second back).all (omega (arith, taken, dropped, one, two, whole, start, at.0, short))
 
-side_formed : (word : List ℕ) (side : Side) → side_by word ≡ Some side → (label : List ℕ) → side.label ≡ Some label → IsName (side_name side)
+side_formed : (letters : Letters) (word : List ℕ) (side : Side) → side_by letters word ≡ Some side → (label : List ℕ) → side.label ≡ Some label → IsName (side_name side)
 unfolding side_by
-side_formed word side e label is = by_halves (around_slash word) refl e
+side_formed letters word side e label is = by_halves (around_slash word) refl e
   where
-    by_halves : (o : Option (List ℕ × List ℕ)) → around_slash word ≡ o → side_from o word ≡ Some side → IsName (side_name side)
+    by_halves : (o : Option (List ℕ × List ℕ)) → around_slash word ≡ o → side_from letters o word ≡ Some side → IsName (side_name side)
     by_halves None at h = by_name (is_name word) h
       where
         by_name : (t : Bool) → whole_side t word ≡ some_side side → IsName (side_name side)
@@ -404,14 +408,14 @@ side_formed word side e label is = by_halves (around_slash word) refl e
             let none : None ≡ Some label = ap (λ (s : Side). s.label) whole ∙ is in
             absurd cc
         by_name false g = absurd cc
-    by_halves (Some halves) at h = by_test (nat_le (length word) 32 && is_brief_name halves.0 && is_brief_name halves.1) refl h
+    by_halves (Some halves) at h = by_test (nat_le (length word) 32 && is_brief_name letters halves.0 && is_brief_name letters halves.1) refl h
       where
-        by_test : (t : Bool) → (nat_le (length word) 32 && is_brief_name halves.0 && is_brief_name halves.1) ≡ t → label_side t halves ≡ some_side side → IsName (side_name side)
+        by_test : (t : Bool) → (nat_le (length word) 32 && is_brief_name letters halves.0 && is_brief_name letters halves.1) ≡ t → label_side t halves ≡ some_side side → IsName (side_name side)
         by_test true p g =
-            let two = and_parts (nat_le (length word) 32 && is_brief_name halves.0) (is_brief_name halves.1) p in
-            let one = and_parts (nat_le (length word) 32) (is_brief_name halves.0) two.0 in
+            let two = and_parts (nat_le (length word) 32 && is_brief_name letters halves.0) (is_brief_name letters halves.1) p in
+            let one = and_parts (nat_le (length word) 32) (is_brief_name letters halves.0) two.0 in
             let same : record { controller = halves.0; label = Some halves.1 } ≡ side = cc in
-            subst (λ (s : Side). IsName (side_name s)) same (label_named word halves.0 halves.1 at (le_from (length word) 32 one.0) one.1 two.1)
+            subst (λ (s : Side). IsName (side_name s)) same (label_named word halves.0 halves.1 at (le_from (length word) 32 one.0) (plain_name letters halves.0 one.1) (plain_name letters halves.1 two.1))
         by_test false p g = absurd cc
 
 -- ---- a range that is spelled
@@ -432,6 +436,7 @@ module _ (range : Lengths) (none : is_range range.least range.greatest ≡ false
     bytes_range : (b : BriefBytes) (from to : Tokens) → SpellsBytes R b from to → bytes_ranges b ≡ 0
     bytes_range (data_byte bits often refused acked) from to s =
         omega (arith, often_range often s.0 s.2.0 s.2.1, refused_range refused s.2.0 s.2.2.0 s.2.2.1, bytes_range acked s.2.2.0 to s.2.2.2)
+    bytes_range (made_byte made refused acked) from to s = omega (arith, refused_range refused s.0 s.2.0 s.2.1, bytes_range acked s.2.0 to s.2.2)
     bytes_range (no_more tail) from to s = next_range tail from to s
 
     next_range : (t : BriefTail) (from to : Tokens) → SpellsNext R t from to → tail_ranges t ≡ 0
@@ -447,28 +452,28 @@ range_small range f from to s one = let none = λ (is : is_range range.least ran
 
 -- ---- items
 
-sound_item : (draft : Draft) (item : BriefItem) (from to : Tokens) → Sound draft → Fits draft item → SpellsItem item from to → Sound (with_item draft item)
-sound_item draft (device name address) from to sound fits s = sound_device draft name address sound
-sound_item draft (byte name bits) from to sound fits s = sound_byte draft name bits sound
-sound_item draft (message name None frame) from to sound fits s = sound_message draft name None frame sound s.2.1.1 (λ r e. absurd cc) fits
-sound_item draft (message name (Some range) frame) from to sound fits s =
+sound_item : (letters : Letters) (draft : Draft) (item : BriefItem) (from to : Tokens) → Sound draft → Fits draft item → SpellsItem letters item from to → Sound (with_item draft item)
+sound_item letters draft (device name address) from to sound fits s = sound_device draft name address sound
+sound_item letters draft (byte name bits) from to sound fits s = sound_byte draft name bits sound
+sound_item letters draft (message name None frame) from to sound fits s = sound_message draft name None frame sound s.2.1.1 (λ r e. absurd cc) fits
+sound_item letters draft (message name (Some range) frame) from to sound fits s =
     let small = range_small range frame s.2.0 s.2.2.0 s.2.2.1 fits.ranges in
     sound_message draft name (Some range) frame sound s.2.1.1 (λ r e. let same : range ≡ r = cc in subst (λ (l : Lengths). l.greatest ≤ 255) same small) fits
-sound_item draft (controller name messages) from to sound fits s = sound_controller draft sound name messages s.2.1.1 fits
-sound_item draft (interrupt name target) from to sound fits s = sound_interrupt draft name target sound s.2.1.1 fits
-sound_item draft (never_both first second) from to sound fits s = sound_never draft first second sound (side_formed s.2.1.0 first s.2.1.2) (side_formed s.2.2.1.0 second s.2.2.1.2) fits
+sound_item letters draft (controller name messages) from to sound fits s = sound_controller draft sound name messages s.2.1.1 fits
+sound_item letters draft (interrupt name target) from to sound fits s = sound_interrupt draft name target sound s.2.1.1 fits
+sound_item letters draft (never_both first second) from to sound fits s = sound_never draft first second sound (side_formed letters s.2.1.0 first s.2.1.2) (side_formed letters s.2.2.1.0 second s.2.2.1.2) fits
 
-sound_items : (items : List BriefItem) (draft after : Draft) (from to : Tokens) → Sound draft → SpellsItems items from to → MakeUp draft items after → Sound after
-sound_items [] draft after from to sound s made = subst Sound (sym made) sound
-sound_items (item ∷ items) draft after from to sound s made =
-    sound_items items (with_item draft item) after s.0 to (sound_item draft item from s.0 sound made.0 s.1) s.2 made.1
+sound_items : (letters : Letters) (items : List BriefItem) (draft after : Draft) (from to : Tokens) → Sound draft → SpellsItems letters items from to → MakeUp draft items after → Sound after
+sound_items letters [] draft after from to sound s made = subst Sound (sym made) sound
+sound_items letters (item ∷ items) draft after from to sound s made =
+    sound_items letters items (with_item draft item) after s.0 to (sound_item letters draft item from s.0 sound made.0 s.1) s.2 made.1
 
 sound_texts : (texts : List (List ℕ)) (lists : List (List BriefItem)) (draft after : Draft) → Sound draft → EachSpells texts lists → MakeUp draft (all_items lists) after → Sound after
 sound_texts [] [] draft after sound spelled made = subst Sound (sym made) sound
 sound_texts (text ∷ texts) (items ∷ lists) draft after sound spelled made =
     let two = make_up_split items (all_items lists) draft after made in
-    let s = spelled.0.whole in
-    sound_texts texts lists two.0 after (sound_items items draft two.0 s.2.0 _ sound s.2.2 two.1) spelled.1 two.2
+    let s = spelled.0 in
+    sound_texts texts lists two.0 after (sound_items s.letters items draft two.0 s.rest _ sound s.whole two.1) spelled.1 two.2
 sound_texts [] (items ∷ lists) draft after sound spelled made = absurd spelled
 sound_texts (text ∷ texts) [] draft after sound spelled made = absurd spelled
 

@@ -6,17 +6,12 @@ use page_runs::{write_page_alone, write_page_with};
 use plan_runs::{bench, bench_alone, check, order, rewrite, verify};
 use run_ends::{Ended, Errand, Halt, Sources};
 use run_parts::{Input, Output, RunError};
-use std::rt::Files;
 use std::sync::Wait;
 use std::thread::Threads;
 use std::time::Clock;
 
 /// Runs what was asked for, over what gives a plan or the only text, and a second text where there is one.
-pub fn run_over<
-    R: Files + Print + Eprint + AllocGlobal + Threads + Wait + Clock + Sync,
-    I: Input,
-    O: Output,
->(
+pub fn run_over<R: Eprint + AllocGlobal + Threads + Wait + Clock + Sync, I: Input, O: Output>(
     rt: &R,
     errand: Errand<'_>,
     texts: &mut Sources<'_, I>,

@@ -3,7 +3,7 @@
 ghost use Rattle.std.specs.Prelude.{◌≡◌, ◌+◌, length, Ok, Err, MatchResult, OnOk};
 ghost use Rattle.vcd_read.specs.Pieces.{RoomForToken, RoomForSamples, Scans, bytes_read, kept_of, samples_at_end};
 
-use crate::beside::{Furthers, Nobody, Tokens};
+use crate::beside::{FurtherLines, Nobody, Tokens};
 use crate::errors::Refusal;
 use crate::places::{OpenLine, Wrong};
 use crate::probes::Probe;
@@ -19,7 +19,7 @@ use std::alloc::{AllocError, Global};
 /// the end. Beside the two signals it may follow further ones, of which nothing is proved.
 pub struct Reader {
     scanner: Scanner,
-    further: Option<Furthers>,
+    further: Option<FurtherLines>,
     refused: Option<Refusal>,
     // the line that was fed last, and what is wrong where the dump was refused
     line: OpenLine,
@@ -32,7 +32,7 @@ pub struct Reader {
 #[derive(Drop)]
 pub struct Last {
     pub samples: Vec<Sample>,
-    further: Option<Furthers>,
+    further: Option<FurtherLines>,
 }
 
 impl Last {
@@ -304,17 +304,17 @@ impl Reader {
 }
 
 // These further lines, if there are some.
-fn further_of(alloc: Global, lines: &[Probe<'_>]) -> Result<Option<Furthers>, AllocError> {
+fn further_of(alloc: Global, lines: &[Probe<'_>]) -> Result<Option<FurtherLines>, AllocError> {
     if lines.is_empty() {
         return Ok(None);
     }
-    Ok(Some(Furthers::new(alloc, lines)?))
+    Ok(Some(FurtherLines::new(alloc, lines)?))
 }
 
 // Makes room for all that a piece of so many bytes can leave. A failure changes nothing.
 fn reserve(
     scanner: &mut Scanner,
-    further: &mut Option<Furthers>,
+    further: &mut Option<FurtherLines>,
     bytes: usize,
 ) -> Result<(), AllocError>
     requires token_room { RoomForToken 0 scanner.old }
@@ -335,7 +335,7 @@ fn reserve(
 // Reads a piece for which there is room.
 fn read<T: Tokens>(
     scanner: &mut Scanner,
-    further: &mut Option<Furthers>,
+    further: &mut Option<FurtherLines>,
     piece: &[u8],
     tokens: &mut T,
 ) -> Result<(), Refusal>
@@ -354,7 +354,7 @@ fn read<T: Tokens>(
 // The end of the dump: its last samples, and what the further lines are then.
 fn end<T: Tokens>(
     scanner: &mut Scanner,
-    further: &mut Option<Furthers>,
+    further: &mut Option<FurtherLines>,
     tokens: &mut T,
 ) -> Result<(), Refusal>
     requires token_room { RoomForToken 0 scanner.old }
@@ -373,7 +373,7 @@ fn end<T: Tokens>(
 }
 
 // What they have been.
-fn given_in(further: &Option<Furthers>) -> &[Further] {
+fn given_in(further: &Option<FurtherLines>) -> &[Further] {
     match further {
         Some(further) => further.given.as_slice(),
         None => &[],
@@ -381,7 +381,7 @@ fn given_in(further: &Option<Furthers>) -> &[Further] {
 }
 
 // Forgets what they have been.
-fn clear(further: &mut Option<Furthers>) {
+fn clear(further: &mut Option<FurtherLines>) {
     if let Some(further) = further {
         further.given.clear();
     }

@@ -6,7 +6,7 @@ ghost use Rattle.vcd_read.specs.Pieces.{kept_at_first, kept_of, with_held, bytes
 ghost use Rattle.vcd_read.specs.Pieces.{samples_at_end, Scans, RoomForToken, RoomForSamples};
 ghost use Rattle.vcd_read.specs.Views.{asked};
 
-use crate::beside::{Beside, Tokens};
+use crate::beside::{Bystander, Tokens};
 use crate::bytes::{is_white, line_after, whites};
 use crate::dumps::Dump;
 use crate::errors::Refusal;
@@ -64,7 +64,7 @@ impl Scanner {
     }
 
     /// Reads a piece for which there is room. Another is told of the tokens that are taken.
-    pub(crate) fn read<B: Beside, T: Tokens>(
+    pub(crate) fn read<B: Bystander, T: Tokens>(
         &mut self,
         piece: &[u8],
         beside: &mut B,
@@ -93,7 +93,7 @@ impl Scanner {
     }
 
     // The same of what stands from here on in the piece, byte by byte.
-    fn read_bytes<B: Beside, T: Tokens>(
+    fn read_bytes<B: Bystander, T: Tokens>(
         &mut self,
         piece: &[u8],
         from: usize,
@@ -120,7 +120,7 @@ impl Scanner {
 
     // What is held, with this after it, has come to its end, here in the piece.
     #[inline(always)]
-    fn end_token<B: Beside, T: Tokens>(
+    fn end_token<B: Bystander, T: Tokens>(
         &mut self,
         rest: &[u8],
         at: usize,
@@ -163,7 +163,7 @@ impl Scanner {
 
     // The same where something is held.
     #[inline(never)]
-    fn end_held<B: Beside, T: Tokens>(
+    fn end_held<B: Bystander, T: Tokens>(
         &mut self,
         rest: &[u8],
         at: usize,
@@ -190,7 +190,7 @@ impl Scanner {
     }
 
     /// The end of the dump: its last samples.
-    pub(crate) fn end<B: Beside, T: Tokens>(
+    pub(crate) fn end<B: Bystander, T: Tokens>(
         &mut self,
         beside: &mut B,
         tokens: &mut T,

@@ -78,9 +78,6 @@ pub record ListsFaults (plan : Contents) (known : List Known) (listed : List Lis
   pub these : entries known listed ≡ faults_of verdicts
   pub unsafe : all_unsafe known listed ≡ true
 
-pub lists_none : (plan : Contents) (known : List Known) → ListsFaults plan known [] 0
-lists_none plan known = record { verdicts = []; sized = refl; each = λ i x y v e p. cc; these = refl; unsafe = refl }
-
 module _ (plan : Contents) (known : List Known) (listed : List Listed) (n : ℕ) (so_far : ListsFaults plan known listed n) (x y : ℕ) (is : slice_get (pairs_of plan) n ≡ Some (x, y)) where
   with_verdict : (o : Outcome) → IsVerdict plan x y o → (more : List Listed) → entries known more ≡ outcome_fault n o [] → all_unsafe known more ≡ true → ListsFaults plan known (listed ++ more) (n + 1)
   with_verdict o right more e all =
@@ -114,13 +111,6 @@ lists_more plan known listed more n q knows so_far is_pair is_place all =
     let p = some_at (pairs_of plan) n is_pair in
     let k = knows n is_pair p.0.0 p.0.1 p.1 in
     subst (λ ls. ListsFaults plan known ls (n + 1)) (sym all) (lists_more_of plan known listed n so_far p.0.0 p.0.1 p.1 k.0 q (ap (slice_get known) (is_place p.0.0 p.0.1 p.1) ∙ k.1) k.2)
-
-pub faults_listed : (plan : Contents) (known : List Known) (listed : List Listed) → ListsFaults plan known listed (length (pairs_of plan)) → AreFaults plan (entries known listed)
-faults_listed plan known listed h = record {
-  verdicts = h.verdicts;
-  right = record { each = h.each; whole = h.sized };
-  these = h.these;
-}
 
 -- ---- a listed fault
 

@@ -28,12 +28,6 @@ use Rattle.verdicts.proofs.KnownLemmas.{same_got}
 
 -- ---- lines at their places
 
-line_not_empty : (p : ProofTree) (line : List ℕ) → line ≡ proof_line p → line ≡ [] → ⊥
-line_not_empty p line e none =
-    let l : length line ≡ length (proof_line p) = ap (λ (cs : List ℕ). length cs) e in
-    let m : length line ≡ 0 = ap (λ (cs : List ℕ). length cs) none in
-    absurd (omega (arith, l, m, length-append {A = ℕ}))
-
 pub not_empty : (line : Vec ℕ Global) (b : Bool) → b ≡ (vec_len line == 0) → b ≡ false → line.items ≡ [] → ⊥
 not_empty line b is full none =
     let l : length line.items ≡ 0 = ap (λ (cs : List ℕ). length cs) none in

@@ -1,8 +1,8 @@
 //! The verdicts of all pairs of a plan, and whether the plan is safe for every set that may start together. `table`
 //! makes all verdicts with their proofs; `faults` finds the pairs that are not safe, and makes no proof;
 //! `certificate_lines` makes the certificate of the plan, each different line once, and holds one proof at a time;
-//! `certificate_text` is its text as one. `Checked` is a plan with its faults. `table_with` and `faults_with` share the work among threads, by the queue of
-//! pair_queue: `workers` has one worker, `sharing` all of them.
+//! `certificate_text` is its text as one. `Checked` is a plan with its faults. `table_with` and `faults_with` share the
+//! work among threads, by the queue of pair_queue: `workers` has one worker, `sharing` all of them.
 #![tactic(auto)]
 
 pub mod certificates;

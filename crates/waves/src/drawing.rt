@@ -154,12 +154,7 @@ fn low_where(is_low: bool) -> Shown {
 
 // Whether one of them does this in the slot of a fault.
 fn does(rows: &[Row<'_>], fill: Option<bool>, act: Act) -> bool {
-    for row in rows {
-        if row.act(fill, None) == act {
-            return true;
-        }
-    }
-    false
+    rows.iter().any(|row| row.act(fill, None) == act)
 }
 
 // What participants pull, and whether one does.

@@ -1,40 +1,13 @@
 //! Briefs, read word by word: the text of the plan that they mean, or their first refusal
-//! (docs/PLANS.md, "Brief").
-//!
-//! A message is written level by level. A level is the whole message, or what stands between two
-//! parentheses: its words come one after another as in the text of a plan, but for what follows a
-//! byte that is not acknowledged, which a plan has after all that follows the acknowledge. So these
-//! tails are kept until the level ends, and then stand in the turned order.
-//!
-//! The messages of a family are read from its words again, each with its number for the range.
+//! (docs/PLANS.md, "Brief" and "Brief 2"). Messages are read in `messages`.
 
-use super::plans::{
-    read_count, Items, MOST_BYTES, MOST_CONTROLLERS, MOST_INTERRUPTS, MOST_MESSAGES, MOST_NODES, MOST_SENDINGS,
-};
-use super::words::{has_form, number, Language, Reading, Refusal, Word, BITS, KNOWN};
+use super::meanings::words_of;
+use super::messages::{bits_of, bits_said, Known, Message};
+use super::plans::{Items, MOST_CONTROLLERS, MOST_INTERRUPTS, MOST_MESSAGES, MOST_SENDINGS};
+use super::words::{has_form, Language, Reading, Refusal, Word, KNOWN};
 use std::fmt;
 
-// Words that begin no data byte.
-const NO_DATA: [&str; 15] = [
-    ";",
-    "(",
-    ")",
-    "*",
-    "brief",
-    "device",
-    "byte",
-    "message",
-    "controller",
-    "interrupt",
-    "never",
-    "write",
-    "read",
-    "else",
-    "stop",
-];
-
-// How often a data byte may be repeated, and how many characters a name may have.
-const MOST_TIMES: u32 = 255;
+// How many characters a label may have.
 const MOST_CHARACTERS: usize = 32;
 
 /// The text of the plan that a brief means, as a `plan 2` and not in its canonical spelling, or the
@@ -77,30 +50,41 @@ pub fn declared(brief: &str) -> Result<Declared, Refusal> {
     })
 }
 
+/// Whether a text begins as a brief of the second version.
+pub fn is_board(text: &str) -> bool {
+    opened(text).is_ok_and(|reading| reading.language() == Language::Board)
+}
+
+// The words after the head of a brief. What is none of the second version is judged as one of the first.
+fn opened(text: &str) -> Result<Reading<'_>, Refusal> {
+    let mut board = Reading::new(text, Language::Board);
+    if board.takes("brief") && board.takes("2") {
+        return Ok(board);
+    }
+    let mut brief = Reading::new(text, Language::Brief);
+    brief.version(&["brief"])?;
+    brief.version(&["1"])?;
+    Ok(brief)
+}
+
 /// Whether a message, a controller or an interrupt of a plan has a name that is a word of briefs.
 pub fn has_brief_word(items: &Items) -> bool {
     items.names().any(|name| !Language::Brief.is_name(name))
 }
 
-// The bits that a name stands for, as a plan has them.
-struct Known {
-    name: String,
-    bits: String,
-}
-
-// A message, or an interrupt, as its line in the plan.
-struct Line {
+/// A message, or an interrupt, as its line in the plan.
+pub struct Line {
     name: String,
     words: String,
 }
 
 // A family and the names of its messages, or a controller and the names of what it lists.
-struct Group {
+struct Listed {
     name: String,
     messages: Vec<String>,
 }
 
-impl Group {
+impl Listed {
     fn has(&self, message: &str) -> bool {
         self.messages.iter().any(|one| one == message)
     }
@@ -129,14 +113,14 @@ struct Part {
     messages: Vec<String>,
 }
 
-// What was read of briefs.
+/// What was read of briefs.
 #[derive(Default)]
-struct Board {
-    devices: Vec<Known>,
-    bytes: Vec<Known>,
-    messages: Vec<Line>,
-    families: Vec<Group>,
-    controllers: Vec<Group>,
+pub struct Board {
+    pub devices: Vec<Known>,
+    pub bytes: Vec<Known>,
+    pub messages: Vec<Line>,
+    families: Vec<Listed>,
+    controllers: Vec<Listed>,
     interrupts: Vec<Line>,
     // The parties with labels as they were first named, and each `never`.
     labels: Vec<Party>,
@@ -145,9 +129,7 @@ struct Board {
 
 impl Board {
     fn read(&mut self, brief: &str) -> Result<(), Refusal> {
-        let mut reading = Reading::new(brief, Language::Brief);
-        reading.version(&["brief"])?;
-        reading.version(&["1"])?;
+        let mut reading = opened(brief)?;
         while !reading.is_over() {
             let word = reading.next()?;
             match word.text {
@@ -168,36 +150,26 @@ impl Board {
         let name = word.text;
         word.only_if(!self.has_message(name), 7)?;
         word.only_if(self.messages.len() < MOST_MESSAGES, 6)?;
-        let before = reading.place();
-        let mut message = Message { board: self, name, nodes: 0, range: None };
-        let frames = message.read_frames(reading, 0, 1)?;
-        let range = message.range;
-        let words = reading.words_from(before);
+        let (frames, message) = Message::read(self, name, reading)?;
         reading.expect(";")?;
-        let Some(range) = range else {
-            self.messages.push(Line { name: name.into(), words: frames });
+        let Some(range) = message.range else {
+            self.messages.push(Line { name: name.into(), words: words_of(&frames, 0) });
             return Ok(());
         };
-        let mut lines = Vec::new();
-        for n in range.least..=range.greatest {
-            let digits = n.to_string();
-            let words = range.replaced(&words, range.byte - before, &digits);
-            let mut message = Message { board: self, name, nodes: 0, range: None };
-            let frames = message.read_frames(&mut Reading::of(words), 0, 1)?;
-            lines.push(Line { name: member(name, n), words: frames });
-        }
-        let messages = lines.iter().map(|line| line.name.clone()).collect();
-        self.families.push(Group { name: name.into(), messages });
+        let messages = range.names(name);
+        let lines = (range.least..).zip(&messages);
+        let lines = lines.map(|(number, name)| Line { name: name.clone(), words: words_of(&frames, number) });
         self.messages.extend(lines);
+        self.families.push(Listed { name: name.into(), messages });
         Ok(())
     }
 
-    // Whether a message or a family has this name.
-    fn has_message(&self, name: &str) -> bool {
+    /// Whether a message or a family has this name.
+    pub fn has_message(&self, name: &str) -> bool {
         self.messages.iter().any(|one| one.name == name) || self.family(name).is_some()
     }
 
-    fn family(&self, name: &str) -> Option<&Group> {
+    fn family(&self, name: &str) -> Option<&Listed> {
         self.families.iter().find(|one| one.name == name)
     }
 
@@ -206,7 +178,7 @@ impl Board {
         self.family(name).map_or_else(|| vec![name.to_string()], |family| family.messages.clone())
     }
 
-    fn controller(&self, name: &str) -> Option<&Group> {
+    fn controller(&self, name: &str) -> Option<&Listed> {
         self.controllers.iter().find(|one| one.name == name)
     }
 
@@ -219,7 +191,7 @@ impl Board {
         let word = reading.name()?;
         word.only_if(!self.is_taken(word.text), 7)?;
         word.only_if(self.parts().len() < MOST_CONTROLLERS, 6)?;
-        let mut controller = Group { name: word.text.into(), messages: Vec::new() };
+        let mut controller = Listed { name: word.text.into(), messages: Vec::new() };
         let before: usize = self.controllers.iter().map(|one| one.messages.len()).sum();
         while !reading.takes(";") {
             let word = reading.name()?;
@@ -239,7 +211,7 @@ impl Board {
         word.only_if(self.interrupts.iter().all(|one| one.name != name), 7)?;
         word.only_if(self.interrupts.len() < MOST_INTERRUPTS, 6)?;
         let word = reading.next()?;
-        let to = bits_said(word, &self.devices, 7)?;
+        let to = bits_said(word, reading.language(), &self.devices, 7)?;
         word.only_if(has_form(&to, 7, &KNOWN), 3)?;
         reading.expect(";")?;
         self.interrupts.push(Line { name, words: to });
@@ -248,11 +220,11 @@ impl Board {
 
     fn read_never(&mut self, reading: &mut Reading) -> Result<(), Refusal> {
         let word = reading.next()?;
-        let first = party(word)?;
+        let first = party(word, reading.language())?;
         word.only_if(self.is_known(&first), 8)?;
         self.name_label(word, &first)?;
         let word = reading.next()?;
-        let second = party(word)?;
+        let second = party(word, reading.language())?;
         word.only_if(second.controller != first.controller, 7)?;
         word.only_if(self.is_known(&second), 8)?;
         let stands = |(a, b): &(Party, Party)| (a == &first && b == &second) || (a == &second && b == &first);
@@ -288,7 +260,7 @@ impl Board {
     }
 
     // Each message goes to its own label, or else to that of its family, or else it is left.
-    fn parts_of(&self, controller: &Group) -> Vec<Part> {
+    fn parts_of(&self, controller: &Listed) -> Vec<Part> {
         let whole = Party { controller: controller.name.clone(), label: None };
         let labels: Vec<&Party> = self.labels.iter().filter(|one| one.controller == controller.name).collect();
         let parties = std::iter::once(&whole).chain(labels.iter().copied());
@@ -363,230 +335,24 @@ impl fmt::Display for Board {
     }
 }
 
-// The name of the message of a family that has so many bytes.
-fn member(name: &str, n: u32) -> String {
-    format!("{name}_{n}")
+// A name for so many bits.
+fn read_known(reading: &mut Reading, known: &mut Vec<Known>, length: usize) -> Result<(), Refusal> {
+    let name = reading.name()?;
+    name.only_if(known.iter().all(|one| one.name != name.text), 7)?;
+    let word = reading.next()?;
+    let bits = bits_of(word.text, length).ok_or(word.refused(3))?;
+    reading.expect(";")?;
+    known.push(Known { name: name.text.into(), bits });
+    Ok(())
 }
 
 // A controller, or what it sends.
-fn party(word: Word) -> Result<Party, Refusal> {
+fn party(word: Word, language: Language) -> Result<Party, Refusal> {
     let (controller, label) = match word.text.split_once('/') {
         None => (word.text, None),
         Some((controller, label)) => (controller, Some(label)),
     };
-    let are_names = Language::Brief.is_name(controller) && label.is_none_or(|label| Language::Brief.is_name(label));
+    let are_names = language.is_name(controller) && label.is_none_or(|label| language.is_name(label));
     word.only_if(are_names && word.text.len() <= MOST_CHARACTERS, 3)?;
     Ok(Party { controller: controller.into(), label: label.map(String::from) })
-}
-
-// A byte that stands `least` to `greatest` times, and the place of its word.
-#[derive(Clone, Copy)]
-struct Range {
-    least: u32,
-    greatest: u32,
-    byte: usize,
-}
-
-impl Range {
-    // The words of a message with this number in place of the range; of none the byte is left out
-    // with what follows it where it is not acknowledged. The byte is the word at this place.
-    fn replaced<'a>(&self, words: &[Word<'a>], byte: usize, digits: &'a str) -> Vec<Word<'a>> {
-        let (before, from) = words.split_at(byte);
-        let mut rest = &from[3..];
-        let mut replaced = before.to_vec();
-        if digits == "0" {
-            rest = &rest[else_length(rest)..];
-        } else {
-            replaced.extend_from_slice(&from[..2]);
-            replaced.push(Word { text: digits, line: 0 });
-        }
-        replaced.extend_from_slice(rest);
-        replaced
-    }
-}
-
-// How many words of an `else` stand first.
-fn else_length(words: &[Word]) -> usize {
-    if !words.first().is_some_and(|word| word.is("else")) {
-        return 0;
-    }
-    let mut open = 0;
-    for (i, word) in words.iter().enumerate().skip(1) {
-        open += i32::from(word.is("("));
-        open -= i32::from(word.is(")"));
-        if open == 0 {
-            return i + 1;
-        }
-    }
-    words.len()
-}
-
-// A message that is read.
-struct Message<'a> {
-    board: &'a Board,
-    name: &'a str,
-    // How many headers and data bytes it has in the plan, that of the most bytes in a family.
-    nodes: u32,
-    range: Option<Range>,
-}
-
-// A level of a message.
-struct Level {
-    text: String,
-    // What follows where there is no acknowledge: that of the last byte stands first.
-    tails: String,
-    // How many bytes stand on the path before what comes next, where it is longest, and in how many
-    // copies that stands.
-    path: u32,
-    copies: u32,
-}
-
-impl Message<'_> {
-    // The frames of a level, as a plan has them.
-    fn read_frames(&mut self, reading: &mut Reading, path: u32, copies: u32) -> Result<String, Refusal> {
-        let mut level = Level { text: String::new(), tails: String::new(), path, copies };
-        self.read_frame(reading, &mut level)?;
-        while reading.is_next("write") || reading.is_next("read") {
-            level.text += " again ";
-            self.read_frame(reading, &mut level)?;
-        }
-        Ok(format!("{} stop{}", level.text, level.tails))
-    }
-
-    fn read_frame(&mut self, reading: &mut Reading, level: &mut Level) -> Result<(), Refusal> {
-        let form = reading.next()?;
-        form.only_if(form.is("write") || form.is("read"), 3)?;
-        let word = reading.next()?;
-        let to = bits_said(word, &self.board.devices, 7)?;
-        self.count_bytes(word, level, 1)?;
-        level.text += &format!("{} {to}", form.text);
-        let header = level.path;
-        if form.is("read") {
-            let (count, path) = read_count(reading, header)?;
-            level.text += &format!(" {count}");
-            level.path = path;
-        }
-        self.read_refused(reading, level, header, 1)?;
-        while form.is("write") && begins_data(reading) {
-            self.read_data(reading, level)?;
-        }
-        Ok(())
-    }
-
-    fn read_data(&mut self, reading: &mut Reading, level: &mut Level) -> Result<(), Refusal> {
-        let byte = reading.place();
-        let word = reading.next()?;
-        let bits = if word.is("any") { "x".repeat(8) } else { bits_said(word, &self.board.bytes, 8)? };
-        self.count_bytes(word, level, 1)?;
-        let times = self.read_times(reading, byte, level)?;
-        level.text.extend((0..times).map(|_| format!(" {bits}")));
-        self.read_refused(reading, level, level.path, times)
-    }
-
-    // How often a data byte stands there: once, or as often as the number after `*` says, or as the
-    // greater number of a range.
-    fn read_times(&mut self, reading: &mut Reading, byte: usize, level: &mut Level) -> Result<u32, Refusal> {
-        if !reading.takes("*") {
-            return Ok(1);
-        }
-        let word = reading.next()?;
-        let times = match number(word.text) {
-            Some(times) => {
-                word.only_if(0 < times && times <= MOST_TIMES, 4)?;
-                times
-            }
-            None => self.read_range(word, byte)?,
-        };
-        self.count_bytes(word, level, times - 1)?;
-        Ok(times)
-    }
-
-    fn read_range(&mut self, word: Word, byte: usize) -> Result<u32, Refusal> {
-        let (least, greatest) = word.text.split_once("..").ok_or(word.refused(3))?;
-        let (least, greatest) = number(least).zip(number(greatest)).ok_or(word.refused(3))?;
-        word.only_if(self.range.is_none(), 3)?;
-        word.only_if(0 < greatest && greatest <= MOST_TIMES && least <= greatest, 4)?;
-        word.only_if(member(self.name, greatest).len() <= MOST_CHARACTERS, 3)?;
-        let is_new = |n| !self.board.has_message(&member(self.name, n));
-        word.only_if((least..=greatest).all(is_new), 7)?;
-        let count = (greatest - least + 1) as usize;
-        word.only_if(self.board.messages.len() + count <= MOST_MESSAGES, 6)?;
-        self.range = Some(Range { least, greatest, byte });
-        Ok(greatest)
-    }
-
-    // So many more bytes on the path of this level, each a node.
-    fn count_bytes(&mut self, word: Word, level: &mut Level, more: u32) -> Result<(), Refusal> {
-        level.path = level.path.saturating_add(more);
-        self.nodes = self.nodes.saturating_add(level.copies.saturating_mul(more));
-        word.only_if(level.path <= MOST_BYTES && self.nodes <= MOST_NODES, 5)?;
-        Ok(())
-    }
-
-    // What follows where there is no acknowledge after so many bytes, in so many copies: a STOP, if
-    // nothing else is said.
-    fn read_refused(&mut self, reading: &mut Reading, level: &mut Level, path: u32, times: u32) -> Result<(), Refusal> {
-        let mut tail = String::from(" else stop");
-        if reading.takes("else") {
-            if reading.takes("(") {
-                let frames = self.read_frames(reading, path, level.copies.saturating_mul(times))?;
-                reading.expect(")")?;
-                tail = format!(" else again {frames}");
-            } else {
-                reading.expect("stop")?;
-            }
-        }
-        level.tails = tail.repeat(times as usize) + &level.tails;
-        Ok(())
-    }
-}
-
-fn begins_data(reading: &Reading) -> bool {
-    reading.peek().is_some_and(|text| !NO_DATA.contains(&text))
-}
-
-// The rest of a `device` or a `byte`, which has so many bits.
-fn read_known(reading: &mut Reading, known: &mut Vec<Known>, length: usize) -> Result<(), Refusal> {
-    let word = reading.name()?;
-    let name = word.text.to_string();
-    word.only_if(known.iter().all(|one| one.name != name), 7)?;
-    let word = reading.next()?;
-    let bits = bits_of(word.text, length).ok_or(word.refused(3))?;
-    reading.expect(";")?;
-    known.push(Known { name, bits });
-    Ok(())
-}
-
-// The bits that a word spells out or names.
-fn bits_said(word: Word, known: &[Known], length: usize) -> Result<String, Refusal> {
-    if let Some(bits) = bits_of(word.text, length) {
-        return Ok(bits);
-    }
-    word.only_if(Language::Brief.is_name(word.text), 3)?;
-    let found = known.iter().find(|one| one.name == word.text);
-    found.map(|one| one.bits.clone()).ok_or(word.refused(8))
-}
-
-// The bits that a word spells out, as a plan has them.
-fn bits_of(word: &str, length: usize) -> Option<String> {
-    let bits = match word.strip_prefix("0b") {
-        Some(bits) => bits.to_string(),
-        None => bits_of_digits(word.strip_prefix("0x")?, length)?,
-    };
-    has_form(&bits, length, &BITS).then_some(bits)
-}
-
-// The bits of two digits. The first digit of an address has three.
-fn bits_of_digits(digits: &str, length: usize) -> Option<String> {
-    let bits: String = digits.chars().map(bits_of_digit).collect::<Option<_>>()?;
-    let (spare, rest) = bits.split_at_checked(bits.len().checked_sub(length)?)?;
-    (bits.len() == 8 && !spare.contains('1')).then(|| rest.to_string())
-}
-
-// The four bits of a digit.
-fn bits_of_digit(digit: char) -> Option<String> {
-    match digit {
-        'X' => Some("xxxx".into()),
-        _ => digit.to_digit(16).map(|value| format!("{value:04b}")),
-    }
 }

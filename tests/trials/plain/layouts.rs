@@ -1,5 +1,7 @@
 //! How a plan or a brief is laid out, from 'Layout' of docs/PLANS.md.
 
+use super::words::Language;
+
 // A token, with how many characters of white space stand before it on its line.
 #[derive(Clone, Debug)]
 struct Token {
@@ -99,7 +101,8 @@ impl Line {
     }
 
     fn is_row(&self) -> bool {
-        let are_words = self.tokens.len() >= 3 && self.tokens[..3].iter().all(|token| !";()*".contains(&token.text));
+        let are_words = self.tokens.len() >= 3
+            && self.tokens[..3].iter().all(|token| ![";", "(", ")", "*"].contains(&token.text.as_str()));
         let begins = self.tokens.iter().filter(|token| token.number == 0).count();
         are_words
             && begins == 1
@@ -112,7 +115,11 @@ impl Line {
 // ---- reading
 
 fn lines_of(text: &[u8]) -> Result<Vec<Line>, String> {
-    let plan = scan(text, false);
+    let board = scan(text, Language::Board);
+    if matches!(head_of(&board), [Some((_, first)), Some((_, second))] if first == "brief" && second == "2") {
+        return board.numbered();
+    }
+    let plan = scan(text, Language::Plan);
     let end = format!("P2 line {}", plan.lines.len());
     let [first, second] = head_of(&plan);
     let lines = match (first, second) {
@@ -123,7 +130,7 @@ fn lines_of(text: &[u8]) -> Result<Vec<Line>, String> {
             _ => return Err(format!("P2 line {line}")),
         },
         (Some((line, _)), _) => {
-            let brief = scan(text, true);
+            let brief = scan(text, Language::Brief);
             let [first, second] = head_of(&brief);
             match (first.map(|(_, word)| word).as_deref(), second.map(|(_, word)| word).as_deref()) {
                 (Some("brief"), Some("1")) => brief,
@@ -132,9 +139,15 @@ fn lines_of(text: &[u8]) -> Result<Vec<Line>, String> {
             }
         }
     };
-    match lines.refusal {
-        Some(refusal) => Err(refusal),
-        None => Ok(numbered(lines.lines)),
+    lines.numbered()
+}
+
+impl Scan {
+    fn numbered(self) -> Result<Vec<Line>, String> {
+        match self.refusal {
+            Some(refusal) => Err(refusal),
+            None => Ok(numbered(self.lines)),
+        }
     }
 }
 
@@ -145,12 +158,12 @@ fn head_of(scan: &Scan) -> [Option<(usize, String)>; 2] {
     [tokens.next(), tokens.next()]
 }
 
-fn scan(text: &[u8], is_brief: bool) -> Scan {
+fn scan(text: &[u8], language: Language) -> Scan {
     let mut scan = Scan { lines: Vec::new(), refusal: None };
     let mut words: Vec<String> = Vec::new();
     for (k, bytes) in text.split(|byte| *byte == b'\n').enumerate() {
         let mut line = Line::default();
-        let refusal = scan_line(bytes, is_brief, &mut words, &mut line);
+        let refusal = scan_line(bytes, language, &mut words, &mut line);
         scan.lines.push(line);
         if let Some(code) = refusal {
             scan.refusal = Some(format!("{code} line {}", k + 1));
@@ -160,19 +173,13 @@ fn scan(text: &[u8], is_brief: bool) -> Scan {
     scan
 }
 
-fn scan_line(bytes: &[u8], is_brief: bool, words: &mut Vec<String>, line: &mut Line) -> Option<&'static str> {
+fn scan_line(bytes: &[u8], language: Language, words: &mut Vec<String>, line: &mut Line) -> Option<&'static str> {
     let mut rest = bytes;
+    let is_brief = language != Language::Plan;
     loop {
         let gap = rest.iter().take_while(|byte| b" \t\r".contains(byte)).count();
         if line.tokens.is_empty() {
-            line.margin = rest[..gap]
-                .iter()
-                .map(|byte| match byte {
-                    b' ' => 1,
-                    b'\t' => 2,
-                    _ => 0,
-                })
-                .sum();
+            line.margin = width_of(&rest[..gap]);
         }
         rest = &rest[gap..];
         let first = *rest.first()?;
@@ -184,11 +191,15 @@ fn scan_line(bytes: &[u8], is_brief: bool, words: &mut Vec<String>, line: &mut L
             b'#' => {
                 let comment = String::from_utf8_lossy(rest);
                 line.comment = Some(comment.trim_end_matches([' ', '\t', '\r']).to_owned());
-                return (!rest.is_ascii()).then_some("P1");
+                return (!rest.is_ascii() && language != Language::Board).then_some("P1");
             }
             b';' => 1,
             b'(' | b')' | b'*' if is_brief => 1,
             _ if is_part(&first) => rest.iter().take_while(|byte| is_part(byte)).count(),
+            b'"' if language == Language::Board => match string_length(rest) {
+                Some(length) => length,
+                None => return Some("P3"),
+            },
             128.. => return Some("P1"),
             _ => return Some("P3"),
         };
@@ -197,6 +208,21 @@ fn scan_line(bytes: &[u8], is_brief: bool, words: &mut Vec<String>, line: &mut L
         line.tokens.push(Token { text, gap, number: 0 });
         rest = &rest[len..];
     }
+}
+
+fn width_of(blanks: &[u8]) -> usize {
+    let width = |byte: &u8| match byte {
+        b' ' => 1,
+        b'\t' => 2,
+        _ => 0,
+    };
+    blanks.iter().map(width).sum()
+}
+
+// How long the string is that stands first, with its quotes.
+fn string_length(bytes: &[u8]) -> Option<usize> {
+    let inside = bytes[1..].iter().take_while(|byte| (b' '..=b'~').contains(byte) && !b"\"\\".contains(byte)).count();
+    (bytes.get(inside + 1) == Some(&b'"')).then_some(inside + 2)
 }
 
 // The lines with the numbers of their tokens, and which of them are inner lines.
@@ -249,6 +275,7 @@ fn code_of(line: &Line, blanks: usize) -> String {
         let count = match before {
             None | Some("(" | "*") => 0,
             _ if [")", "*"].contains(&token.text.as_str()) => 0,
+            Some("wr" | "rd") if token.text == "(" => 0,
             _ if k == 2 => blanks,
             _ => 1,
         };

@@ -6,6 +6,8 @@
 
 pub mod before;
 mod benches;
+#[cfg(test)]
+mod board_tests;
 mod briefs;
 pub mod bytes;
 pub mod captures;
@@ -21,6 +23,8 @@ pub mod groups;
 pub mod layouts;
 pub mod learned;
 pub mod lines;
+mod meanings;
+mod messages;
 mod order;
 mod pairs;
 mod participants;

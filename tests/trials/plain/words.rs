@@ -1,5 +1,5 @@
-//! The words of a plan text or of a brief, each with its line (docs/PLANS.md, "Plan tokens" and
-//! "Brief tokens").
+//! The words of a plan text or of a brief, each with its line (docs/PLANS.md, "Plan tokens",
+//! "Brief tokens" and "Tokens of brief 2").
 //!
 //! The first byte that is not ASCII is refused, and nothing after it is looked at. So bytes that
 //! are no UTF-8 may come as any characters that are not ASCII.
@@ -47,24 +47,30 @@ impl Word<'_> {
     }
 }
 
-/// Which of the two languages a text is in.
+/// Which language a text is in: that of plans, or one of the two versions of briefs.
 #[derive(Clone, Copy, Debug, PartialEq, Eq)]
 pub enum Language {
     Plan,
     Brief,
+    Board,
 }
 
-/// Words that are no names, in both languages.
+/// Words that are no names, in all of them.
 const RESERVED: [&str; 10] =
     ["plan", "message", "controller", "interrupt", "write", "read", "again", "else", "stop", "never"];
 
 /// Words that are no names of a brief either.
 const RESERVED_IN_BRIEFS: [&str; 4] = ["brief", "device", "byte", "any"];
 
+/// Words that are no names of a brief of the second version either.
+const RESERVED_IN_BOARDS: [&str; 8] = ["with", "group", "extend", "but", "wr", "rd", "pec", "sum"];
+
 impl Language {
     /// Whether a plan, or a brief, may have this name.
     pub fn is_name(self, text: &str) -> bool {
-        let is_reserved = RESERVED.contains(&text) || self == Language::Brief && RESERVED_IN_BRIEFS.contains(&text);
+        let is_reserved = RESERVED.contains(&text)
+            || self != Language::Plan && RESERVED_IN_BRIEFS.contains(&text)
+            || self == Language::Board && RESERVED_IN_BOARDS.contains(&text);
         text.starts_with(|first: char| first.is_ascii_alphabetic())
             && text.chars().all(|c| c.is_ascii_alphanumeric() || c == '_')
             && text.len() <= 32
@@ -75,7 +81,7 @@ impl Language {
     fn signs(self) -> &'static [char] {
         match self {
             Language::Plan => &[';'],
-            Language::Brief => &[';', '(', ')', '*'],
+            Language::Brief | Language::Board => &[';', '(', ')', '*'],
         }
     }
 
@@ -84,7 +90,7 @@ impl Language {
     fn has_dots(self, before: &[Word]) -> bool {
         match self {
             Language::Plan => before.get(1).is_some_and(|version| version.is("2")),
-            Language::Brief => true,
+            Language::Brief | Language::Board => true,
         }
     }
 
@@ -93,12 +99,24 @@ impl Language {
         if let Some(sign) = text.get(..1).filter(|_| text.starts_with(self.signs())) {
             return sign;
         }
+        if self == Language::Board && text.starts_with('"') {
+            return string_in(text);
+        }
         let has_dots = self.has_dots(before);
-        let has_strokes = self == Language::Brief;
+        let has_strokes = self != Language::Plan;
         let is_in_word =
             |c: char| c.is_ascii_alphanumeric() || c == '_' || has_dots && c == '.' || has_strokes && c == '/';
         let rest = text.trim_start_matches(is_in_word);
         text.strip_suffix(rest).unwrap_or(text)
+    }
+}
+
+// The string with which this text begins, with its quotes, or an empty one.
+fn string_in(text: &str) -> &str {
+    let is_part = |c: char| (' '..='~').contains(&c) && c != '\\' && c != '"';
+    match text[1..].split_once('"') {
+        Some((inside, _)) if inside.chars().all(is_part) => &text[..inside.len() + 2],
+        _ => "",
     }
 }
 
@@ -123,19 +141,9 @@ impl<'a> Reading<'a> {
         Reading { language, words, at: 0, ending }
     }
 
-    /// These words of a brief, of which none has been read.
-    pub fn of(words: Vec<Word<'a>>) -> Reading<'a> {
-        Reading { language: Language::Brief, words, at: 0, ending: Ok(0) }
-    }
-
-    /// How many words have been read.
-    pub fn place(&self) -> usize {
-        self.at
-    }
-
-    /// The words from this place on that have been read.
-    pub fn words_from(&self, place: usize) -> Vec<Word<'a>> {
-        self.words[place..self.at].to_vec()
+    /// The language of the text.
+    pub fn language(&self) -> Language {
+        self.language
     }
 
     /// Whether all words have been read.
@@ -201,12 +209,16 @@ impl<'a> Reading<'a> {
 
 // The words of a line, and the refusal of the first character that cannot stand there.
 fn push_words<'a>(words: &mut Vec<Word<'a>>, content: &'a str, line: usize, language: Language) -> Result<(), Refusal> {
-    let (mut rest, comment) = content.split_once('#').unwrap_or((content, ""));
+    let mut rest = content;
     loop {
         rest = rest.trim_start_matches([' ', '\t', '\r']);
         let Some(next) = rest.chars().next() else {
-            break;
+            return Ok(());
         };
+        if next == '#' {
+            let is_allowed = rest.is_ascii() || language == Language::Board;
+            return if is_allowed { Ok(()) } else { Err(Refusal { code: 1, line }) };
+        }
         let text = language.first_word(rest, words);
         if text.is_empty() {
             let code = if next.is_ascii() { 3 } else { 1 };
@@ -214,11 +226,6 @@ fn push_words<'a>(words: &mut Vec<Word<'a>>, content: &'a str, line: usize, lang
         }
         words.push(Word { text, line });
         rest = rest.strip_prefix(text).unwrap_or("");
-    }
-    if comment.is_ascii() {
-        Ok(())
-    } else {
-        Err(Refusal { code: 1, line })
     }
 }
 

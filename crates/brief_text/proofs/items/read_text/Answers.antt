@@ -5,9 +5,9 @@ use Rattle.plan_text.specs.Places.{Refuses}
 use Rattle.plan_text.specs.declared.errors.PlanError.{PlanError}
 use Rattle.brief_text.specs.Briefs.{items_in}
 use Rattle.brief_text.specs.Drafts.{Draft}
-use Rattle.brief_tokens.specs.Reading.{left}
+use Rattle.brief_tokens.specs.Reading.{left, letters_of}
 use Rattle.brief_text.specs.Standing.{draft}
-use Rattle.brief_text.proofs.TextLemmas.{text_from, text_refused}
+use Rattle.brief_text.proofs.TextLemmas.{start, text_from, text_refused}
 use Rattle.brief_text.proofs.items.read_text.Goals as goal
 
 pub returns-in_err-tokens-clause-refused : goal.returns-in_err-tokens-clause-refused
@@ -19,13 +19,15 @@ pub returns-in-Ok-clause-read : goal.returns-in-Ok-clause-read
 returns-in-Ok-clause-read c =
     let text = c.args.text.now in
     let plan = draft c.args.board.now in
-    text_from text plan (left c.in_ok-tokens.tokens) c.in_ok-tokens.ensures.rest
-    ∙ sym (ap (items_in (length text) plan) c.new-source.ensures) ∙ c.in-Ok.ensures
+    text_from text plan (letters_of c.in_ok-tokens.tokens, left c.in_ok-tokens.tokens) c.in_ok-tokens.ensures.rest
+    ∙ ap (λ l. items_in l (length text) plan (start (left c.in_ok-tokens.tokens))) (sym c.letters-letters.ensures)
+    ∙ sym (ap (items_in c.letters-letters.result (length text) plan) c.new-source.ensures) ∙ c.in-Ok.ensures
 
 pub returns-in-Err-clause-refused : goal.returns-in-Err-clause-refused
 returns-in-Err-clause-refused c =
     let text = c.args.text.now in
     let plan = draft c.args.board.now in
-    let whole = text_from text plan (left c.in_ok-tokens.tokens) c.in_ok-tokens.ensures.rest
-    ∙ sym (ap (items_in (length text) plan) c.new-source.ensures) in
+    let whole = text_from text plan (letters_of c.in_ok-tokens.tokens, left c.in_ok-tokens.tokens) c.in_ok-tokens.ensures.rest
+    ∙ ap (λ l. items_in l (length text) plan (start (left c.in_ok-tokens.tokens))) (sym c.letters-letters.ensures)
+    ∙ sym (ap (items_in c.letters-letters.result (length text) plan) c.new-source.ensures) in
     rw c.refusal-refused.ensures (subst (λ (r : Result Draft PlanError). Refuses r c.in-Err.error) (sym whole) c.in-Err.ensures)

@@ -3,7 +3,6 @@ use Rattle.plan_core.specs.PlanContents.{plan_contents}
 use Rattle.spellings.specs.Spellings.{Abbreviated, GivesNoBrief}
 use Rattle.run_parts.specs.Runs.{ReadsText, HaltsAtText, unread, refused}
 use Rattle.run_parts.specs.RunErrors.{run_error, brief_error}
-use Rattle.run_parts.specs.declared.runs.Status.TheVariants as status
 use Rattle.spellings.proofs.SpellingLemmas.{abbreviates, refuses_plan_to_brief, gives_no_brief}
 use Rattle.run_parts.proofs.RunLemmas.{halting_stops, writing_reports, writing_stops}
 use Rattle.spellings.proofs.runs.run_brief.Goals as goal

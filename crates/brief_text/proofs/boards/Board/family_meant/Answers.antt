@@ -2,7 +2,7 @@ use Rattle.std.proofs.Common.{rules, ◌≡◌, ℕ, List, ◌+◌, [], map, len
 use Rattle.std.proofs.lemmas.List.{map_push}
 use Rattle.message_tree.specs.Trees.{FrameTree, frame_tree}
 use Rattle.plan_core.specs.NameBytes.{name_bytes}
-use Rattle.brief_text.specs.Drafts.{lengths, member_name, member_meant}
+use Rattle.brief_text.specs.Drafts.{lengths, member_name, member_meant, frame_on}
 use Rattle.brief_text.specs.Meanings.{message_of}
 use Rattle.brief_text.specs.Standing.{draft, brief_frame}
 use Rattle.brief_text.proofs.LoopLemmas.{with_rest, none_done, one_more, all_done}
@@ -26,7 +26,8 @@ loop-k-preserved c =
     let at = c.args.range.least + c.loop-k.k in
     let done = map message_of c.loop-k.messages.items in
     let items = ap (map message_of) c.in_ok-push.ensures.items ∙ map_push message_of c.loop-k.messages.items _ in
-    let is = ap (λ name. named_tree name (frame_tree c.in_ok-frame.frame)) c.in_ok-name.ensures ∙ ap (named_tree (member_name (name_bytes c.args.name.now) at)) c.in_ok-frame.ensures in
+    let tree = c.in_ok-frame.ensures ∙ ap (frame_on (draft c.args.self.now) at (brief_frame c.args.frames.now)) c.at_start.ensures in
+    let is = ap (λ name. named_tree name (frame_tree c.in_ok-frame.frame)) c.in_ok-name.ensures ∙ ap (named_tree (member_name (name_bytes c.args.name.now) at)) tree in
     ap (λ d. with_rest f c.args.range.least n d (c.loop-k.k + 1)) items
     ∙ one_more f c.args.range.least n done c.loop-k.k _ (omega (arith, c.loop-k-test.true, c.count-k-end.ensures.count)) is
     ∙ c.loop-k.invariant

@@ -22,3 +22,6 @@ decreases-following l = 4 * l.room.bytes + 2
 
 abbrev pub decreases-refused : goal.decreases-refused
 decreases-refused l = 4 * l.room.bytes + 2
+
+abbrev pub decreases-made : goal.decreases-made
+decreases-made l = 4 * l.room.bytes

@@ -1,8 +1,6 @@
-use Rattle.std.proofs.Common.{ap}
 use Rattle.lexer.specs.Lexemes.{briefs}
-use Rattle.brief_tokens.specs.Tokens.{tokens_from, tokens_of}
+use Rattle.brief_tokens.proofs.TokenLemmas.{left_briefs}
 use Rattle.brief_tokens.proofs.tokens.Tokens.new.Goals as goal
 
-pub returns : goal.returns
-unfolding tokens_of
-returns c = ap tokens_from (c.new.ensures.whole briefs)
+pub returns-clause-tokens : goal.returns-clause-tokens
+returns-clause-tokens c = left_briefs c.new.result.letters _ _ _ _ c.new.ensures.letters (c.new.ensures.whole briefs)

@@ -1,9 +1,5 @@
-use Rattle.std.proofs.Common.{ap, sym, ◌∙◌}
-use Rattle.lexer.specs.Lexemes.{briefs}
-use Rattle.lexer.specs.Reading as lexemes
-use Rattle.brief_tokens.specs.Tokens.{tokens_from, tokens_of}
+use Rattle.brief_tokens.proofs.TokenLemmas.{taken}
 use Rattle.brief_tokens.proofs.tokens.Tokens.next.Goals as goal
 
-pub returns : goal.returns
-unfolding tokens_of
-returns c = ap tokens_from (c.next.ensures.lexemes briefs (sym c.args.self.now.is_brief)) ∙ c.of.ensures (lexemes.left_of briefs c.next.new.self)
+pub returns-clause-token : goal.returns-clause-token
+returns-clause-token c = taken c.args.self.now.lexer.letters c.next.new.self.letters _ _ _ _ c.next.result c.of.result c.next.ensures.lexemes c.of.ensures c.args.self.now.is_brief c.next.ensures.letters

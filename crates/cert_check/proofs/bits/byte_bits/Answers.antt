@@ -1,6 +1,0 @@
-use Rattle.message_tree.specs.Patterns.{pattern_bits}
-use Rattle.cert_check.proofs.bits.byte_bits.Goals as goal
-
-pub returns : goal.returns
-unfolding pattern_bits
-returns c = cc

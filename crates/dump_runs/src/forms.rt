@@ -1,0 +1,93 @@
+// The forms of transactions that are no exact lines: sinks that end by what they have told.
+
+use crate::driven::decode_with;
+use capture_check::{Beside, Rises};
+use decoding::{Ending, ExplainedSink, Explaining, TransactionSink};
+use dump_findings::Selection;
+use dump_objects::{CaptureObjects, DecodeObjects};
+use dump_tokens::Quiet;
+use plan_core::Plan;
+use run_parts::{Input, Output, RunError};
+use signals::Dump;
+use std::alloc::Global;
+use std::thread::Threads;
+use transaction_lines::{CaptureLines, DecodeLines};
+
+/// A form of transactions in bytes.
+pub(crate) trait DecodeForm: TransactionSink + Drop {
+    /// Writes what is left, and says what was told.
+    fn told(self) -> Result<Selection, RunError>;
+}
+
+impl<O: Output> DecodeForm for DecodeLines<'_, O> {
+    fn told(self) -> Result<Selection, RunError> {
+        self.finish()
+    }
+}
+
+impl<O: Output> DecodeForm for DecodeObjects<'_, O> {
+    fn told(self) -> Result<Selection, RunError> {
+        self.finish()
+    }
+}
+
+/// Writes the transactions of the dump in this form, beside who is there.
+pub(crate) fn decode_to<J: Input, S: DecodeForm, B: Beside>(
+    alloc: Global,
+    dump: &mut Dump<'_, '_, J>,
+    mut form: S,
+    beside: &mut Option<B>,
+) -> Result<(Selection, Rises), RunError>
+    requires { S.needs }
+{
+    let ending = decode_with(alloc, dump, &mut form, beside)?;
+    Ok((form.told()?, ending.rises))
+}
+
+/// A form of transactions with who explains them. It may stop by itself.
+pub(crate) trait CaptureForm: ExplainedSink + Drop {
+    /// Writes what is left once the dump has ended, or no more of it is read, and says what was told.
+    fn told(self, quiet: Quiet, ended: Result<Ending, RunError>) -> Result<Selection, RunError>;
+}
+
+impl<O: Output> CaptureForm for CaptureLines<'_, '_, O> {
+    fn told(self, quiet: Quiet, ended: Result<Ending, RunError>) -> Result<Selection, RunError> {
+        match ended {
+            Ok(ending) => self.finish(quiet, ending),
+            Err(error) => self.stop(error),
+        }
+    }
+}
+
+impl<O: Output> CaptureForm for CaptureObjects<'_, '_, O> {
+    fn told(self, _quiet: Quiet, ended: Result<Ending, RunError>) -> Result<Selection, RunError> {
+        match ended {
+            Ok(ending) => self.finish(ending),
+            Err(error) => self.stop(error),
+        }
+    }
+}
+
+/// Writes the transactions of the dump, explained by the plan, in this form, beside who is there.
+pub(crate) fn capture_to<R: AllocGlobal + Threads + Sync, J: Input, S: CaptureForm, B: Beside>(
+    rt: &R,
+    plan: &Plan,
+    dump: &mut Dump<'_, '_, J>,
+    form: S,
+    beside: &mut Option<B>,
+) -> Result<(Selection, Rises), RunError> {
+    let alloc = rt.alloc();
+    let mut explaining = Explaining {
+        rt,
+        alloc,
+        plan,
+        sink: form,
+    };
+    let ended = decode_with(alloc, dump, &mut explaining, beside);
+    let rises = match &ended {
+        Ok(ending) => ending.rises,
+        Err(_) => Rises::NONE,
+    };
+    let Explaining { sink, .. } = explaining;
+    Ok((sink.told(dump.quiet(), ended)?, rises))
+}

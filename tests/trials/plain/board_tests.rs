@@ -1,0 +1,167 @@
+//! The rows of docs/PLANS.md on the second version of briefs.
+
+use super::briefs::expansion_of;
+use super::commands::{expand, spelling, File};
+use super::layouts::laid_out;
+use super::meanings::packet_error_code;
+use crate::boards::made_up_board;
+use crate::dice::Dice;
+use crate::slips::{PRELUDE, SLIPS};
+
+// The blocks of PLANS.md with a brief and the plan that it means: those of its section.
+#[test]
+fn the_example_means_its_plan() {
+    let page = include_str!("../../../docs/PLANS.md");
+    let section = page.split("\n## Brief 2\n").nth(1).expect("the section");
+    let mut blocks = section.split("```");
+    let mut block = |language: &str| {
+        let block = blocks.nth(1).expect("a block");
+        block.strip_prefix(language).expect("its language").trim_start_matches('\n').to_owned()
+    };
+    let (brief, plan) = (block("brief"), block("plan"));
+    assert_eq!(expanded(&brief), Ok(plan));
+}
+
+fn expanded(text: &str) -> Result<String, String> {
+    let answer = expand(&[File { name: "brief", text: text.as_bytes() }]);
+    if answer.status == 0 {
+        Ok(answer.out)
+    } else {
+        Err(answer.refusal)
+    }
+}
+
+// The data bytes of a message, each with its `else` left out, that stand behind these words.
+fn bytes(item: &str) -> Vec<String> {
+    let brief = format!("brief 2\nmessage {item} ;");
+    let plan = expanded(&brief).expect(&brief);
+    let is_byte = |word: &&str| word.len() == 8 && word.chars().all(|c| "01x".contains(c));
+    let shown = |word: &str| match u8::from_str_radix(word, 2) {
+        Ok(byte) => format!("{byte:02X}"),
+        Err(_) => word.replace("xxxxxxxx", "any"),
+    };
+    plan.split_whitespace().filter(is_byte).map(shown).collect()
+}
+
+#[test]
+fn derived_bytes_follow_from_the_path() {
+    assert_eq!(packet_error_code(b"123456789"), 0xF4);
+    let rows = [
+        ("m write 0x50 pec", "69"),
+        ("m write 0x50 0x10 0x5A pec", "10 5A 9E"),
+        ("m write 0x50 0x10 0x5A pec pec", "10 5A 9E 00"),
+        ("m write 0x58 0x21 0x00 0x18 pec", "21 00 18 F8"),
+        ("m write 0x08 wr(0x50) 0x34 0x12 pec", "A0 34 12 FC"),
+        ("m write 0x50 write 0x08 pec", "68"),
+        ("m write 0x50 any pec", "any any"),
+        ("m write 0x50 0x10 read 0x50 1 write 0x50 pec sum sum", "10 any any 00"),
+        ("m read 0x50 1 else (write 0x50 pec)", "64"),
+        ("m write 0x50 0x10 else (write 0x50 pec) 0x5A", "10 5A 76"),
+        // the tail of the last copy stands first
+        ("m write 0x50 0x01*3 else (write 0x50 pec)", "01 01 01 F2 E8 34"),
+        ("m write 0x10 0x18 sum 0x81 0x04 0x01 sum", "18 C8 81 04 01 7A"),
+        ("m write 0x39 0xB8 sum wr(0x10) 0x00 0x01 any sum", "B8 D6 20 00 01 any any"),
+        ("m write 0x50 sum sum", "60 00"),
+        ("m write 0x2X sum pec", "any any"),
+        ("m write 0x20 rd(0x1X)", "001xxxx1"),
+        ("m write 0x20 sum else (write 0x50 sum)", "C0 60"),
+        ("m write 0x50 0x01*1..2 pec", "01 1F 01 01 5A"),
+        ("m write 0x50 0x01*0..1 else (write 0x50 pec) sum", "60 01 5F 34"),
+        ("m write 0x50 any pec sum sum", "any any any 00"),
+        ("m write 0x50 wr(0x1X) pec", "001xxxx0 any"),
+    ];
+    for (item, wanted) in rows {
+        assert_eq!(bytes(item).join(" "), wanted, "{item}");
+    }
+}
+
+#[test]
+fn slips_that_are_planted_are_refused() {
+    for (code, item) in SLIPS {
+        let text = format!("brief 2 {PRELUDE}\n{item}\n@");
+        assert_eq!(expanded(&text), Err(format!("{code} line 2")), "{item}");
+    }
+}
+
+// Most boards without a slip have a plan, and slips that are planted are told.
+#[test]
+fn boards_that_are_made_up_have_plans() {
+    let mut dice = Dice { state: 20_261_129 };
+    let (mut plans, mut whole, mut told, mut slips) = (0, 0, 0, 0);
+    for _ in 0..2_000 {
+        let board = made_up_board(&mut dice);
+        let texts: Vec<_> = board.briefs.iter().map(|brief| String::from_utf8_lossy(brief)).collect();
+        let found = expansion_of(&texts);
+        match board.slip {
+            None => {
+                whole += 1;
+                plans += usize::from(found.is_ok());
+                found.iter().for_each(|plan| assert_ne!(spelling(plan.as_bytes()), "", "{texts:?}"));
+            }
+            Some(slip) => {
+                slips += 1;
+                told += usize::from(found.is_err_and(|(_, refusal)| format!("P{}", refusal.code) == SLIPS[slip].0));
+            }
+        }
+    }
+    assert!(plans * 3 > whole && told * 3 > slips, "{plans} of {whole} {told} of {slips}");
+}
+
+#[test]
+fn bytes_without_room_are_refused() {
+    for (text, wanted) in [
+        ("any*254\nwr\n(none)", Err("P5 line 3".to_owned())),
+        ("any*254\nrd(0x10)", Err("P5 line 3".to_owned())),
+        ("any*254\npec", Err("P5 line 3".to_owned())),
+        ("any*254\nsum", Err("P5 line 3".to_owned())),
+    ] {
+        let text = text.replace("any*254", "any*255");
+        assert_eq!(expanded(&format!("brief 2\nmessage m write 0x20 {text}")), wanted, "{text}");
+    }
+}
+
+#[test]
+fn texts_of_both_versions_make_up_a_board() {
+    let second = "# \u{b0}C\nbrief 2 device a 0x21 ; message m write a 0x01*1..2 ;";
+    let wanted = "plan 1\nmessage m_1 write 0100001 00000001 stop else stop else stop ;\n\
+        message m_2 write 0100001 00000001 00000001 stop else stop else stop else stop ;\ncontroller wr m_1 m_2 ;\n";
+    assert_eq!(
+        expansion_of(&[second, "brief 1 controller wr m ;"]).map(|plan| spelling(plan.as_bytes())),
+        Ok(wanted.into())
+    );
+    let words = "brief 1 device sum 0x30 ; byte pec 0x40 ; message rd write sum pec ; controller group rd ;";
+    let wanted = "plan 1\nmessage rd write 0110000 01000000 stop else stop else stop ;\ncontroller group rd ;\n";
+    assert_eq!(expansion_of(&[words, "brief 2"]).map(|plan| spelling(plan.as_bytes())), Ok(wanted.into()));
+    let refused = expansion_of(&[words, "brief 2 controller c\nrd ;"]).map_err(|(_, refusal)| refusal.to_string());
+    assert_eq!(refused, Err("P3 line 2".into()));
+    let rows = [
+        ("brief 1 device a", "P7 line 1"),
+        ("brief 1 extend wr m ;", "P3 line 1"),
+        ("brief 1 message k write 0x20 pec ;", "P8 line 1"),
+        ("brief 1 message k write 0x20 wr(a) ;", "P8 line 1"),
+        ("# \u{b0}C\nbrief 1", "P1 line 1"),
+        ("# \u{b0}C\nbrief 3", "P1 line 1"),
+        ("brief 3", "P2 line 1"),
+        ("brief 2.", "P2 line 1"),
+        ("brief \"2\"", "P3 line 1"),
+        ("brief 2\n\u{b0}", "P1 line 2"),
+    ];
+    for (text, refusal) in rows {
+        let found = expansion_of(&[second, text]).map_err(|(number, refusal)| (number, refusal.to_string()));
+        assert_eq!(found, Err((1, refusal.to_owned())), "{text}");
+    }
+}
+
+#[test]
+fn the_second_version_is_laid_out() {
+    let text = "# \u{b5}s\nbrief 2\ngroup g  a b ; #\u{b0}C\ngroup longer a ;\nmessage m write 0x20 wr ( g ) rd (0x10)*2 \"a # b\" ;";
+    let wanted = "# \u{b5}s\nbrief 2\ngroup g      a b ;  #\u{b0}C\ngroup longer a ;\n\
+        message m write 0x20 wr(g) rd(0x10)*2 \"a # b\" ;\n";
+    assert_eq!(laid_out(text.as_bytes()), Ok(wanted.to_owned()));
+    assert_eq!(laid_out(wanted.as_bytes()), Ok(wanted.to_owned()));
+    for (text, refusal) in
+        [("brief 2\n\"a", "P3 line 2"), ("brief 2 \"\\\"", "P3 line 1"), ("brief 1 # \u{b0}", "P1 line 1")]
+    {
+        assert_eq!(laid_out(text.as_bytes()), Err(refusal.to_owned()), "{text}");
+    }
+}

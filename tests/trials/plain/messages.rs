@@ -1,0 +1,288 @@
+//! The messages of briefs, read word by word: their frames, or their first refusal
+//! (docs/PLANS.md, "Brief grammar" and "Grammar of brief 2").
+//!
+//! A message is judged as it is read: what it makes at its range, and its bytes as they come. What it means is written
+//! from its frames (`meanings`).
+
+use super::briefs::Board;
+use super::plans::{read_count, MOST_BYTES, MOST_MESSAGES, MOST_NODES};
+use super::words::{has_form, number, Language, Reading, Refusal, Word, BITS};
+
+/// A frame of a message, and the frames after a header that is not acknowledged, if there are any.
+#[derive(Clone, Debug)]
+pub struct Frame {
+    /// The bits of its address.
+    pub to: String,
+    pub refused: Option<Vec<Frame>>,
+    pub form: Form,
+}
+
+#[derive(Clone, Debug)]
+pub enum Form {
+    Write(Vec<Byte>),
+    /// What is read, as its count in a plan.
+    Read(String),
+}
+
+/// A data byte, how often it stands there, and the frames after each that is not acknowledged, if there are any.
+#[derive(Clone, Debug)]
+pub struct Byte {
+    pub what: What,
+    pub times: Times,
+    pub refused: Option<Vec<Frame>>,
+}
+
+#[derive(Clone, Debug)]
+pub enum What {
+    Bits(String),
+    Code,
+    Sum,
+}
+
+#[derive(Clone, Copy, Debug)]
+pub enum Times {
+    Number(u32),
+    /// The number of the message's range.
+    Range,
+}
+
+/// How many bytes the messages of a family have, one of each number.
+#[derive(Clone, Copy, Debug)]
+pub struct Range {
+    pub least: u32,
+    pub greatest: u32,
+}
+
+/// A message that is read.
+pub struct Message<'a> {
+    board: &'a Board,
+    name: String,
+    pub range: Option<Range>,
+    // How many headers and data bytes it has in the plan, that of the most bytes in a family.
+    nodes: u32,
+}
+
+// Where a message is read: how many bytes stand on the path before what comes next, where it is longest, and in
+// how many copies that stands.
+#[derive(Clone, Copy)]
+struct Level {
+    path: u32,
+    copies: u32,
+}
+
+// How often a data byte may be repeated, and how many characters a name may have.
+const MOST_TIMES: u32 = 255;
+const MOST_CHARACTERS: usize = 32;
+
+impl Range {
+    /// The names of the messages of a family.
+    pub fn names(self, family: &str) -> Vec<String> {
+        (self.least..=self.greatest).map(|number| format!("{family}_{number}")).collect()
+    }
+}
+
+impl<'a> Message<'a> {
+    /// The frames of a message of this name, and the message.
+    pub fn read(board: &'a Board, name: &str, reading: &mut Reading) -> Result<(Vec<Frame>, Message<'a>), Refusal> {
+        let mut message = Message { board, name: name.into(), range: None, nodes: 0 };
+        let frames = message.read_frames(reading, Level { path: 0, copies: 1 })?;
+        Ok((frames, message))
+    }
+
+    fn read_frames(&mut self, reading: &mut Reading, mut level: Level) -> Result<Vec<Frame>, Refusal> {
+        let mut frames = vec![self.read_frame(reading, &mut level)?];
+        while reading.is_next("write") || reading.is_next("read") {
+            frames.push(self.read_frame(reading, &mut level)?);
+        }
+        Ok(frames)
+    }
+
+    fn read_frame(&mut self, reading: &mut Reading, level: &mut Level) -> Result<Frame, Refusal> {
+        let form = reading.next()?;
+        form.only_if(form.is("write") || form.is("read"), 3)?;
+        let word = reading.next()?;
+        let to = self.to(word, reading)?;
+        self.count_bytes(word, level, 1)?;
+        let header = *level;
+        if form.is("read") {
+            let (count, path) = read_count(reading, header.path)?;
+            level.path = path;
+            let refused = self.read_refused(reading, header)?;
+            return Ok(Frame { to, refused, form: Form::Read(count.to_string()) });
+        }
+        let refused = self.read_refused(reading, header)?;
+        let mut bytes = Vec::new();
+        while reading.peek().is_some_and(|text| !NO_DATA.contains(&text)) {
+            bytes.push(self.read_byte(reading, level)?);
+        }
+        Ok(Frame { to, refused, form: Form::Write(bytes) })
+    }
+
+    // An address, or a device.
+    fn to(&self, word: Word, reading: &Reading) -> Result<String, Refusal> {
+        bits_said(word, reading.language(), &self.board.devices, 7)
+    }
+
+    fn read_byte(&mut self, reading: &mut Reading, level: &mut Level) -> Result<Byte, Refusal> {
+        let word = reading.next()?;
+        let is_derived = reading.language() == Language::Board && DERIVED.contains(&word.text);
+        let (what, times) = if is_derived {
+            self.count_bytes(word, level, 1)?;
+            (self.read_derived(word, reading)?, Times::Number(1))
+        } else {
+            let bits = self.bits_of_byte(word, reading)?;
+            self.count_bytes(word, level, 1)?;
+            (What::Bits(bits), self.read_times(reading, level)?)
+        };
+        let copies = level.copies.saturating_mul(self.most(times));
+        let refused = self.read_refused(reading, Level { copies, ..*level })?;
+        Ok(Byte { what, times, refused })
+    }
+
+    fn bits_of_byte(&self, word: Word, reading: &Reading) -> Result<String, Refusal> {
+        match word.text {
+            "any" => Ok("x".repeat(8)),
+            _ => bits_said(word, reading.language(), &self.board.bytes, 8),
+        }
+    }
+
+    // What follows the first word of a byte that follows from others.
+    fn read_derived(&mut self, word: Word, reading: &mut Reading) -> Result<What, Refusal> {
+        match word.text {
+            "pec" => Ok(What::Code),
+            "sum" => Ok(What::Sum),
+            _ => {
+                reading.expect("(")?;
+                let to = reading.next()?;
+                let to = self.to(to, reading)?;
+                reading.expect(")")?;
+                Ok(What::Bits(to + if word.is("wr") { "0" } else { "1" }))
+            }
+        }
+    }
+
+    // How often a data byte stands there: once, or as often as the number after `*` says, or as one of a range.
+    fn read_times(&mut self, reading: &mut Reading, level: &mut Level) -> Result<Times, Refusal> {
+        if !reading.takes("*") {
+            return Ok(Times::Number(1));
+        }
+        let word = reading.next()?;
+        let times = match number(word.text) {
+            Some(times) => {
+                word.only_if(0 < times && times <= MOST_TIMES, 4)?;
+                Times::Number(times)
+            }
+            None => self.read_range(word)?,
+        };
+        self.count_bytes(word, level, self.most(times) - 1)?;
+        Ok(times)
+    }
+
+    fn read_range(&mut self, word: Word) -> Result<Times, Refusal> {
+        let (least, greatest) = word.text.split_once("..").ok_or(word.refused(3))?;
+        let (least, greatest) = number(least).zip(number(greatest)).ok_or(word.refused(3))?;
+        word.only_if(self.range.is_none(), 3)?;
+        word.only_if(0 < greatest && greatest <= MOST_TIMES && least <= greatest, 4)?;
+        let range = Range { least, greatest };
+        self.range = Some(range);
+        let names = range.names(&self.name);
+        word.only_if(names.iter().all(|name| name.len() <= MOST_CHARACTERS), 3)?;
+        word.only_if(!names.iter().any(|name| self.board.has_message(name)), 7)?;
+        word.only_if(self.board.messages.len() + names.len() <= MOST_MESSAGES, 6)?;
+        Ok(Times::Range)
+    }
+
+    // How often it stands there at most.
+    fn most(&self, times: Times) -> u32 {
+        match times {
+            Times::Number(times) => times,
+            Times::Range => self.range.map_or(1, |range| range.greatest),
+        }
+    }
+
+    // So many more bytes on the path of this level, each a node.
+    fn count_bytes(&mut self, word: Word, level: &mut Level, more: u32) -> Result<(), Refusal> {
+        level.path = level.path.saturating_add(more);
+        self.nodes = self.nodes.saturating_add(level.copies.saturating_mul(more));
+        word.only_if(level.path <= MOST_BYTES && self.nodes <= MOST_NODES, 5)?;
+        Ok(())
+    }
+
+    // The frames that follow where there is no acknowledge: none where a STOP does.
+    fn read_refused(&mut self, reading: &mut Reading, level: Level) -> Result<Option<Vec<Frame>>, Refusal> {
+        if !reading.takes("else") {
+            return Ok(None);
+        }
+        if reading.takes("(") {
+            let frames = self.read_frames(reading, level)?;
+            reading.expect(")")?;
+            return Ok(Some(frames));
+        }
+        reading.expect("stop")?;
+        Ok(None)
+    }
+}
+
+// Words that begin a byte that follows from others, in the second version.
+const DERIVED: [&str; 4] = ["wr", "rd", "pec", "sum"];
+
+// Words that begin no data byte, in either version.
+const NO_DATA: [&str; 15] = [
+    ";",
+    "(",
+    ")",
+    "*",
+    "brief",
+    "device",
+    "byte",
+    "message",
+    "controller",
+    "interrupt",
+    "never",
+    "write",
+    "read",
+    "else",
+    "stop",
+];
+
+// ---- bits
+
+/// A name for some bits, as a plan has them.
+pub struct Known {
+    pub name: String,
+    pub bits: String,
+}
+
+/// The bits that a word spells out or names.
+pub fn bits_said(word: Word, language: Language, known: &[Known], length: usize) -> Result<String, Refusal> {
+    if let Some(bits) = bits_of(word.text, length) {
+        return Ok(bits);
+    }
+    word.only_if(language.is_name(word.text), 3)?;
+    let found = known.iter().find(|one| one.name == word.text);
+    found.map(|one| one.bits.clone()).ok_or(word.refused(8))
+}
+
+/// The bits that a word spells out, as a plan has them.
+pub fn bits_of(word: &str, length: usize) -> Option<String> {
+    let bits = match word.strip_prefix("0b") {
+        Some(bits) => bits.to_string(),
+        None => bits_of_digits(word.strip_prefix("0x")?, length)?,
+    };
+    has_form(&bits, length, &BITS).then_some(bits)
+}
+
+// The bits of two digits. The first digit of an address has three.
+fn bits_of_digits(digits: &str, length: usize) -> Option<String> {
+    let bits: String = digits.chars().map(bits_of_digit).collect::<Option<_>>()?;
+    let (spare, rest) = bits.split_at_checked(bits.len().checked_sub(length)?)?;
+    (bits.len() == 8 && !spare.contains('1')).then(|| rest.to_string())
+}
+
+// The four bits of a digit.
+fn bits_of_digit(digit: char) -> Option<String> {
+    match digit {
+        'X' => Some("xxxx".into()),
+        _ => digit.to_digit(16).map(|value| format!("{value:04b}")),
+    }
+}
