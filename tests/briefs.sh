@@ -464,7 +464,6 @@ expect "a brief 2 laid out" 0 "$(cat power.brief)" "" format power.brief
 expect "its words laid out" 0 "brief 2
 message m write 0x10 wr(0x16) rd(0x16) pec sum ;  # µ" "" format - <<<'brief 2
 message m write 0x10 wr ( 0x16 )rd( 0x16) pec sum;# µ'
-expect "objects of a brief 2" 0 '{"kind":"plan","safe":true,"pairs":1,"unsafe_pairs":0}' "" check power.brief --format json
 printf 'brief 1\ncontroller third limit ;\nnever third/limit host ;\n' >third.brief
 expect "a brief 1 beside a brief 2" 0 "safe: 2 pairs" "" check power.brief --with third.brief
 expect "a plan behind a brief 2" 2 "" "refused P2 line 1 of power.plan" expand power.brief power.plan
@@ -481,15 +480,6 @@ call check unused.brief --hints always
 [[ $status == 0 ]] && grep -q 'unused.brief:2: ' err && ! grep -q 'unused.brief:3: ' err
 held "a device that 'rd' names is used" out err
 
-# shown LINE COLUMN REASON TEXT: the first line of the messages on a brief 2 that is refused.
-shown() {
-    printf 'brief 2\n%s\n' "$4" >this.brief
-    same "a message on: $4" "this.brief:$1:$2: error: $3" "$("$twire" check this.brief --format gcc 2>&1 | head -n 1)"
-}
-
-shown 2 30 "expected here: '(' [P3]" "message m write 0x10 0x11 wr 0x12 ;"
-shown 2 34 "expected here: ')' [P3]" "message m write 0x10 0x11 wr(0x12*2 ;"
-shown 2 9 "a brief is ASCII, but for the comments of a 'brief 2' [P1]" "message °"
 for word in with group extend but wr rd pec sum; do
     lines this.brief "brief 2" "controller" "$word ;"
     want 2 "" "refused P3 line 3

@@ -73,6 +73,8 @@ dump=$examples/stop_meets_data.vcd
 
 expect "an unsafe plan" 1 '{"kind":"pair","pair":0,"participants":["main/write_output","service/probe_10"],"meet":["data","stop"],"after":"00100000l"}
 {"kind":"plan","safe":false,"pairs":2,"unsafe_pairs":1}' "" check --format json "$stop"
+printf 'brief 2\nmessage id write 0x10 0x18 sum rd(0x58) pec ;\ncontroller a id ;\ncontroller b id ;\n' >id.brief
+expect "an object of a brief 2" 0 '{"kind":"plan","safe":true,"pairs":1,"unsafe_pairs":0}' "" check id.brief --format json
 expect "an unsafe plan, explained" 1 '{"kind":"pair","pair":0,"participants":["main/write_output","service/probe_10"],"meet":["data","stop"],"after":"00100000l","group":0}
 {"kind":"group","group":0,"pairs":1,"between":[["main/write_output","service/probe_10"]],"frame":0,"part":"data","example":{"pair":0,"participants":["main/write_output","service/probe_10"],"meet":["data","stop"],"after":"00100000l","explain":{"slot":9,"rule":"UM10204 3.1.8","bus":"S 10 Wr A","bytes":["S 10 Wr A xxxxxxxx","S 10 Wr A P"],"open":[[],[]]}},"explain":{"parting":[],"shape":true,"never":[],"unchecked":0}}
 {"kind":"plan","safe":false,"pairs":2,"unsafe_pairs":1,"explain":{"explained":1,"groups":1,"never":[],"unchecked":0,"interrupts":[],"unsent":[],"kept_apart":0}}' \

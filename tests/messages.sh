@@ -55,6 +55,17 @@ printf 'brief 1\nmessage a write 0x48 ;\ncontroller main fan ;\nmessage 2nd writ
 told "what a message names is not its name" 2 "" \
     "text:3:17: error: 'fan': no message before this place has this name; the nearest names of messages: a [P8]" check text
 
+# shown PLACE REASON TEXT: the first line of the messages on a 'brief 2' with this line.
+shown() {
+    printf 'brief 2\n%s\n' "$3" >text
+    call check text --format gcc
+    same "a brief 2: $3" "text:$1: error: $2" "$(head -n 1 err)"
+}
+
+shown 2:30 "expected here: '(' [P3]" "message m write 0x10 0x11 wr 0x12 ;"
+shown 2:34 "expected here: ')' [P3]" "message m write 0x10 0x11 wr(0x12*2 ;"
+shown 2:9 "a brief is ASCII, but for the comments of a 'brief 2' [P1]" "message °"
+
 # ---- refusals without a place in such a text
 
 told "a file that is missing" 2 "" "twire: error: none: no such file" check none
