@@ -15,7 +15,7 @@ use Rattle.plan_text.specs.Values.{address_by}
 use Rattle.brief_text.specs.declared.syntax.Lengths.{Lengths}
 use Rattle.brief_text.specs.Trees.{Said, spelled, named, Times, times, ranged, BriefFrame, write_to, read_from, BriefBytes}
 use Rattle.brief_text.specs.Trees.{data_byte, made_byte, no_more, BriefTail, stop_here, go_on, Made, header, packet_code, checksum}
-use Rattle.brief_text.specs.Trees.{Side, BriefItem, device, byte, message, controller, interrupt, never_both}
+use Rattle.brief_text.specs.Trees.{Side, BriefItem, device, byte, message, controller, extend, interrupt, never_both}
 use Rattle.brief_text.specs.Codes.{at_start, unknown, after_bits, header_bits, exactly, remaining}
 use Rattle.brief_text.specs.declared.codes.Path.{Path}
 use Rattle.std.specs.Option.{option_map}
@@ -186,6 +186,13 @@ with_label draft side = if is_new_label draft side then record draft { labels = 
 abbrev pub with_never_both : Draft → Side → Side → Draft
 with_never_both draft first second = record (with_label (with_label draft first) second) { nevers = draft.nevers ++ (first, second) ∷ [] }
 
+-- the controller of this name lists these messages as well, at the end
+abbrev pub extended : List ℕ → List (List ℕ) → List (List ℕ × List (List ℕ)) → List (List ℕ × List (List ℕ))
+extended name messages [] = []
+extended name messages (first ∷ controllers) =
+    if bytes_eq name first.0 then (first.0, first.1 ++ messages) ∷ controllers
+    else first ∷ extended name messages controllers
+
 -- the draft with an item
 unfoldable pub with_item : Draft → BriefItem → Draft
 with_item draft (device name address) = record draft { devices = draft.devices ++ (name, address) ∷ [] }
@@ -196,5 +203,7 @@ with_item draft (message name range frame) = record draft {
 }
 with_item draft (controller name messages) =
     record draft { controllers = draft.controllers ++ (name, flat_map (stands_for draft) messages) ∷ [] }
+with_item draft (extend name messages) =
+    record draft { controllers = extended name (flat_map (stands_for draft) messages) draft.controllers }
 with_item draft (interrupt name to) = record draft { plan = with_interrupt draft.plan name (number_said draft to) }
 with_item draft (never_both first second) = with_never_both draft first second

@@ -15,7 +15,7 @@ use Rattle.brief_tokens.specs.Tokens.{Token, keyword, word, sign, Tokens}
 use Rattle.brief_tokens.specs.Tokens as tokens
 use Rattle.brief_text.specs.Trees.{Said, spelled, named, Times, times, ranged, BriefFrame, write_to, read_from, BriefBytes}
 use Rattle.brief_text.specs.Trees.{data_byte, made_byte, no_more, BriefTail, stop_here, go_on, Made, header, packet_code, checksum}
-use Rattle.brief_text.specs.Trees.{BriefItem, device, byte, message, controller, interrupt, never_both}
+use Rattle.brief_text.specs.Trees.{BriefItem, device, byte, message, controller, extend, interrupt, never_both}
 use Rattle.brief_text.specs.Words.{address_by, data_by, any_byte, repetition_by, so_often, from_to, is_countable, is_range, side_by}
 
 -- tokens from one place of a text up to another
@@ -116,6 +116,7 @@ SpellsItem letters (device name address) = one (keyword keywords.Device) ▸ Spe
 SpellsItem letters (byte name bits) = one (keyword keywords.Byte) ▸ SpellsName name ▸ SpellsAs data_by bits ▸ end
 SpellsItem letters (message name range frame) = one (keyword keywords.Message) ▸ SpellsName name ▸ SpellsFrame range frame ▸ end
 SpellsItem letters (controller name messages) = one (keyword keywords.Controller) ▸ SpellsName name ▸ SpellsNames messages ▸ end
+SpellsItem letters (extend name messages) = one (keyword keywords.Extend) ▸ SpellsName name ▸ SpellsNames messages ▸ end
 SpellsItem letters (interrupt name to) = one (keyword keywords.Interrupt) ▸ SpellsName name ▸ SpellsTo to ▸ end
 SpellsItem letters (never_both first second) =
     one (keyword keywords.Never) ▸ SpellsAs (side_by letters) first ▸ SpellsAs (side_by letters) second ▸ end

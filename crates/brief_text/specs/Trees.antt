@@ -50,5 +50,6 @@ pub data BriefItem : Type 0 where
   byte : (name : List ℕ) (bits : Pattern) → BriefItem
   message : (name : List ℕ) (range : Option Lengths) (frame : BriefFrame) → BriefItem
   controller : (name : List ℕ) (messages : List (List ℕ)) → BriefItem
+  extend : (name : List ℕ) (messages : List (List ℕ)) → BriefItem
   interrupt : (name : List ℕ) (to : Said Address) → BriefItem
   never_both : (first second : Side) → BriefItem

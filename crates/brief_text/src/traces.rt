@@ -11,6 +11,7 @@ use plan_text::{Expected, PlanError, Refused};
 pub(crate) enum Wanted {
     Item,
     Name,
+    Controller,
     Sending,
     Party,
     Address,
@@ -95,6 +96,7 @@ impl Trace {
         match self.wanted {
             Wanted::Item => Expected::BriefItem,
             Wanted::Name => Expected::Name(self.item),
+            Wanted::Controller => Expected::Controller,
             Wanted::Sending => Expected::Sending,
             Wanted::Party => Expected::Party,
             Wanted::Address => Expected::BriefAddress,

@@ -152,12 +152,13 @@ fn part_of_keyword(keyword: Keyword) -> Part<'static> {
         Keyword::Device => Part::Item(ItemKind::Gives(Kind::Device)),
         Keyword::Byte => Part::Item(ItemKind::Gives(Kind::Byte)),
         Keyword::Message => Part::Item(ItemKind::Gives(Kind::Message)),
-        Keyword::Controller => Part::Item(ItemKind::Gives(Kind::Controller)),
+        // what adds to a controller has its name and those of messages, as the controller has
+        Keyword::Controller | Keyword::Extend => Part::Item(ItemKind::Gives(Kind::Controller)),
         Keyword::Interrupt => Part::Item(ItemKind::Gives(Kind::Interrupt)),
         Keyword::Never => Part::Item(ItemKind::Never),
         Keyword::Write | Keyword::Read => Part::Direction,
         Keyword::Brief | Keyword::Any | Keyword::Else | Keyword::Stop => Part::Other,
-        Keyword::With | Keyword::Group | Keyword::Extend | Keyword::But => Part::Other,
+        Keyword::With | Keyword::Group | Keyword::But => Part::Other,
         Keyword::Wr | Keyword::Rd | Keyword::Pec | Keyword::Sum => Part::Other,
     }
 }
