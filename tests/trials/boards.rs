@@ -35,6 +35,9 @@ const BYTES: [&str; 16] = [
 const NUMBERS: [(&str, &str); 7] =
     [("any*0..2", "0"), ("0x01*2..3", "3"), ("p * 0..1", "1"), ("q*007..8", "7"), ("", ""), ("", ""), ("", "")];
 
+// What begins the items that a brief of the first version may have as well.
+const OF_FIRST: [&str; 3] = ["controller", "interrupt", "never"];
+
 // Heads that are none.
 const HEADS: [&str; 6] = ["brief 3", "brief 2.", "brief", "", "brief \"2\"", "# \u{b0}C\nbrief 1"];
 
@@ -58,14 +61,32 @@ pub fn made_up_board(dice: &mut Dice) -> Board {
         controllers.push((name, lists));
     }
     items.push(dice.pick(&["interrupt t a ;", "interrupt t 0x0C ;", ""], "").to_owned());
+    for _ in 0..dice.index(3) {
+        items.push(extension(&mut controllers, &messages, dice));
+    }
     for _ in 0..dice.index(4) {
         items.push(never(&controllers, &messages, dice));
+    }
+    if dice.index(8) == 0 {
+        items.push(extension(&mut controllers, &messages, dice));
     }
     let slip = (dice.index(2) == 0).then(|| dice.index(SLIPS.len()));
     if let Some((_, item)) = slip.and_then(|slip| SLIPS.get(slip)) {
         items.insert(1 + dice.index(items.len()), (*item).to_owned());
     }
     Board { briefs: briefs_of(&items, dice), slip }
+}
+
+// What adds to a controller: mostly messages that it does not list.
+fn extension(controllers: &mut [(&str, Vec<String>)], messages: &[Vec<String>], dice: &mut Dice) -> String {
+    let (name, lists) = &mut controllers[dice.index(controllers.len())];
+    let is_listed = |names: &[String]| names.iter().any(|name| lists.contains(name));
+    let further: Vec<Vec<String>> =
+        messages.iter().filter(|names| !is_listed(names) || dice.index(40) == 0).cloned().collect();
+    let further = listed(&further, dice);
+    let item = format!("extend {name}{} ;", words(&further));
+    lists.extend(further);
+    item
 }
 
 // Two controllers, each with a label as often as not: of what it lists, or of what belongs to that.
@@ -101,7 +122,7 @@ fn briefs_of(items: &[String], dice: &mut Dice) -> Vec<Vec<u8>> {
     for left in (0..=dice.index(3)).rev() {
         let count = if left == 0 { rest.len() } else { 1 + dice.index(rest.len()) };
         let (first, others) = rest.split_at(count.min(rest.len()));
-        let is_plain = first.iter().all(|item| !item.starts_with("message") && !item.starts_with("device"));
+        let is_plain = first.iter().all(|item| OF_FIRST.iter().any(|word| item.starts_with(word)) || item.is_empty());
         let is_first = is_plain && dice.index(3) > 0;
         let head = if is_first { "brief 1" } else { "brief 2" };
         let head = if dice.index(40) == 0 { dice.pick(&HEADS, "") } else { head };

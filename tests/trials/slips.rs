@@ -5,7 +5,7 @@ pub const PRELUDE: &str = "device a 0x21 ; device b 0x23 ; device e 0b01x0110 ; 
     message k read 0x20 1 ; message l write 0x2X any*1..2 ; controller u k l ; controller v ;";
 
 /// The code of each, and the item, which ends with the token that is refused or soon after it.
-pub const SLIPS: [(&str, &str); 57] = [
+pub const SLIPS: [(&str, &str); 63] = [
     ("P1", "\u{b0}"),
     ("P1", "message n write 0x20 \u{b0}"),
     ("P3", "@"),
@@ -21,7 +21,6 @@ pub const SLIPS: [(&str, &str); 57] = [
     // words that are reserved
     ("P3", "with \"a.brief\" ;"),
     ("P3", "group x a b ;"),
-    ("P3", "extend u k ;"),
     ("P3", "but ;"),
     ("P3", "device with 0x30 ;"),
     ("P3", "byte group 0x30 ;"),
@@ -32,6 +31,14 @@ pub const SLIPS: [(&str, &str); 57] = [
     ("P3", "message n write 0x20 any but 0x01 ;"),
     ("P3", "controller n extend ;"),
     ("P3", "never u/group v ;"),
+    // what adds to a controller
+    ("P3", "extend ;"),
+    ("P3", "extend u/k ;"),
+    ("P3", "extend u k/l ;"),
+    ("P8", "extend none k ;"),
+    ("P8", "extend v none ;"),
+    ("P7", "extend u k ;"),
+    ("P7", "never v u ; extend u ;"),
     // those of bytes that follow from others
     ("P3", "pec ;"),
     ("P3", "brief 2"),

@@ -10,16 +10,16 @@ use crate::slips::{PRELUDE, SLIPS};
 
 // The blocks of PLANS.md with a brief and the plan that it means: those of its section.
 #[test]
-fn the_example_means_its_plan() {
+fn each_example_means_its_plan() {
     let page = include_str!("../../../docs/PLANS.md");
-    let section = page.split("\n## Brief 2\n").nth(1).expect("the section");
-    let mut blocks = section.split("```");
-    let mut block = |language: &str| {
-        let block = blocks.nth(1).expect("a block");
-        block.strip_prefix(language).expect("its language").trim_start_matches('\n').to_owned()
-    };
-    let (brief, plan) = (block("brief"), block("plan"));
-    assert_eq!(expanded(&brief), Ok(plan));
+    let section = page.split("\n## Brief 2\n").nth(1).expect("the section").split("\n## ").next().expect("its text");
+    let blocks: Vec<&str> = section.split("```").skip(1).step_by(2).collect();
+    assert!(blocks.len() >= 4);
+    for pair in blocks.chunks(2) {
+        let block = |place: usize, language| pair[place].strip_prefix(language).expect("its language").to_owned();
+        let (brief, plan) = (block(0, "brief\n"), block(1, "plan\n"));
+        assert_eq!(expanded(&brief), Ok(plan));
+    }
 }
 
 fn expanded(text: &str) -> Result<String, String> {
@@ -149,6 +149,43 @@ fn texts_of_both_versions_make_up_a_board() {
     for (text, refusal) in rows {
         let found = expansion_of(&[second, text]).map_err(|(number, refusal)| (number, refusal.to_string()));
         assert_eq!(found, Err((1, refusal.to_owned())), "{text}");
+    }
+}
+
+#[test]
+fn extensions_add_to_controllers() {
+    let board = "device a 0x21 ; message k write a ; message l write a any*1..2 ; message m read a 1 ; \
+        controller u k ; controller v ; controller w k ;";
+    let listed = |items: &str| {
+        let plan = expanded(&format!("brief 2 {board}\n{items}"))?;
+        let line = plan.lines().find(|line| line.starts_with("controller u")).expect("u");
+        Ok(line.trim_start_matches("controller u").trim_end_matches(" ;").to_owned())
+    };
+    for (items, wanted) in [
+        ("extend u ;", Ok(" k")),
+        ("extend u m ;", Ok(" k m")),
+        ("extend u l_2 m ; extend v k ; extend u l_1 ;", Ok(" k l_2 m l_1")),
+        ("extend u l ; never v u ;", Ok(" k l_1 l_2")),
+        ("extend u l ; never v u/l_1 ;", Ok(" k l_2")),
+        ("never v w ; extend u m ;", Ok(" k m")),
+        ("extend u l\nl_1 ;", Err("P7 line 3")),
+        ("extend u l_1\nl ;", Err("P7 line 3")),
+        ("extend u\nk ;", Err("P7 line 3")),
+        ("extend u m\nm ;", Err("P7 line 3")),
+        ("extend u\nx ;", Err("P8 line 3")),
+        ("extend\nx k ;", Err("P8 line 3")),
+        ("extend\nk k ;", Err("P8 line 3")),
+        ("extend\nu/k m ;", Err("P3 line 3")),
+        ("extend\n; ", Err("P3 line 3")),
+        ("extend u\n0x01 ;", Err("P3 line 3")),
+        ("extend u\nu/k ;", Err("P3 line 3")),
+        ("never u v ; extend\nu m ;", Err("P7 line 3")),
+        ("never v u ; extend\nu m ;", Err("P7 line 3")),
+        ("never w/k u/k ; extend\nu ;", Err("P7 line 3")),
+        ("never w/k u/k ; extend\nw ;", Err("P7 line 3")),
+        ("never w/k u/k ; extend\nw_k ;", Err("P8 line 3")),
+    ] {
+        assert_eq!(listed(items), wanted.map(String::from).map_err(String::from), "{items}");
     }
 }
 

@@ -137,6 +137,7 @@ impl Board {
                 "byte" => read_known(&mut reading, &mut self.bytes, 8)?,
                 "message" => self.read_message(&mut reading)?,
                 "controller" => self.read_controller(&mut reading)?,
+                "extend" if reading.language() == Language::Board => self.read_extension(&mut reading)?,
                 "interrupt" => self.read_interrupt(&mut reading)?,
                 "never" => self.read_never(&mut reading)?,
                 _ => return Err(word.refused(3)),
@@ -191,17 +192,30 @@ impl Board {
         let word = reading.name()?;
         word.only_if(!self.is_taken(word.text), 7)?;
         word.only_if(self.parts().len() < MOST_CONTROLLERS, 6)?;
-        let mut controller = Listed { name: word.text.into(), messages: Vec::new() };
-        let before: usize = self.controllers.iter().map(|one| one.messages.len()).sum();
+        self.controllers.push(Listed { name: word.text.into(), messages: Vec::new() });
+        self.read_listed(reading, self.controllers.len() - 1)
+    }
+
+    // What adds to a controller.
+    fn read_extension(&mut self, reading: &mut Reading) -> Result<(), Refusal> {
+        let word = reading.name()?;
+        let place = self.controllers.iter().position(|one| one.name == word.text).ok_or(word.refused(8))?;
+        let names = |party: &Party| party.controller == word.text;
+        word.only_if(!self.nevers.iter().any(|(first, second)| names(first) || names(second)), 7)?;
+        self.read_listed(reading, place)
+    }
+
+    // Further messages of the controller at this place.
+    fn read_listed(&mut self, reading: &mut Reading, place: usize) -> Result<(), Refusal> {
         while !reading.takes(";") {
             let word = reading.name()?;
             word.only_if(self.has_message(word.text), 8)?;
             let further = self.named(word.text);
-            word.only_if(!further.iter().any(|one| controller.has(one)), 7)?;
-            controller.messages.extend(further);
-            word.only_if(before + controller.messages.len() <= MOST_SENDINGS, 6)?;
+            word.only_if(!further.iter().any(|one| self.controllers[place].has(one)), 7)?;
+            self.controllers[place].messages.extend(further);
+            let sendings: usize = self.controllers.iter().map(|one| one.messages.len()).sum();
+            word.only_if(sendings <= MOST_SENDINGS, 6)?;
         }
-        self.controllers.push(controller);
         Ok(())
     }
 
