@@ -5,6 +5,7 @@ pub mod ValueLemmas
 pub mod TextLemmas
 pub mod LabelLemmas
 pub mod BoardLemmas
+pub mod ExtendLemmas
 pub mod LoopLemmas
 pub mod RangeLemmas
 pub mod MessageLemmas

@@ -1,7 +1,7 @@
 // What the items of briefs make up so far: names are looked up in it, and what stands next is judged by it.
 
-ghost use Rattle.std.specs.Prelude.{◌≡◌, ◌<◌, ◌≤◌, ◌++◌, ◌∷◌, [], ℕ, List, length, map, sum_by, take, drop, is_some, IfOk, OnOk, IfSome, None};
-ghost use Rattle.std.specs.List.{list_any};
+ghost use Rattle.std.specs.Prelude.{◌≡◌, ◌<◌, ◌≤◌, ◌++◌, ◌∷◌, [], length, map, not, sum_by, is_some, IfOk, OnOk, None};
+ghost use Rattle.std.specs.List.{list_any, prefix_len};
 ghost use Rattle.std.specs.Option.{option_map};
 ghost use Rattle.plan_text.specs.Places.{Passes};
 ghost use Rattle.brief_text.specs.Places.{Place};
@@ -378,30 +378,27 @@ impl Board {
         if sendings > MOST_SENDINGS as usize {
             return Err(AllocError);
         }
-        let Some(place) = self.place_of(name) else {
-            return Err(AllocError);
-        };
+        let place = self.place_of(name);
         let mut messages = messages;
-        if let Some(controller) = self.controllers.get_mut(place) {
-            controller.messages.append(&mut messages)?;
-            self.sendings = sendings;
+        match self.controllers.get_mut(place) {
+            Some(controller) => {
+                controller.messages.append(&mut messages)?;
+                self.sendings = sendings;
+                Ok(())
+            }
+            None => Err(AllocError),
         }
-        Ok(())
     }
 
     // How many controllers stand before the one of this name.
-    fn place_of(&self, name: &Name) -> Option<usize>
-        ensures { IfSome result (λ place. (place < length self.now.controllers.items) ×
-            ((more : List (List ℕ)) → extended (name_bytes name.now) more (draft self.now).controllers ≡
-            take place (draft self.now).controllers ++
-            extended (name_bytes name.now) more (drop place (draft self.now).controllers))) }
+    fn place_of(&self, name: &Name) -> usize
+        ensures { result ≡ prefix_len (λ it. not (bytes_eq (name_bytes name.now) (name_bytes it.name)))
+            self.now.controllers.items }
     {
-        for place in 0..self.controllers.len() {
-            if self.controllers[place].name == *name {
-                return Some(place);
-            }
-        }
-        None
+        self.controllers
+            .iter()
+            .take_while(|controller| *name != controller.name)
+            .count()
     }
 
     /// Adds an interrupt that is not refused.
