@@ -32,7 +32,7 @@ use Rattle.plan_text.specs.Values.{address_of}
 use Rattle.plan_text.proofs.ValueLemmas.{address_found}
 use Rattle.std.specs.Prelude.{codes, map}
 use Rattle.brief_text.specs.Drafts.{Draft, any_address, value_or, member_name, members, stands_for, same_side, is_new_label}
-use Rattle.brief_text.specs.Judging.{is_family, is_message, message_refusal_of, range_refusal, have_one_of, sendings, listing_refusal, is_side_of, extend_refusal_of, is_taken, are_sides, lists_one, is_side, part_refusal, first_refusal, second_refusal, controller_refusal_of}
+use Rattle.brief_text.specs.Judging.{is_family, is_message, message_refusal_of, range_refusal, have_one_of, sendings, listing_refusal, is_labelled, is_side_of, extend_refusal_of, is_taken, are_sides, lists_one, is_side, part_refusal, first_refusal, second_refusal, controller_refusal_of}
 use Rattle.brief_text.specs.Meanings.{is_twice}
 use Rattle.brief_text.specs.Trees.{named}
 
@@ -111,10 +111,10 @@ module _ (draft : Draft) (has listed : List (List ℕ)) (name : List ℕ) where
 
 -- ---- what adds to a controller
 
-pub extend_judged : (draft : Draft) (name : List ℕ) (known apart : Bool) → is_some (lookup (bytes_eq name) draft.controllers) ≡ known → list_any (is_side_of name) draft.nevers ≡ apart
-    → extend_refusal_of draft name ≡ (if not known then Some Unknown else if apart then Some Twice else None)
+pub extend_judged : (draft : Draft) (name : List ℕ) (known labelled apart : Bool) → is_some (lookup (bytes_eq name) draft.controllers) ≡ known → is_labelled draft name ≡ labelled → list_any (is_side_of name) draft.nevers ≡ apart
+    → extend_refusal_of draft name ≡ (if not known then Some Unknown else if labelled || apart then Some Twice else None)
 unfolding extend_refusal_of
-extend_judged draft name known apart is_known are_apart = λ i. if not (is_known i) then Some Unknown else if are_apart i then Some Twice else None
+extend_judged draft name known labelled apart is_known is_split are_apart = λ i. if not (is_known i) then Some Unknown else if is_split i || are_apart i then Some Twice else None
 
 -- ---- names of controllers and of parts
 

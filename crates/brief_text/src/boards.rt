@@ -339,15 +339,15 @@ impl Board {
     {
         if self.controller(name).is_none() {
             Some(BuildError::Unknown)
-        } else if self.is_kept_apart(name) {
+        } else if self.is_split(name) || self.has_never_of(name) {
             Some(BuildError::Twice)
         } else {
             None
         }
     }
 
-    // Whether a `never` names this controller or a label of it.
-    fn is_kept_apart(&self, name: &Name) -> bool
+    // Whether a `never` names this controller.
+    fn has_never_of(&self, name: &Name) -> bool
         ensures { result ≡ list_any (λ it. is_side_of (name_bytes name.now) (sides it)) self.now.nevers.items }
     {
         self.nevers.iter().any(|never| never.is_side_of(name))
@@ -530,7 +530,7 @@ pub(crate) fn have_one_of(listed: &[Name], names: &[Name]) -> bool
 impl Never {
     ghost use Rattle.brief_text.specs.Standing.{side, sides};
 
-    // Whether it names this controller or a label of it.
+    // Whether it names this controller.
     fn is_side_of(&self, controller: &Name) -> bool
         ensures { result ≡ is_side_of (name_bytes controller.now) (sides self.now) }
     {
