@@ -29,6 +29,7 @@ use dump_tokens::{Bus, BusLines, Drives, Limits, Quiet, Window};
 use given_plans::{GivenPlan, Halted, Provenance};
 use given_runs::{GivenCapture, GivenLive, capture_given, live_given};
 use lessons::{BriefBefore, Likeness, Sights, brief_of, write_brief, write_learned};
+use origins::Spans;
 use plan_core::Plan;
 use plan_words::PlanWords;
 use report::{CaptureCounts, CaptureReport, live_capture, write_capture};
@@ -559,16 +560,15 @@ fn learn_beside<J: Input, O: Output>(
     let Some(origins) = &provenance.origins else {
         return learn(alloc, vcd, out, lesson);
     };
-    let text = first_of(&provenance.texts);
-    let before = BriefBefore::new(alloc, file, text, plan, origins)?;
+    let texts = provenance.texts.as_slice();
+    let is_second = has_second(texts.len(), &provenance.spans);
+    let before = BriefBefore::new(alloc, file, texts, is_second, plan, origins)?;
     learn_after(alloc, vcd, out, lesson, Some(&before))
 }
 
-fn first_of(texts: &Vec<Vec<u8>>) -> &[u8] {
-    match texts.first() {
-        Some(text) => text.as_slice(),
-        None => &[],
-    }
+// Whether one of so many texts is in the second version.
+fn has_second(count: usize, spans: &Spans) -> bool {
+    (0..count as u32).any(|file| matches!(spans.head(file), Some(head) if head.version == 2))
 }
 
 fn learn_after<J: Input, O: Output>(
