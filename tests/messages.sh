@@ -66,6 +66,61 @@ shown 2:30 "expected here: '(' [P3]" "message m write 0x10 0x11 wr 0x12 ;"
 shown 2:34 "expected here: ')' [P3]" "message m write 0x10 0x11 wr(0x12*2 ;"
 shown 2:9 "a brief is ASCII, but for the comments of a 'brief 2' [P1]" "message °"
 
+# ---- several refusals: the answer first, and what does not follow from others
+
+# several NAME TEXT PLACE..: the text is refused at these places, each with its code, as in '2:13 P3'.
+several() {
+    printf '%b' "$2" >text
+    call check text --format gcc
+    same "several refusals: $1" "$(printf '%s\n' "${@:3}")" \
+        "$(sed -n 's/^text:\([0-9]*:[0-9]*\): error: .* \[\(P[1-8]\)\]$/\1 \2/p' err)"
+}
+
+several "items that are half typed" "brief 1\ndevice temp ;\nmessage get write tmp read temp 1 ;
+message set write temp 0x100 ;\ncontroller bmc get set gte ;\ncontroller pch get_7 ;\nnever bmc/set pch ;\nnever bmc fan ;\n" \
+    "2:13 P3" "3:19 P8" "4:24 P3" "5:24 P8" "8:11 P8"
+several "an item that only begins" "brief 1\ndevice temp 0x48 ;\nmessage\nmessage get read temp 0 ;\ncontroller c get ;\n" "4:1 P3" "4:23 P4"
+several "a semicolon is missing" "brief 1\ndevice a 0x10\ndevice b 0x11 device c 0x12 ;\nmessage m write a b c ;\nmessage n write b any*0 ;\n" \
+    "2:14 P3" "3:14 P3" "4:19 P8" "5:23 P4"
+several "the word of an item in the place of a name" "brief 1\nmessage device 0x10 ;\ncontroller c x ;\n" "2:9 P3" "3:14 P8"
+several "the same at the beginning of a line" "brief 1\nmessage\ndevice 0x10 ;\n" "3:1 P3" "3:8 P3"
+several "a misspelt word of an item" "brief 1\ndevise d 0x10 ;\nmesage m write d ;\ncontroller c m d e ;\ncontroller e f ;\n" "2:1 P3" "3:1 P3" "5:14 P8"
+several "bytes and characters that end nothing" \
+    "brief 1 # \xc2\xb0\n@\ndevice a 0x48 ; # \xc2\xb0C \xc2\xb0F ; device\nbyte b \xc2\xb0\xc2\xb0 ;\n\xff\xff\n; = device c 0x10 ;\nmessage m write a b c ;\n" \
+    "1:11 P1" "2:1 P3" "3:19 P1" "4:8 P1" "5:1 P1" "6:1 P3" "6:3 P3" "7:21 P8"
+several "what stands twice, and what only would" "brief 1\ndevice a 0x48 ;\ndevice a 0x49 ;\ndevice b ;\ndevice b 0x4A ;\ndevice a 0x4B ;\n
+message m_2 read a 1 ;\nmessage m write a any*1..3 ;\nmessage n_1 read 1 ;\nmessage n write a any*1..3 ;\ncontroller c m_3 n_2 x ;\n" \
+    "3:8 P7" "4:10 P3" "6:8 P7" "9:23 P7" "10:18 P3"
+several "parts of labels" "brief 1\nmessage m read 0x10 1 ;\ncontroller a m ;\ncontroller b m ;\nnever a/m b m ;\ncontroller a_m m ;\nnever a/m a_m ;\n" \
+    "5:13 P3" "7:7 P7"
+several "an interrupt of a device that was refused" "brief 1\ndevice a ;\ninterrupt i a ;\ninterrupt i a ;\n" "2:10 P3" "4:11 P7"
+{ echo "brief 1"; for k in {1..35}; do echo "controller c$k ;"; done; echo "never c1 c35 ;"; echo "device ;"; } >text
+call check text --format gcc
+same "several refusals: a limit is told once" "text:34:12: error: a plan has at most 32 controllers [P6]
+text:38:8: error: expected here: a name (a letter, then letters, digits and '_', 32 at most) [P3]" "$(cat err)"
+{ echo "brief 1"; for k in {1..30}; do echo "device ;"; done; } >text
+call check text --format gcc
+same "several refusals: twenty" "20 21:8" "$(wc -l <err) $(sed -n '$s/^text:\([0-9:]*\):.*/\1/p' err)"
+several "none after the refusal of a plan" "plan 2\nmessage m ;\nmessage ;\n" "2:11 P3"
+several "none after one without a head" "device ;\nmessage ;\n" "1:1 P2"
+printf 'brief 1\ndevice a ;\nmessage m read a 1 ;\ncontroller c m ;\n' >first
+address="an address ('0x' and two digits, at most 0x7F, or '0b' and seven of '0', '1' and 'x')"
+byte="a data byte ('0x' and two digits, or '0b' and eight of '0', '1' and 'x')"
+printf 'brief 2\n# \xc2\xb0\nmessage n write a pec*2 ;\ndevice a 0x10 ;\ncontroller d n m x ;\n' >second
+told "several refusals: of several files" 2 "" "first:2:10: error: expected here: $address [P3]
+second:3:22: error: expected here: $byte, the name of one, 'any', 'wr', 'rd', 'pec', 'sum', 'else', 'write', 'read' or ';' [P3]
+second:5:18: error: 'x': no message before this place has this name; the nearest names of messages: m, n [P8]" check first --with second
+printf 'brief 1\ncontroller d none ;\nbyte b ;\n' >third
+printf 'plan 1\ncontroller x ;\n' >second
+told "several refusals: no name of a file that is no brief is known" 2 "" "first:2:10: error: expected here: $address [P3]
+second:1:1: error: a brief begins with 'brief 1' or 'brief 2'; this is a plan, and none of several files may be one [P2]
+third:3:8: error: expected here: $byte [P3]" check first --with second --with third
+told "several refusals: a later file that cannot be read" 2 "" "first:2:10: error: expected here: $address [P3]" \
+    check first --with .
+printf 'brief 1\ndevice temp 0x48 ;\n' >first
+printf 'brief 1\nbyte R 0x01 ; device temp 0x49 ;\n' >second
+printf 'brief 2\nmessage \xc2\xb0\n' >text
+
 # ---- refusals without a place in such a text
 
 told "a file that is missing" 2 "" "twire: error: none: no such file" check none

@@ -103,10 +103,7 @@ pub(crate) fn read_text(
     let tokens = head_of(text, spans)?;
     let letters = tokens.letters();
     let mut taken = mem::replace(spans, Spans::unasked(alloc));
-    taken.begin(Some(Head {
-        language: Language::Brief,
-        version: if letters == Letters::Board { 2 } else { 1 },
-    }));
+    taken.begin(Some(head_with(letters)));
     let mut source = Source::new(alloc, tokens, taken);
     match read_items(&mut source, board, text.len(), letters) {
         Ok(()) => {
@@ -118,6 +115,14 @@ pub(crate) fn read_text(
             *spans = source.into_all_spans();
             Err(refused)
         }
+    }
+}
+
+/// What a brief with these letters begins with.
+pub(crate) fn head_with(letters: Letters) -> Head {
+    Head {
+        language: Language::Brief,
+        version: if letters == Letters::Board { 2 } else { 1 },
     }
 }
 
@@ -152,9 +157,9 @@ fn read_items(
     Err(source.token.unexpected())
 }
 
-// An item. It answers whether there was one before the end of the text.
+/// Reads an item. It answers whether there was one before the end of the text.
 #[tactic(auto, unfolding(crate::specs::Items::item_at))]
-fn read_item(
+pub(crate) fn read_item(
     source: &mut Source<'_>,
     board: &mut Board,
     letters: Letters,

@@ -104,7 +104,9 @@ impl<'a> Token<'a> {
             Symbol::Word(word) => Some(Part::Word(word)),
             Symbol::Sign(Sign::Semicolon) => Some(Part::End),
             Symbol::Sign(Sign::Star) => Some(Part::Star),
-            Symbol::Sign(Sign::Open | Sign::Close) => Some(Part::Other),
+            // (an address follows it, or a frame, which begins with its direction)
+            Symbol::Sign(Sign::Open) => Some(Part::Direction),
+            Symbol::Sign(Sign::Close) => Some(Part::Other),
             Symbol::Quoted(_) => Some(Part::Other),
             Symbol::Stray | Symbol::Foreign | Symbol::End => None,
         }

@@ -50,5 +50,8 @@ pub use paths::file_word;
 pub use plans::on_no_brief;
 pub use safety::{Found, on_checked, on_safe};
 pub use starters::on_starters;
-pub use texts::{Cause, Earlier, RefusedIn, SemicolonAt, cause_of, missing_semicolon_at, on_text};
+pub use texts::{
+    Cause, Earlier, RefusedIn, SemicolonAt, cause_of, missing_semicolon_at, on_further_text,
+    on_text,
+};
 pub use values::{Hint, Hints};

@@ -82,9 +82,28 @@ pub fn on_text(alloc: Global, refused: RefusedIn<'_>) -> Result<Hints, AllocErro
     let mut lines = Lines::new(alloc);
     let looked = Looked::at(refused);
     if !is_binary(looked.kind) {
-        push_span(alloc, &mut lines, &looked.refused, looked.fault.span());
+        push_span(alloc, &mut lines, &looked.refused, looked.fault.span(), "");
     }
     push_cause(alloc, &mut lines, &looked);
+    lines.finish()
+}
+
+/// What to say of a further refusal, in short: where it is, and why.
+///
+/// # Errors
+///
+/// Where an allocation fails.
+pub fn on_further_text(alloc: Global, refused: RefusedIn<'_>) -> Result<Hints, AllocError> {
+    let mut lines = Lines::new(alloc);
+    let looked = Looked::at(refused);
+    push_span(
+        alloc,
+        &mut lines,
+        &looked.refused,
+        looked.fault.span(),
+        "also ",
+    );
+    lines.first_of(cause_of(alloc, refused)?.said);
     lines.finish()
 }
 
@@ -350,11 +369,17 @@ fn dots_and_digits(text: &[u8]) -> usize {
         .count()
 }
 
-// Shows a part of the text in its line.
-fn push_span(alloc: Global, lines: &mut Lines, refused: &RefusedIn<'_>, span: Span) {
+// Shows a part of the text in its line, after this.
+fn push_span(
+    alloc: Global,
+    lines: &mut Lines,
+    refused: &RefusedIn<'_>,
+    span: Span,
+    front: &'static str,
+) {
     let Span { line, start, end } = span;
     let what = called(refused.language);
-    lines.part(format_args!("line {line} of the {what}"));
+    lines.part(format_args!("{front}line {line} of the {what}"));
     if let Some(file) = refused.file {
         lines.part(" ");
         push_path(alloc, lines, file);

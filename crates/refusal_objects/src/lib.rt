@@ -33,6 +33,8 @@ pub struct TextDetail<'a> {
     pub semicolon: Option<SemicolonAt>,
     /// Where that stands which may stand once.
     pub earlier: Option<EarlierAt<'a>>,
+    /// Whether another refusal is the answer of the run.
+    pub is_further: bool,
 }
 
 /// A line before, and the name of its file where several give the plan.
@@ -62,6 +64,8 @@ struct Refusal<'a> {
     after_column: Option<u64>,
     // where that stands which may stand once
     earlier: Option<EarlierAt<'a>>,
+    // whether another one is the answer of the run
+    is_further: bool,
 }
 
 /// What a refusal is called: `P1` to `B8`, or the words of its line.
@@ -106,9 +110,11 @@ fn with_place<'a>(refusal: Refusal<'a>, detail: TextDetail<'a>) -> Refusal<'a> {
         file,
         semicolon,
         earlier,
+        is_further,
     } = detail;
     Refusal {
         file,
+        is_further,
         after_line: semicolon.map(|at| at.line),
         after_column: semicolon.map(|at| at.column as u64),
         earlier,
@@ -223,6 +229,9 @@ fn object_of(alloc: Global, reason: &str, refusal: Refusal<'_>) -> Result<String
         lines.number("line", earlier.line);
         lines.close();
     }
+    if refusal.is_further {
+        lines.flag("further", true);
+    }
     if !reason.is_empty() {
         lines.field("reason", &reason);
     }
@@ -297,6 +306,7 @@ fn coded(code: &'static str) -> Refusal<'static> {
         after_line: None,
         after_column: None,
         earlier: None,
+        is_further: false,
     }
 }
 

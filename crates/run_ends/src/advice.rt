@@ -2,10 +2,11 @@
 
 use crate::endings::{Findings, Halt, NoDrive, Recorded, RefusedSource};
 use crate::errands::Errand;
+use crate::further::Further;
 use crate::inputs::{Inputs, NamedSources};
 use crate::messages::{dump_message, text_message};
 use crate::sources::words_of;
-use crate::voices::{refused, refused_by_word, say, say_message, say_these};
+use crate::voices::{refused, refused_by_word, say, say_message, say_objects, say_these};
 use cert_check::{Answer, Answered};
 use command_words::Format;
 use diagnostics::reason_of;
@@ -17,6 +18,7 @@ use dump_hints::{
 };
 use dump_tokens::Drive;
 use given_plans::Provenance;
+use growing_text::Text;
 use hints::{
     Found, Hints, NoWaves, on_certificate, on_checked, on_fault, on_memory, on_no_answers,
     on_no_brief, on_no_timescale, on_no_waves, on_reading, on_safe, on_starters, on_text,
@@ -197,9 +199,38 @@ pub(crate) fn refuse<R: Eprint + AllocGlobal, F: Read + Seek + Drop>(
         None => made(alloc, reason_of(alloc, &hints)),
     };
     tell(rt, halt, last, reason.as_str(), errand);
+    let further = further_objects(alloc, halt, errand);
+    say_objects(rt, further);
     if errand.extras.hints {
         say_these(rt, &hints, errand.extras);
+        say(rt, further_hints(alloc, halt, errand), errand.extras);
     }
+}
+
+// The objects of what else is refused, where objects are wanted.
+fn further_objects(alloc: Global, halt: &Halt, errand: Errand<'_>) -> Result<String, AllocError> {
+    let mut text = Text::new(alloc);
+    if let (Halt::Text(error, source), Format::Objects) = (halt, errand.extras.format) {
+        let named = errand.named();
+        let further = Further::after(alloc, *error, source, named)?;
+        for one in further.all(alloc, named)? {
+            text.push_made(one.object(alloc, named));
+        }
+    }
+    text.finish()
+}
+
+// What hints say of it.
+fn further_hints(alloc: Global, halt: &Halt, errand: Errand<'_>) -> Result<Hints, AllocError> {
+    let mut hints = Hints::new(alloc);
+    if let Halt::Text(error, source) = halt {
+        let named = errand.named();
+        let further = Further::after(alloc, *error, source, named)?;
+        for one in further.all(alloc, named)? {
+            hints.append(one.hints(alloc)?)?;
+        }
+    }
+    Ok(hints)
 }
 
 // The line of a refusal, or what stands for it. This file was read last.

@@ -2,6 +2,7 @@
 
 ghost use Rattle.std.specs.Prelude.{◌≡◌};
 
+use crate::further::Further;
 use crate::inputs::NamedSources;
 use capture_check::Rises;
 use cert_check::Answered;
@@ -110,7 +111,13 @@ impl Halt {
         let Halted { error, text } = halted;
         match (error, text) {
             (RunError::Plan(error), Some(refused)) => {
-                Halt::Text(error, RefusedSource { refused, takes })
+                let later = Vec::new(*refused.text.allocator());
+                let source = RefusedSource {
+                    refused,
+                    takes,
+                    later,
+                };
+                Halt::Text(error, source)
             }
             _ => Halt::Run(error),
         }
@@ -148,6 +155,8 @@ impl From<AllocError> for Halt {
 pub struct RefusedSource {
     pub refused: RefusedText,
     pub takes: Takes,
+    /// The texts after it, where it is asked what is wrong in these.
+    pub later: Vec<Vec<u8>>,
 }
 
 /// What may stand in the place of a text: a plan text or a brief, or one of them alone.
@@ -218,6 +227,25 @@ impl RefusedSource {
         diagnose_refusal(alloc, refused, self.refused.file())
     }
 
+    /// The same of what else is wrong, in it and in the texts after it.
+    ///
+    /// # Errors
+    ///
+    /// Where an allocation fails.
+    pub fn diagnose_further(
+        &self,
+        alloc: Global,
+        error: PlanError,
+        named: NamedSources<'_>,
+    ) -> Result<Vec<Diagnostic>, AllocError> {
+        let further = Further::after(alloc, error, self, named)?;
+        let mut all = Vec::new(alloc);
+        for one in further.all(alloc, named)? {
+            all.push(one.diagnose(alloc)?)?;
+        }
+        Ok(all)
+    }
+
     /// What is known of the refusal. Where there is no memory for what stands already, that is not told.
     pub(crate) fn detail<'a>(
         &'a self,
@@ -231,6 +259,7 @@ impl RefusedSource {
             file,
             semicolon: None,
             earlier: None,
+            is_further: false,
         };
         if let Ok(earlier) = self.earlier(alloc, named) {
             let refused = self.refused_in(error, file, earlier.as_slice());
@@ -241,7 +270,9 @@ impl RefusedSource {
     }
 }
 
-fn earlier_at<'a>(
+/// The line on which that stands already which may stand once, and the name of its file. Where there is no memory for it, that is
+/// not told.
+pub(crate) fn earlier_at<'a>(
     alloc: Global,
     refused: RefusedIn<'_>,
     named: NamedSources<'a>,

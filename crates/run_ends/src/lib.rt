@@ -3,7 +3,8 @@
 //! `errands` has what was asked for. `inputs` opens the files of a run, each once, and says which cannot be opened; `dumps` opens its
 //! dump. `sources` has what gives a plan: one text, or several briefs. `extras` has what people get beside the exact report. `endings`
 //! says how a run has ended, by values; `finishing` then writes its files and answers its status, `advice` makes of them what is said
-//! to people, and `voices` how it sounds: as lines, or as JSON; `messages` has refusals as compilers write them.
+//! to people, and `voices` how it sounds: as lines, or as JSON; `messages` has refusals as compilers write them. `further` has
+//! what else is refused.
 #![tactic(auto)]
 
 mod advice;
@@ -12,6 +13,7 @@ mod endings;
 mod errands;
 mod extras;
 mod finishing;
+mod further;
 mod inputs;
 mod messages;
 mod sources;

@@ -11,7 +11,7 @@ use run_parts::RunError;
 use std::alloc::{AllocError, Global};
 use vcd_read::{VcdError, Wrong};
 
-/// The message of a refusal at its place in one of the texts that were to give a plan.
+/// The message of a refusal at its place in one of the texts that were to give a plan, and those of what else is wrong in these.
 ///
 /// # Errors
 ///
@@ -28,8 +28,17 @@ pub(crate) fn text_message(
         messages.add(alloc, text.as_slice())?;
     }
     messages.add(alloc, source.refused.text.as_slice())?;
+    for text in source.later.iter() {
+        messages.add(alloc, text.as_slice())?;
+    }
     let mut text = Text::new(alloc);
     messages.push(&mut text, &diagnostic);
+    // (without memory for what else is wrong the answer alone is told)
+    if let Ok(further) = source.diagnose_further(alloc, error, named) {
+        for diagnostic in further.iter() {
+            messages.push(&mut text, diagnostic);
+        }
+    }
     text.finish()
 }
 

@@ -146,7 +146,10 @@ fn do_errand<R: Files + Input + Print + Eprint + AllocGlobal + Threads + Wait + 
     let is_long = errand.rewrites(Rewriting::Certify);
     let sheet = Sheet::telling(rt, errand.form(), read, errand.extras.watcher, is_long);
     let mut out = Watched::new(sheet);
-    let ended = run_over(rt, errand, &mut texts, &mut second, &mut out);
+    let mut ended = run_over(rt, errand, &mut texts, &mut second, &mut out);
+    if let (Err(halt), true) = (&mut ended, errand.extras.says_why()) {
+        texts.read_on(rt.alloc(), halt);
+    }
     let inputs = Inputs::of(errand, (texts, second));
     finish(rt, inputs, out.into_inner(), ended, read, errand)
 }
