@@ -1,0 +1,23 @@
+-- What callers give and get, as the definitions see it.
+use Rattle.std.specs.Prelude.{ℕ, List, Vec, map, Result, Ok, Err}
+use Rattle.std.specs.declared.alloc.Global.{Global}
+use Rattle.board_files.specs.Lists as spec
+use Rattle.board_files.specs.declared.lists.GivenText.{GivenText}
+use Rattle.board_files.specs.declared.lists.Listed.{Listed}
+use Rattle.run_parts.specs.declared.errors.RunError.{RunError}
+
+abbrev pub bytes_given : Result (Vec ℕ Global) RunError → Result (List ℕ) RunError
+bytes_given (Ok bytes) = Ok bytes.items
+bytes_given (Err e) = Err e
+
+abbrev pub listed : Listed → spec.Listed
+listed it = record { path = it.path.items; text = it.text.items }
+
+abbrev pub texts_listed : List Listed → List spec.Listed
+texts_listed texts = map listed texts
+
+abbrev pub given : GivenText → spec.Given
+given it = record { path = it.listed.path.items; folder = it.folder.items; id = it.id; text = it.listed.text.items }
+
+abbrev pub all_given : List GivenText → List spec.Given
+all_given texts = map given texts
