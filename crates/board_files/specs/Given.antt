@@ -17,7 +17,7 @@ abbrev pub texts_listed : List Listed → List spec.Listed
 texts_listed texts = map listed texts
 
 abbrev pub given : GivenText → spec.Given
-given it = record { path = it.listed.path.items; folder = it.folder.items; id = it.id; text = it.listed.text.items }
+given it = record { listed = listed it.listed; folder = it.folder.items; id = it.id }
 
 abbrev pub all_given : List GivenText → List spec.Given
 all_given texts = map given texts

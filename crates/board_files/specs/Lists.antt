@@ -15,17 +15,16 @@ use Rattle.board_files.specs.declared.openers.FileId.{FileId}
 use Rattle.run_parts.specs.declared.errors.RunError.{RunError}
 use Rattle.run_parts.specs.declared.errors.RunError.TheVariants as error
 
--- a text that was given: its path, the folder from which it names files, and which file it is
-pub record Given : Type 0 where
-  pub path : List ℕ
-  pub folder : List ℕ
-  pub id : FileId
-  pub text : List ℕ
-
--- a text of a list
+-- a text of a list, and its path
 pub record Listed : Type 0 where
   pub path : List ℕ
   pub text : List ℕ
+
+-- one that was given: the folder from which it names files, and which file it is
+pub record Given : Type 0 where
+  pub listed : Listed
+  pub folder : List ℕ
+  pub id : FileId
 
 -- ---- paths
 
@@ -78,45 +77,50 @@ module _ {D : Type 0} (files : Files D) where
           Lists folder more between middle others then after →
           Lists folder from known before (texts ++ others) then after
 
-    -- The same of one file. It is passed over where it is known. Else there have to be fewer than 64 texts, and it is read: what its
-    -- head names comes first.
+    -- The same of one file. It is passed over where it is known. Else it is read; there have to be fewer than 64 texts before it.
     pub data Adds : (path : List ℕ) (known : List FileId) (before : D) (texts : List Listed) (then : List FileId) (after : D) → Type 0 where
       passed : {path : List ℕ} {id : FileId} {known : List FileId} {before after : D} →
           files.opens before path (Ok id) after →
           is_known id known ≡ true →
           Adds path known before [] known after
-      read : {path text : List ℕ} {id : FileId} {head : Tokens} {known then : List FileId} {before opened begins after : D} {texts : List Listed} →
+      read : {path text : List ℕ} {id : FileId} {known then : List FileId} {before opened begins after : D} {texts : List Listed} →
           files.opens before path (Ok id) opened →
           is_known id known ≡ false →
           length known ≤ most_before →
           files.gives opened (Ok text) begins →
-          files_of text ≡ Ok head →
-          Lists (folder_of path) head (id ∷ known) begins texts then after →
-          Adds path known before (texts ++ record { path = path; text = text } ∷ []) then after
+          AddsText (record { path = path; text = text }) (folder_of path) (known ++ id ∷ []) begins texts then after →
+          Adds path known before texts then after
 
-  -- The list of these texts that were given: each with what its head names before it. One that stands there already is passed over.
+    -- the same of a text: what its head names, and then the text
+    pub data AddsText : (text : Listed) (folder : List ℕ) (known : List FileId) (before : D) (texts : List Listed) (then : List FileId) (after : D) → Type 0 where
+      text_last : {text : Listed} {folder : List ℕ} {head : Tokens} {known then : List FileId} {before after : D} {texts : List Listed} →
+          files_of text.text ≡ Ok head →
+          Lists folder head known before texts then after →
+          AddsText text folder known before (texts ++ text ∷ []) then after
+
+  -- The list of these texts that were given: each after what its head names. One that stands there already is passed over.
   pub data ListsAll : (given : List Given) (known : List FileId) (before : D) (texts : List Listed) (after : D) → Type 0 where
     no_text : {known : List FileId} {state : D} → ListsAll [] known state [] state
     stands : {given : List Given} {text : Given} {known : List FileId} {before after : D} {texts : List Listed} →
         is_known text.id known ≡ true →
         ListsAll given known before texts after →
         ListsAll (text ∷ given) known before texts after
-    one_text : {given : List Given} {text : Given} {head : Tokens} {known then : List FileId} {before middle after : D} {texts others : List Listed} →
+    one_text : {given : List Given} {text : Given} {known then : List FileId} {before middle after : D} {texts others : List Listed} →
         is_known text.id known ≡ false →
-        files_of text.text ≡ Ok head →
-        Lists text.folder head (text.id ∷ known) before texts then middle →
+        AddsText text.listed text.folder (known ++ text.id ∷ []) before texts then middle →
         ListsAll given then middle others after →
-        ListsAll (text ∷ given) known before (texts ++ record { path = text.path; text = text.text } ∷ others) after
+        ListsAll (text ∷ given) known before (texts ++ others) after
 
-  -- ---- where it goes no further
+-- ---- where there is none
 
-  -- at a token of this text, or at a file whose name stands in this text on this line
-  pub data Stop : Type 0 where
-    refused : (text : Listed) (e : PlanError) → Stop
-    unread : (text : Listed) (line : ℕ) (path : List ℕ) (e : RunError) → Stop
+-- at a token of this text, or at a file whose name stands in this text on this line
+pub data Stop : Type 0 where
+  refused : (text : Listed) (e : PlanError) → Stop
+  unread : (text : Listed) (line : ℕ) (path : List ℕ) (e : RunError) → Stop
 
+module _ {D : Type 0} (files : Files D) where
   mutual
-    -- the files that a head names from these tokens on, in this text, stop the list there
+    -- the files that the head of this text names from these tokens on stop there
     pub data Stops : (text : Listed) (folder : List ℕ) (from : Tokens) (known : List FileId) (before : D) (stop : Stop) (after : D) → Type 0 where
       no_name : {text : Listed} {folder : List ℕ} {from : Tokens} {known : List FileId} {state : D} {e : PlanError} →
           next_file from ≡ wrong e →
@@ -127,12 +131,12 @@ module _ {D : Type 0} (files : Files D) where
           Stops text folder from known before stop after
       no_end : {text : Listed} {folder name : List ℕ} {from rest : Tokens} {line : ℕ} {known then : List FileId} {before after : D} {texts : List Listed} {e : PlanError} →
           next_file from ≡ names name line rest →
-          Adds (path_from folder name) known before texts then after →
+          Adds files (path_from folder name) known before texts then after →
           after_file rest ≡ Err e →
           Stops text folder from known before (refused text e) after
       later : {text : Listed} {folder name : List ℕ} {from rest more : Tokens} {line : ℕ} {known then : List FileId} {before middle after : D} {texts : List Listed} {stop : Stop} →
           next_file from ≡ names name line rest →
-          Adds (path_from folder name) known before texts then middle →
+          Adds files (path_from folder name) known before texts then middle →
           after_file rest ≡ Ok more →
           Stops text folder more then middle stop after →
           Stops text folder from known before stop after
@@ -153,40 +157,36 @@ module _ {D : Type 0} (files : Files D) where
           length known ≤ most_before →
           files.gives opened (Err e) after →
           StopsAt text line path known before (unread text line path e) after
-      no_head : {text : Listed} {line : ℕ} {path bytes : List ℕ} {id : FileId} {known : List FileId} {before opened after : D} {e : PlanError} →
-          files.opens before path (Ok id) opened →
-          is_known id known ≡ false →
-          length known ≤ most_before →
-          files.gives opened (Ok bytes) after →
-          files_of bytes ≡ Err e →
-          StopsAt text line path known before (refused (record { path = path; text = bytes }) e) after
-      inside : {text : Listed} {line : ℕ} {path bytes : List ℕ} {id : FileId} {head : Tokens} {known : List FileId} {before opened begins after : D} {stop : Stop} →
+      inside : {text : Listed} {line : ℕ} {path bytes : List ℕ} {id : FileId} {known : List FileId} {before opened begins after : D} {stop : Stop} →
           files.opens before path (Ok id) opened →
           is_known id known ≡ false →
           length known ≤ most_before →
           files.gives opened (Ok bytes) begins →
-          files_of bytes ≡ Ok head →
-          Stops (record { path = path; text = bytes }) (folder_of path) head (id ∷ known) begins stop after →
+          StopsText (record { path = path; text = bytes }) (folder_of path) (known ++ id ∷ []) begins stop after →
           StopsAt text line path known before stop after
 
-  -- the same of texts that were given
+    -- a text: at `brief` and its version, or at the files that its head names
+    pub data StopsText : (text : Listed) (folder : List ℕ) (known : List FileId) (before : D) (stop : Stop) (after : D) → Type 0 where
+      no_head : {text : Listed} {folder : List ℕ} {known : List FileId} {state : D} {e : PlanError} →
+          files_of text.text ≡ Err e →
+          StopsText text folder known state (refused text e) state
+      in_head : {text : Listed} {folder : List ℕ} {head : Tokens} {known : List FileId} {before after : D} {stop : Stop} →
+          files_of text.text ≡ Ok head →
+          Stops text folder head known before stop after →
+          StopsText text folder known before stop after
+
+  -- texts that were given
   pub data StopsAll : (given : List Given) (known : List FileId) (before : D) (stop : Stop) (after : D) → Type 0 where
-    past : {given : List Given} {text : Given} {known : List FileId} {before after : D} {stop : Stop} →
+    stands : {given : List Given} {text : Given} {known : List FileId} {before after : D} {stop : Stop} →
         is_known text.id known ≡ true →
         StopsAll given known before stop after →
         StopsAll (text ∷ given) known before stop after
-    given_head : {given : List Given} {text : Given} {known : List FileId} {state : D} {e : PlanError} →
+    at_text : {given : List Given} {text : Given} {known : List FileId} {before after : D} {stop : Stop} →
         is_known text.id known ≡ false →
-        files_of text.text ≡ Err e →
-        StopsAll (text ∷ given) known state (refused (record { path = text.path; text = text.text }) e) state
-    given_files : {given : List Given} {text : Given} {head : Tokens} {known : List FileId} {before after : D} {stop : Stop} →
-        is_known text.id known ≡ false →
-        files_of text.text ≡ Ok head →
-        Stops (record { path = text.path; text = text.text }) text.folder head (text.id ∷ known) before stop after →
+        StopsText text.listed text.folder (known ++ text.id ∷ []) before stop after →
         StopsAll (text ∷ given) known before stop after
-    further : {given : List Given} {text : Given} {head : Tokens} {known then : List FileId} {before middle after : D} {texts : List Listed} {stop : Stop} →
+    further : {given : List Given} {text : Given} {known then : List FileId} {before middle after : D} {texts : List Listed} {stop : Stop} →
         is_known text.id known ≡ false →
-        files_of text.text ≡ Ok head →
-        Lists text.folder head (text.id ∷ known) before texts then middle →
+        AddsText files text.listed text.folder (known ++ text.id ∷ []) before texts then middle →
         StopsAll given then middle stop after →
         StopsAll (text ∷ given) known before stop after

@@ -1,5 +1,7 @@
 // The list of the texts of a board.
 
+ghost use Rattle.std.specs.Prelude.{◌≡◌, ◌++◌, ◌∷◌, [], OnOk};
+
 use crate::openers::{FileId, Opener, is_known};
 use crate::paths::{folder_of, path_from};
 use brief_tokens::{FileNamed, Tokens, begin};
@@ -108,6 +110,7 @@ impl From<Refused> for Inside {
 }
 
 // A list that is being made.
+#[derive(Drop)]
 struct List {
     alloc: Global,
     texts: Vec<Listed>,
@@ -134,9 +137,9 @@ impl List {
         folder: &[u8],
         id: FileId,
     ) -> Result<(), Stopped> {
-        self.known.push(id)?;
+        push(&mut self.known, id)?;
         match self.add_head(opener, text.text.as_slice(), folder) {
-            Ok(()) => Ok(self.texts.push(text)?),
+            Ok(()) => Ok(push(&mut self.texts, text)?),
             Err(Inside::Here(why)) => Err(Stopped::At(text, why)),
             Err(Inside::There(stopped)) => Err(stopped),
         }
@@ -211,6 +214,15 @@ impl List {
             Ok(()) => Ok(()),
             Err(stopped) => Err(Inside::There(stopped)),
         }
+    }
+}
+
+fn push<T: Drop>(all: &mut Vec<T>, one: T) -> Result<(), AllocError>
+    ensures { OnOk result (all.new.items ≡ all.old.items ++ one ∷ []) }
+{
+    match all.push(one) {
+        Ok(()) => Ok(()),
+        Err(_) => Err(AllocError),
     }
 }
 

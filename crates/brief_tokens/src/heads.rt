@@ -49,6 +49,7 @@ pub fn begin(text: &[u8]) -> Result<Tokens<'_>, Refused>
 }
 
 // Past all files that a head names.
+#[tactic(auto, using(crate::proofs::HeadLemmas::none_left, crate::proofs::HeadLemmas::wrong_left, crate::proofs::HeadLemmas::one_past, crate::proofs::HeadLemmas::unended, crate::proofs::HeadLemmas::fewer))]
 fn pass_files(tokens: &mut Tokens<'_>) -> Result<(), Refused>
     ensures rest { OnOk result (after_files (left tokens.old) ≡ Ok (left tokens.new)) }
     ensures refused { IfErr result (λ e. after_files (left tokens.old) ≡ Err e.error) }

@@ -1,6 +1,6 @@
 // The tokens of a brief, one at a time, each with its line.
 
-ghost use Rattle.std.specs.Prelude.{◌≡◌, true};
+ghost use Rattle.std.specs.Prelude.{◌≡◌, ◌+◌, ◌<◌, ◌^◌, length, true};
 ghost use Rattle.lexer.specs.Lexemes.{is_of_brief};
 ghost use Rattle.brief_tokens.specs.Heads.{is_file_name};
 ghost use Rattle.brief_tokens.specs.Tokens.{tokens_of, board_tokens_of};
@@ -147,10 +147,7 @@ impl<'a> Tokens<'a> {
         if let Symbol::Keyword(Keyword::With) = token.symbol {
             return true;
         }
-        self.lexer.rest = rest;
-        self.lexer.line = line;
-        self.lexer.start = start;
-        self.lexer.before = before;
+        put_back(&mut self.lexer, rest, line, start, before);
         false
     }
 
@@ -202,6 +199,19 @@ impl<'a> Tokens<'a> {
     {
         Refused::at(error, self.lexer.text(), self.lexer.spot(), expected, None)
     }
+}
+
+// Puts back what was taken: these bytes, from this line on, are left. The two numbers are those of the lexeme before.
+fn put_back<'a>(lexer: &mut Lexer<'a>, rest: &'a [u8], line: u64, start: usize, before: usize)
+    requires { line + length rest.now < 2 ^ 64 }
+    ensures rest { lexer.new.rest.now ≡ rest.now }
+    ensures line { lexer.new.line ≡ line }
+    ensures letters { lexer.new.letters ≡ lexer.old.letters }
+{
+    lexer.rest = rest;
+    lexer.line = line;
+    lexer.start = start;
+    lexer.before = before;
 }
 
 /// Adds the items and the names of a text that is not judged, up to its end or to what is no token, to these of texts before it. It

@@ -12,7 +12,7 @@ use given_plans::RefusedText;
 use lexer::Letters;
 use origins::{Language, Spans};
 use run_parts::devices::reading::READS;
-use run_parts::{Input, Opened, RunError, Watched, read_within};
+use run_parts::{Opened, RunError, Watched, read_within};
 use std::alloc::{AllocError, Global};
 use std::io::{self, Cursor, ErrorKind, Read};
 use std::rt::Files;
@@ -128,6 +128,7 @@ fn push<T: Drop>(all: &mut Vec<T>, one: T) -> Result<(), AllocError> {
 // ---- what was given
 
 // What was read of the texts that were given, and of which of them nothing was read, since the reading of one failed.
+#[derive(Drop)]
 struct GivenTexts<'a, R, F, S> {
     texts: Vec<GivenText>,
     failed: Option<FailedText>,
@@ -167,7 +168,7 @@ fn read_given<'a, R, F, S>(
 where
     F: Drop,
     S: Drop,
-    Source<'a, R, F, S>: Input,
+    Source<'a, R, F, S>: run_parts::Input,
 {
     let mut given = GivenTexts {
         texts: Vec::new(alloc),
@@ -205,7 +206,7 @@ fn read_source<'a, R, F, S>(
 where
     F: Drop,
     S: Drop,
-    Source<'a, R, F, S>: Input,
+    Source<'a, R, F, S>: run_parts::Input,
 {
     match read_within(alloc, &mut source, READS) {
         Ok(text) => Ok(Ok(text)),
@@ -406,6 +407,7 @@ fn names_in(alloc: Global, before: &[Vec<u8>], text: &[u8]) -> Spans {
 // ---- files that heads name
 
 // Opens and reads them. It keeps the last error of the system, and counts the files that were read.
+#[derive(Drop)]
 struct FileOpener<'a, 'i, R: Files + Input> {
     rt: &'a R,
     ids: &'i mut Vec<files::FileId>,

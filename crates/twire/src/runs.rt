@@ -198,6 +198,7 @@ fn words_of(alloc: Global, paths: &[String]) -> Result<Vec<&str>, AllocError> {
 }
 
 // The texts of a run, or why it goes no further.
+#[derive(Drop)]
 struct RunTexts<S> {
     readers: Vec<TextReader<S>>,
     failed: Option<FailedText>,
