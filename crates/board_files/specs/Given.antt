@@ -4,6 +4,10 @@ use Rattle.std.specs.declared.alloc.Global.{Global}
 use Rattle.board_files.specs.Lists as spec
 use Rattle.board_files.specs.declared.lists.GivenText.{GivenText}
 use Rattle.board_files.specs.declared.lists.Listed.{Listed}
+use Rattle.board_files.specs.declared.lists.Unlisted.{Unlisted}
+use Rattle.board_files.specs.declared.lists.Unlisted.TheVariants as unlisted
+use Rattle.board_files.specs.declared.lists.Why.{Why}
+use Rattle.board_files.specs.declared.lists.Why.TheVariants as why
 use Rattle.run_parts.specs.declared.errors.RunError.{RunError}
 
 abbrev pub bytes_given : Result (Vec ℕ Global) RunError → Result (List ℕ) RunError
@@ -21,3 +25,13 @@ given it = record { listed = listed it.listed; folder = it.folder.items; id = it
 
 abbrev pub all_given : List GivenText → List spec.Given
 all_given texts = map given texts
+
+-- where it stops, for this reason in this text
+abbrev pub stop_of : spec.Listed → Why → spec.Stop
+stop_of text (why.Refused refused) = spec.refused text refused.error
+stop_of text (why.Unread line path error) = spec.unread text line path.items error
+
+-- this holds of where it stops, but for out of memory, which may come at any text
+abbrev pub StopsWhere : (spec.Stop → Type 0) → Unlisted → Type 0
+StopsWhere Holds (unlisted.In text why before) = Holds (stop_of (listed text) why)
+StopsWhere Holds unlisted.NoMemory = Unit {0}

@@ -1,6 +1,8 @@
 // The list of the texts of a board.
 
-ghost use Rattle.std.specs.Prelude.{◌≡◌, ◌++◌, ◌∷◌, [], OnOk};
+ghost use Rattle.std.specs.Prelude.{◌≡◌, ◌≤◌, ◌++◌, ◌∷◌, [], length, Ok, IfOk, IfErr, OnOk};
+ghost use Rattle.board_files.specs.Given.{all_given, texts_listed, StopsWhere};
+ghost use Rattle.board_files.specs.Lists.{ListsAll, StopsAll};
 
 use crate::openers::{FileId, Opener, is_known};
 use crate::paths::{folder_of, path_from};
@@ -61,14 +63,20 @@ pub fn list_texts<O: Opener>(
     alloc: Global,
     opener: &mut O,
     given: Vec<GivenText>,
-) -> Result<Vec<Listed>, Unlisted> {
-    let mut list = List {
+) -> Result<Vec<Listed>, Unlisted>
+    ensures listed { IfOk result (λ it.
+        ListsAll O.files (all_given given.items) [] opener.old (texts_listed it.items) opener.new) }
+    ensures stops { IfErr result (λ e.
+        StopsWhere (λ stop. StopsAll O.files (all_given given.items) [] opener.old stop opener.new) e) }
+{
+    let mut list = ListMade {
         alloc,
         texts: Vec::new(alloc),
         known: Vec::new(alloc),
     };
     for text in given {
-        match list.add_given(opener, text) {
+        let added = list.add_given(opener, text);
+        match added {
             Ok(()) => {}
             Err(Stopped::At(text, why)) => return Err(Unlisted::In(text, why, list.texts)),
             Err(Stopped::NoMemory) => return Err(Unlisted::NoMemory),
@@ -85,6 +93,8 @@ enum Stopped {
 }
 
 impl From<AllocError> for Stopped {
+    ghost from_gives = { λ _ e. e ≡ Stopped.NoMemory };
+
     fn from(_error: AllocError) -> Stopped {
         Stopped::NoMemory
     }
@@ -98,12 +108,16 @@ enum Inside {
 }
 
 impl From<AllocError> for Inside {
+    ghost from_gives = { λ _ e. e ≡ Inside.There Stopped.NoMemory };
+
     fn from(_error: AllocError) -> Inside {
         Inside::There(Stopped::NoMemory)
     }
 }
 
 impl From<Refused> for Inside {
+    ghost from_gives = { λ refused e. e ≡ Inside.Here (Why.Refused refused) };
+
     fn from(refused: Refused) -> Inside {
         Inside::Here(Why::Refused(refused))
     }
@@ -111,17 +125,30 @@ impl From<Refused> for Inside {
 
 // A list that is being made.
 #[derive(Drop)]
-struct List {
+struct ListMade {
     alloc: Global,
     texts: Vec<Listed>,
     // the files of these, and of those that are being read
     known: Vec<FileId>,
 }
 
-impl List {
+impl ListMade {
+    ghost use Rattle.std.specs.Prelude.{◌≡◌, ◌≤◌, ◌++◌, ◌∷◌, [], length, IfErr, OnOk};
+    ghost use Rattle.plan_text.specs.declared.errors.PlanError.TheVariants.{TooMany};
+    ghost use Rattle.brief_tokens.specs.Reading.{left};
+    ghost use Rattle.board_files.specs.Given.{given, listed};
+    ghost use Rattle.board_files.specs.Lists.{Lists, Adds, AddsText, Stops, StopsAt, StopsText, path_from, folder_of, most_before};
+    ghost use Rattle.board_files.specs.Lists as spec;
+    ghost use Rattle.board_files.specs.Progress.{Added, AddsGiven, AddsHead, StopsGiven, IsStopped, IsInside};
+
     // A text that was given, unless it stands in the list already.
-    fn add_given<O: Opener>(&mut self, opener: &mut O, given: GivenText) -> Result<(), Stopped> {
-        let GivenText { listed, folder, id } = given;
+    fn add_given<O: Opener>(&mut self, opener: &mut O, text: GivenText) -> Result<(), Stopped>
+        ensures added { OnOk result (Added (λ texts then.
+            AddsGiven O.files (given text) self.old.known.items opener.old texts then opener.new) self.old self.new) }
+        ensures stops { IfErr result (λ e. IsStopped e (λ stop.
+            StopsGiven O.files (given text) self.old.known.items opener.old stop opener.new)) }
+    {
+        let GivenText { listed, folder, id } = text;
         if is_known(id, self.known.as_slice()) {
             return Ok(());
         }
@@ -136,9 +163,15 @@ impl List {
         text: Listed,
         folder: &[u8],
         id: FileId,
-    ) -> Result<(), Stopped> {
+    ) -> Result<(), Stopped>
+        ensures added { OnOk result (Added (λ texts then.
+            AddsText O.files (listed text) folder.now (self.old.known.items ++ id ∷ []) opener.old texts then opener.new)
+            self.old self.new) }
+        ensures stops { IfErr result (λ e. IsStopped e (λ stop.
+            StopsText O.files (listed text) folder.now (self.old.known.items ++ id ∷ []) opener.old stop opener.new)) }
+    {
         push(&mut self.known, id)?;
-        match self.add_head(opener, text.text.as_slice(), folder) {
+        match self.add_head(opener, &text, folder) {
             Ok(()) => Ok(push(&mut self.texts, text)?),
             Err(Inside::Here(why)) => Err(Stopped::At(text, why)),
             Err(Inside::There(stopped)) => Err(stopped),
@@ -150,41 +183,63 @@ impl List {
     fn add_head<O: Opener>(
         &mut self,
         opener: &mut O,
-        text: &[u8],
+        text: &Listed,
         folder: &[u8],
-    ) -> Result<(), Inside> {
-        let tokens = begin(text)?;
+    ) -> Result<(), Inside>
+        ensures added { OnOk result (Added (λ texts then.
+            AddsHead O.files (listed text.now) folder.now self.old.known.items opener.old texts then opener.new)
+            self.old self.new) }
+        ensures stops { IfErr result (λ e. IsInside (listed text.now) e (λ stop.
+            StopsText O.files (listed text.now) folder.now self.old.known.items opener.old stop opener.new)) }
+    {
+        let tokens = begin(text.text.as_slice())?;
         match tokens.letters() {
-            Letters::Board => self.add_files(opener, tokens, folder),
+            Letters::Board => self.add_files(opener, tokens, text, folder),
             _ => Ok(()),
         }
     }
 
-    // The files that a head names from here on.
+    // The files that the head of this text names from here on.
     #[cycle(listing)]
     fn add_files<O: Opener>(
         &mut self,
         opener: &mut O,
         mut tokens: Tokens<'_>,
+        text: &Listed,
         folder: &[u8],
-    ) -> Result<(), Inside> {
+    ) -> Result<(), Inside>
+        ensures added { OnOk result (Added (λ texts then.
+            Lists O.files folder.now (left tokens) self.old.known.items opener.old texts then opener.new)
+            self.old self.new) }
+        ensures stops { IfErr result (λ e. IsInside (listed text.now) e (λ stop.
+            Stops O.files (listed text.now) folder.now (left tokens) self.old.known.items opener.old stop opener.new)) }
+    {
         while let Some(file) = tokens.next_file()? {
             let refused = tokens.no_name(PlanError::TooMany(file.line));
-            self.add_file(opener, file, folder, refused)?;
+            self.add_file(opener, file, text, folder, refused)?;
             tokens.end_file()?;
         }
         Ok(())
     }
 
-    // The file that has this name, unless it is known. It is refused so where there are too many.
+    // The file that has this name in this text, unless it is known. It is refused so where there are too many.
     #[cycle(listing)]
     fn add_file<O: Opener>(
         &mut self,
         opener: &mut O,
         file: FileNamed<'_>,
+        text: &Listed,
         folder: &[u8],
         too_many: Refused,
-    ) -> Result<(), Inside> {
+    ) -> Result<(), Inside>
+        requires { too_many.error ≡ TooMany file.line }
+        ensures added { OnOk result (Added (λ texts then.
+            Adds O.files (path_from folder.now file.name.now) self.old.known.items opener.old texts then opener.new)
+            self.old self.new) }
+        ensures stops { IfErr result (λ e. IsInside (listed text.now) e (λ stop.
+            StopsAt O.files (listed text.now) file.line (path_from folder.now file.name.now)
+            self.old.known.items opener.old stop opener.new)) }
+    {
         let path = path_from(self.alloc, folder, file.name)?;
         let id = match opener.open(path.as_slice()) {
             Ok(id) => id,
@@ -202,13 +257,22 @@ impl List {
         }
     }
 
+    // A text that a head names.
     #[cycle(listing)]
     fn add_opened<O: Opener>(
         &mut self,
         opener: &mut O,
         text: Listed,
         id: FileId,
-    ) -> Result<(), Inside> {
+    ) -> Result<(), Inside>
+        requires { length self.old.known.items ≤ most_before }
+        ensures added { OnOk result (Added (λ texts then.
+            AddsText O.files (listed text) (folder_of text.path.items) (self.old.known.items ++ id ∷ [])
+            opener.old texts then opener.new) self.old self.new) }
+        ensures stops { IfErr result (λ e. (this : spec.Listed) → IsInside this e (λ stop.
+            StopsText O.files (listed text) (folder_of text.path.items) (self.old.known.items ++ id ∷ [])
+            opener.old stop opener.new)) }
+    {
         let folder = folder_of(text.path.as_slice()).to_vec(self.alloc)?;
         match self.add_text(opener, text, folder.as_slice(), id) {
             Ok(()) => Ok(()),
@@ -226,6 +290,8 @@ fn push<T: Drop>(all: &mut Vec<T>, one: T) -> Result<(), AllocError>
     }
 }
 
-fn unread(line: u64, path: Vec<u8>, error: RunError) -> Inside {
+fn unread(line: u64, path: Vec<u8>, error: RunError) -> Inside
+    ensures { result ≡ Inside.Here (Why.Unread line path error) }
+{
     Inside::Here(Why::Unread { line, path, error })
 }
