@@ -177,7 +177,7 @@ module _ {D : Type 0} (files : Files D) where
 
   -- texts that were given
   pub data StopsAll : (given : List Given) (known : List FileId) (before : D) (stop : Stop) (after : D) → Type 0 where
-    stands : {given : List Given} {text : Given} {known : List FileId} {before after : D} {stop : Stop} →
+    passed_over : {given : List Given} {text : Given} {known : List FileId} {before after : D} {stop : Stop} →
         is_known text.id known ≡ true →
         StopsAll given known before stop after →
         StopsAll (text ∷ given) known before stop after
