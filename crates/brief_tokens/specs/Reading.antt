@@ -1,5 +1,5 @@
 -- What the functions that read tokens say of those that are left.
-use Rattle.std.specs.Prelude.{ℕ, Option, Some, None}
+use Rattle.std.specs.Prelude.{ℕ, zero, suc, Option, Some, None}
 use Rattle.lexer.specs.Lexemes.{text_end, foreign, stray}
 use Rattle.lexer.specs.declared.lexemes.Letters.{Letters}
 use Rattle.plan_text.specs.declared.errors.PlanError.{PlanError}
@@ -7,7 +7,9 @@ use Rattle.plan_text.specs.declared.errors.PlanError.TheVariants as errors
 use Rattle.brief_tokens.specs.declared.symbols.Symbol.{Symbol}
 use Rattle.brief_tokens.specs.declared.symbols.Symbol.TheVariants as symbols
 use Rattle.brief_tokens.specs.declared.symbols.Token.{Token}
+use Rattle.brief_tokens.specs.declared.tokens.FileNamed.{FileNamed}
 use Rattle.brief_tokens.specs.declared.tokens.Tokens.{Tokens}
+use Rattle.brief_tokens.specs.Heads.{Naming, names, no_more}
 use Rattle.brief_tokens.specs.Tokens as spec
 
 -- the tokens that are left
@@ -46,3 +48,13 @@ unexpected_symbol _ line = errors.Unexpected line
 
 abbrev pub unexpected_at : Token → PlanError
 unexpected_at token = unexpected_symbol token.symbol token.line
+
+-- what comes next in a head, where it is no refusal, with these tokens after it
+abbrev pub naming : Option FileNamed → spec.Tokens → Naming
+naming (Some file) rest = names file.name.now file.line rest
+naming None rest = no_more rest
+
+-- how many tokens these are
+abbrev pub token_count : spec.Tokens → ℕ
+token_count (spec.next token line rest) = suc (token_count rest)
+token_count (spec.last ending line) = zero

@@ -37,8 +37,8 @@ mod words;
 
 pub use certs::on_certificate;
 pub use devices::{
-    Named, NoWaves, on_closed_input, on_fault, on_memory, on_no_answers, on_no_timescale,
-    on_no_waves, on_opening, on_reading, on_workers, on_writing,
+    Named, NoWaves, on_closed_input, on_fault, on_memory, on_named_file, on_no_answers,
+    on_no_timescale, on_no_waves, on_opening, on_reading, on_workers, on_writing,
 };
 pub use kinds::{Kind, LOOKED_AT, is_binary, kind_of, push_kind};
 pub use likeness::Nearest;

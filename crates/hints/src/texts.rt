@@ -406,9 +406,13 @@ fn push_fault(alloc: Global, lines: &mut Lines, refused: &RefusedIn<'_>, fault: 
         (_, Some(Expected::Version)) => push_version(lines, refused),
         (Fault::Token(_), Some(expected)) => push_token(alloc, lines, refused, expected),
         (Fault::End(_), Some(expected)) => push_all(alloc, lines, expected),
-        (_, None) => {}
+        // (in a head nothing else has no word for what could stand there)
+        (_, None) => lines.say(FILE_EXPECTED),
     }
 }
+
+const FILE_EXPECTED: &str =
+    "expected here: a file in double quotes, 1 to 255 characters from blank to '~', as in: with \"devices.brief\" ;";
 
 // That `;` is missing, and where the refusal is of another line, why that is so.
 fn push_semicolon(lines: &mut Lines, refused: &RefusedIn<'_>, span: Span) {

@@ -69,6 +69,8 @@ pub(crate) fn push_over(lines: &mut Lines, over: Option<Over>) {
 /// Says P6, where this was expected.
 pub(crate) fn push_limit(lines: &mut Lines, expected: Option<Expected>) {
     let (most, what) = match expected {
+        // (what a head names)
+        None => return lines.say("at most 64 texts make up a board"),
         Some(Expected::Name(Kind::Controller)) => (MOST_CONTROLLERS, "controllers"),
         Some(Expected::Party) => {
             lines.part("with the controllers that labels make, ");

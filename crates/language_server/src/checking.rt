@@ -133,6 +133,7 @@ fn named<'a>(texts: &Texts<'a>) -> NamedSources<'a> {
         },
         further: texts.files.further,
         argument: "--with",
+        several: !texts.files.further.is_empty(),
     }
 }
 

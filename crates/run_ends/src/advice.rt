@@ -20,13 +20,14 @@ use dump_tokens::Drive;
 use given_plans::Provenance;
 use growing_text::Text;
 use hints::{
-    Found, Hints, NoWaves, on_certificate, on_checked, on_fault, on_memory, on_no_answers,
-    on_no_brief, on_no_timescale, on_no_waves, on_reading, on_safe, on_starters, on_text,
-    on_workers, on_writing,
+    Found, Hints, NoWaves, on_certificate, on_checked, on_fault, on_memory, on_named_file,
+    on_no_answers, on_no_brief, on_no_timescale, on_no_waves, on_reading, on_safe, on_starters,
+    on_text, on_workers, on_writing,
 };
 use lint::oddities;
 use plan_core::Plan;
 use plan_text::PlanError;
+use plan_words::{FileLine, called};
 use plays::RefusedStarters;
 use refusal_objects::Detail;
 use remedies::kept_apart;
@@ -262,6 +263,7 @@ fn tell<'x, R: Eprint + AllocGlobal>(
         Halt::Dump(_, Some(wrong)) => Detail::Dump(wrong),
         Halt::Starters(_, RefusedStarters::Unknown(label), _) => Detail::Label(label.as_str()),
         Halt::Run(RunError::Read) => Detail::File(last),
+        Halt::File(file) => Detail::File(file.path.as_str()),
         _ => Detail::Nothing,
     };
     refused(rt, halt.error(), detail, reason, format);
@@ -276,6 +278,7 @@ fn own_reason(
 ) -> Option<String> {
     match halt {
         Halt::Run(RunError::Read) => Some(reading_reason(alloc, why)),
+        Halt::File(file) => Some(reading_reason(alloc, file.error.as_ref())),
         Halt::Text(..) if errand.extras.format == Format::Messages => Some(String::new(alloc)),
         Halt::Text(error, source) => match source.diagnose(alloc, *error, errand.named()) {
             Ok(diagnostic) => Some(diagnostic.message),
@@ -325,6 +328,15 @@ fn hints_on<F: Read + Seek + Drop>(
         Halt::NoTimescale => on_no_timescale(alloc),
         Halt::NoDrive(number, why) => on_no_drive(alloc, drive_of(errand, *number), why),
         Halt::Run(RunError::Read) => on_reading(alloc, read.last, read.error.as_ref()),
+        Halt::File(file) => on_named_file(
+            alloc,
+            FileLine {
+                file: called(file.by.as_str()),
+                line: file.line,
+            },
+            file.path.as_str(),
+            file.error.as_ref(),
+        ),
         Halt::Run(RunError::Write) => on_writing(alloc, file, error),
         Halt::Run(RunError::Workers) => on_workers(alloc),
         Halt::Run(_) => on_memory(alloc),

@@ -17,6 +17,7 @@ use plays::RefusedStarters;
 use refusal_objects::{EarlierAt, TextDetail};
 use run_parts::{RunError, Status};
 use std::alloc::{AllocError, Global};
+use std::io;
 use vcd_read::{VcdError, Wrong};
 use verdicts::Checked;
 
@@ -80,6 +81,8 @@ pub enum Halt {
     Dump(VcdError, Option<Wrong>),
     /// The text of a plan or of a brief is refused.
     Text(PlanError, RefusedSource),
+    /// A file that a head names cannot be opened or read.
+    File(UnreadFile),
     /// Starters of this plan are refused.
     Starters(RunError, RefusedStarters, GivenPlan),
     /// This plan has no brief, since a name of it is a word of briefs.
@@ -130,7 +133,7 @@ impl Halt {
             Halt::Dump(error, _) => RunError::Vcd(*error),
             Halt::Text(error, _) => RunError::Plan(*error),
             Halt::NoBrief(_) => RunError::Brief(NoBrief::Name),
-            Halt::NoTimescale | Halt::NoDrive(..) => RunError::Read,
+            Halt::File(_) | Halt::NoTimescale | Halt::NoDrive(..) => RunError::Read,
         }
     }
 }
@@ -148,6 +151,17 @@ impl From<AllocError> for Halt {
     fn from(_error: AllocError) -> Halt {
         Halt::Run(RunError::NoMemory)
     }
+}
+
+/// A file that cannot be opened or read, and where its name stands.
+#[derive(Drop)]
+pub struct UnreadFile {
+    /// The path of the text that names it, and the line there.
+    pub by: String,
+    pub line: u64,
+    pub path: String,
+    /// The error of the system.
+    pub error: Option<io::Error>,
 }
 
 /// The text of a plan or of a brief that is refused, and what may stand in its place.
