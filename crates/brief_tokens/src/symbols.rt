@@ -112,10 +112,11 @@ impl<'a> Token<'a> {
         }
     }
 
-    /// What an item that begins with this token gives a name to.
+    /// What the first name is of in an item that begins with this token.
     pub fn kind(&self) -> Option<Kind> {
         match self.part() {
             Some(Part::Item(ItemKind::Gives(kind))) => Some(kind),
+            Some(Part::Item(ItemKind::Extends)) => Some(Kind::Controller),
             _ => None,
         }
     }
@@ -155,7 +156,8 @@ fn part_of_keyword(keyword: Keyword) -> Part<'static> {
         Keyword::Byte => Part::Item(ItemKind::Gives(Kind::Byte)),
         Keyword::Message => Part::Item(ItemKind::Gives(Kind::Message)),
         // what adds to a controller has its name and those of messages, as the controller has
-        Keyword::Controller | Keyword::Extend => Part::Item(ItemKind::Gives(Kind::Controller)),
+        Keyword::Controller => Part::Item(ItemKind::Gives(Kind::Controller)),
+        Keyword::Extend => Part::Item(ItemKind::Extends),
         Keyword::Interrupt => Part::Item(ItemKind::Gives(Kind::Interrupt)),
         Keyword::Never => Part::Item(ItemKind::Never),
         Keyword::Write | Keyword::Read => Part::Direction,
