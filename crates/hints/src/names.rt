@@ -6,7 +6,7 @@ use crate::lines::Lines;
 use crate::paths::push_path;
 use crate::texts::{Earlier, RefusedIn};
 use crate::words::push_meant;
-use origins::{Kind, NameAt, NamedTexts, Role, Span, halves, has_member};
+use origins::{ItemKind, Kind, NameAt, NamedTexts, Role, Span, halves, has_member};
 use plan_text::{Expected, PlanError};
 use std::alloc::{AllocError, Global};
 
@@ -29,6 +29,8 @@ struct Known<'a> {
     at: NameAt,
     // that of the message, which is empty where it is no family
     range: &'a [u8],
+    // whether its item is an `extend`
+    is_added: bool,
 }
 
 impl Known<'_> {
@@ -44,7 +46,12 @@ impl Known<'_> {
 
     // Whether it is a side of a `never`.
     fn is_side(self) -> bool {
-        self.uses(Kind::Controller)
+        self.uses(Kind::Controller) && !self.is_added
+    }
+
+    // Whether it is the controller whose list follows.
+    fn heads_list(self) -> bool {
+        self.gives(Kind::Controller) || self.uses(Kind::Controller) && self.is_added
     }
 
     fn uses(self, kind: Kind) -> bool {
@@ -124,9 +131,15 @@ fn push_known<'a>(
                 name: texts.word(at),
                 at,
                 range: texts.range(at),
+                is_added: is_added(texts, at),
             },
         )?),
     }
+}
+
+// Whether a name stands in an `extend`.
+fn is_added(texts: &NamedTexts<'_>, at: NameAt) -> bool {
+    matches!(texts.item(at), Some(item) if item.kind == ItemKind::Extends)
 }
 
 fn with_label<'a>(texts: &NamedTexts<'a>, controller: Span, label: Span) -> &'a [u8] {
@@ -162,6 +175,8 @@ enum Stands {
     Side,
     // a `never` with the same two
     Never(Option<Stand>),
+    // a `never` that names the controller of an `extend`, or what it sends
+    Kept(Option<Stand>),
     // a controller with the name of the part that a label makes
     Part(Option<Stand>),
 }
@@ -173,6 +188,7 @@ impl Stands {
             | Stands::Listed(stand)
             | Stands::Member(stand)
             | Stands::Never(stand)
+            | Stands::Kept(stand)
             | Stands::Part(stand) => stand,
             Stands::Side => None,
         }
@@ -214,8 +230,17 @@ fn stands_among(known: &[Known<'_>], refused: &RefusedIn<'_>) -> Stands {
         ),
         Some(Expected::Sending) => Stands::Listed(stand_in_list(known, word)),
         Some(Expected::Times { .. }) => Stands::Member(stand_of_member(known, word)),
+        _ if is_in_extend(refused) => Stands::Kept(stand_of_side(known, word)),
         _ => side_among(known, word),
     }
+}
+
+// Whether the refused token stands in an `extend`.
+fn is_in_extend(refused: &RefusedIn<'_>) -> bool {
+    let Some(at) = refused.spans.name_at(refused.number(), refused.place.start) else {
+        return false;
+    };
+    matches!(refused.spans.item(at), Some(item) if item.kind == ItemKind::Extends)
 }
 
 fn push_stands(alloc: Global, lines: &mut Lines, refused: &RefusedIn<'_>, stands: Stands) {
@@ -233,6 +258,9 @@ fn push_stands(alloc: Global, lines: &mut Lines, refused: &RefusedIn<'_>, stands
             lines.part("both are of one controller, which starts one message at a time")
         }
         Stands::Never(_) => lines.part("these two stand in a 'never' already"),
+        Stands::Kept(_) => lines.part(
+            "a 'never' before this place names the controller, or what it sends: 'extend' comes before that",
+        ),
         Stands::Part(_) => lines.part(
             "a label makes a controller, with '_' in place of '/': an earlier one has this name",
         ),
@@ -267,11 +295,25 @@ fn push_place(alloc: Global, lines: &mut Lines, refused: &RefusedIn<'_>, stand: 
     }
 }
 
-// Where the last item, a controller, lists this.
+// Where the controller of the last list lists this, in that list or in one before it.
 fn stand_in_list(known: &[Known<'_>], word: &[u8]) -> Option<Stand> {
-    let last = known.last()?;
+    let wanted = known.iter().rev().find(|one| one.heads_list())?.name;
+    let mut controller: &[u8] = &[];
     for one in known {
-        if one.at.item == last.at.item && one.is_listed() && one.name == word {
+        if one.heads_list() {
+            controller = one.name;
+        }
+        if controller == wanted && one.is_listed() && one.name == word {
+            return Some(one.stand());
+        }
+    }
+    None
+}
+
+// The side of a `never` that is this controller, or what it sends.
+fn stand_of_side(known: &[Known<'_>], controller: &[u8]) -> Option<Stand> {
+    for one in known {
+        if one.is_side() && controller_of(one.name) == controller {
             return Some(one.stand());
         }
     }
@@ -529,7 +571,7 @@ fn push_all(
     let mut nearest = Nearest::new(alloc, word);
     let mut controller: &[u8] = &[];
     for one in known {
-        if one.gives(Kind::Controller) {
+        if one.heads_list() {
             controller = one.name;
         }
         let is_shown = match listed {
