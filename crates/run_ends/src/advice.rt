@@ -4,7 +4,7 @@ use crate::endings::{Findings, Halt, NoDrive, Recorded, RefusedSource};
 use crate::errands::Errand;
 use crate::further::Further;
 use crate::inputs::{Inputs, NamedSources};
-use crate::messages::{dump_message, text_message};
+use crate::messages::{dump_message, file_message, text_message};
 use crate::sources::words_of;
 use crate::voices::{refused, refused_by_word, say, say_message, say_objects, say_these};
 use cert_check::{Answer, Answered};
@@ -29,7 +29,7 @@ use plan_core::Plan;
 use plan_text::PlanError;
 use plan_words::{FileLine, called};
 use plays::RefusedStarters;
-use refusal_objects::Detail;
+use refusal_objects::{Detail, EarlierAt};
 use remedies::kept_apart;
 use run_parts::{RunError, Status};
 use spellings::brief_word;
@@ -263,7 +263,16 @@ fn tell<'x, R: Eprint + AllocGlobal>(
         Halt::Dump(_, Some(wrong)) => Detail::Dump(wrong),
         Halt::Starters(_, RefusedStarters::Unknown(label), _) => Detail::Label(label.as_str()),
         Halt::Run(RunError::Read) => Detail::File(last),
-        Halt::File(file) => Detail::File(file.path.as_str()),
+        Halt::File(file) if format == Format::Messages => {
+            return say_message(rt, file_message(alloc, file, reason));
+        }
+        Halt::File(file) => Detail::Named(
+            file.path.as_str(),
+            EarlierAt {
+                file: Some(file.by.as_str()),
+                line: file.line,
+            },
+        ),
         _ => Detail::Nothing,
     };
     refused(rt, halt.error(), detail, reason, format);

@@ -1,6 +1,6 @@
 // Refusals as compilers write them.
 
-use crate::endings::RefusedSource;
+use crate::endings::{RefusedSource, UnreadFile};
 use crate::inputs::NamedSources;
 use crate::voices::push_words;
 use diagnostics::Messages;
@@ -66,6 +66,27 @@ pub(crate) fn dump_message(
     }
     text.push(": error: ");
     push_words(alloc, &mut text, RunError::Vcd(error), reason);
+    text.finish()
+}
+
+/// The same of a file that a brief names and that cannot be read, where it is named.
+///
+/// # Errors
+///
+/// Where an allocation fails.
+pub(crate) fn file_message(
+    alloc: Global,
+    file: &UnreadFile,
+    reason: &str,
+) -> Result<String, AllocError> {
+    let mut text = Text::new(alloc);
+    push_shown(&mut text, called(file.by.as_str()));
+    text.push(":");
+    text.push_number(file.line);
+    text.push(": error: ");
+    push_shown(&mut text, file.path.as_str());
+    text.push(": ");
+    push_words(alloc, &mut text, RunError::Read, reason);
     text.finish()
 }
 
