@@ -539,8 +539,9 @@ pub fn learn_with_names<I: Input, J: Input, O: Output>(
     lesson: Lesson<'_>,
 ) -> Result<Ended, Halt> {
     let GivenPlan { plan, provenance } = briefs.find_in_briefs(alloc)?;
-    let named = briefs.files.of(0);
-    let file = match named {
+    // (the last one of a board names all others)
+    let last = provenance.texts.len().saturating_sub(1);
+    let file = match briefs.files.of(u32::try_from(last).unwrap_or(0)) {
         Some(name) => name,
         None => "",
     };
