@@ -21,7 +21,7 @@ module _ {D : Type 0} (files : Files D) where
   past_one folder name line from here rest more known then last before now next some texts p named adds ended = record {
     lists = λ others end after l.
         subst (λ all. spec.Lists files folder from known before all end after) (sym (append_assoc some texts others))
-          (p.lists (texts ++ others) end after (spec.one_file named adds ended l));
+        (p.lists (texts ++ others) end after (spec.one_file named adds ended l));
     stops = λ text stop after s. p.stops text stop after (spec.later named adds ended s);
   }
 
@@ -48,11 +48,11 @@ module _ {D : Type 0} (files : Files D) where
   given_one given passed text known then last before now next some texts p adds = record {
     lists = λ rest others after is l.
         subst (λ all. spec.ListsAll files given known before all after) (sym (append_assoc some texts others))
-          (p.lists (text ∷ rest) (texts ++ others) after (is ∙ append_assoc passed (text ∷ []) rest)
-            (lists_one text rest then last now next after texts others adds l));
+        (p.lists (text ∷ rest) (texts ++ others) after (is ∙ append_assoc passed (text ∷ []) rest)
+        (lists_one text rest then last now next after texts others adds l));
     stops = λ rest stop after is s.
         p.stops (text ∷ rest) stop after (is ∙ append_assoc passed (text ∷ []) rest)
-          (stops_later text rest then last now next after texts stop adds s);
+        (stops_later text rest then last now next after texts stop adds s);
   }
 
   pub given_stops : (given passed rest : List spec.Given) (text : spec.Given) (known then : List FileId) (before now after : D) (some : List spec.Listed) (stop : spec.Stop) →
