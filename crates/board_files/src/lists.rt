@@ -3,6 +3,9 @@
 ghost use Rattle.std.specs.Prelude.{◌≡◌, ◌≤◌, ◌++◌, ◌∷◌, [], length, Ok, IfOk, IfErr, OnOk};
 ghost use Rattle.board_files.specs.Given.{all_given, texts_listed, StopsWhere};
 ghost use Rattle.board_files.specs.Lists.{ListsAll, StopsAll};
+ghost use Rattle.board_files.specs.declared.lists.Inside.TheVariants as inside;
+ghost use Rattle.board_files.specs.declared.lists.Stopped.TheVariants as stopped;
+ghost use Rattle.board_files.specs.declared.lists.Why.TheVariants as why;
 
 use crate::openers::{FileId, Opener, is_known};
 use crate::paths::{folder_of, path_from};
@@ -93,7 +96,7 @@ enum Stopped {
 }
 
 impl From<AllocError> for Stopped {
-    ghost from_gives = { λ _ e. e ≡ Stopped.NoMemory };
+    ghost from_gives = { λ _ e. e ≡ stopped.NoMemory };
 
     fn from(_error: AllocError) -> Stopped {
         Stopped::NoMemory
@@ -108,7 +111,7 @@ enum Inside {
 }
 
 impl From<AllocError> for Inside {
-    ghost from_gives = { λ _ e. e ≡ Inside.There Stopped.NoMemory };
+    ghost from_gives = { λ _ e. e ≡ inside.There stopped.NoMemory };
 
     fn from(_error: AllocError) -> Inside {
         Inside::There(Stopped::NoMemory)
@@ -116,7 +119,7 @@ impl From<AllocError> for Inside {
 }
 
 impl From<Refused> for Inside {
-    ghost from_gives = { λ refused e. e ≡ Inside.Here (Why.Refused refused) };
+    ghost from_gives = { λ refused e. e ≡ inside.Here (why.Refused refused) };
 
     fn from(refused: Refused) -> Inside {
         Inside::Here(Why::Refused(refused))
