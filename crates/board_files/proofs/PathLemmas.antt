@@ -33,3 +33,17 @@ last_stroke (byte ∷ front) back e =
 -- none stands at the end
 pub none_at_end : (path : List ℕ) → has_stroke (drop (length path) path) ≡ false
 none_at_end path = ap has_stroke (drop_all (length path) path (omega arith))
+
+before_end : (end : ℕ) → 0 < end → suc (end - 1) ≡ end
+before_end end some = omega (arith, some)
+
+-- what stands before the end
+at_stroke : (path : List ℕ) (k byte : ℕ) → k < length path → byte ≡ get_or path k byte → byte ≡ 47 → has_stroke (drop (k + 1) path) ≡ false → folder_of path ≡ take k path ++ (47 ∷ [])
+at_stroke path k byte within is stroke none =
+    let back : drop k path ≡ byte ∷ drop (k + 1) path = drop_more path k byte within ∙ ap (λ b. b ∷ drop (k + 1) path) (sym is) in
+    let split : path ≡ take k path ++ (47 ∷ drop (k + 1) path) =
+    sym (take-append-drop k path) ∙ ap (λ all. take k path ++ all) (back ∙ ap (λ b. b ∷ drop (k + 1) path) stroke) in
+    ap folder_of split ∙ last_stroke (take k path) (drop (k + 1) path) none
+
+pub no_stroke_left : (path : List ℕ) → has_stroke (drop 0 path) ≡ false → take 0 path ≡ folder_of path
+no_stroke_left path none = sym (no_stroke path none)

@@ -13,7 +13,7 @@ use Rattle.board_files.specs.declared.lists.Stopped.TheVariants as stopped
 use Rattle.board_files.specs.declared.lists.Why.{Why}
 use Rattle.board_files.specs.declared.openers.FileId.{FileId}
 
--- texts were added, of which this holds with the files that are known known_now
+-- texts were added, of which this holds with the files that are known then
 pub record Added (Holds : List spec.Listed → List FileId → Type 0) (before now : ListMade) : Type 0 where
   pub texts : List Listed
   pub kept : now.texts.items ≡ before.texts.items ++ texts
