@@ -108,14 +108,15 @@ alike "check with threads" check PLAN --workers 2
 alike certify certify PLAN
 alike verify verify PLAN board.cert
 alike order order PLAN
-alike bench bench PLAN board.cert --starters pch/page_1
-alike "bench without a certificate" bench PLAN --starters pch/page_1
+alike bench bench PLAN board.cert bmc/get,pch/page_1
+alike "bench without a certificate" bench PLAN bmc/get,pch/page_1 --certify
 alike capture capture PLAN board.vcd
 alike print print PLAN
 alike expand expand PLAN
 want 0 "" ""
 run "a page" page board.brief -o board.html
-run "a page with a capture" page board.brief --capture board.vcd -o board.html
+want 1 "" ""
+run "a page with a capture that nobody explains" page board.brief --capture board.vcd -o board.html
 
 # A file that was read is not written, also where a head names it.
 expect "no file of the board is written" 2 "" "refused write" print board.brief -o devices.brief
@@ -139,13 +140,14 @@ run "no such file, before what follows its name" check none.brief
 run "a folder" expand - <<<'brief 2 with "sub" ;'
 run "the longest name" expand - <<<"brief 2 with \"$(printf "%0255d" 0)\" ;"
 expect "which file, and where its name stands" 2 "" "refused read
-hint: the brief 'sub/none', which 'none.brief' names on line 2, cannot be read:
-hint:   No such file or directory (os error 2)" check none.brief --hints always
+hint: \"none.brief\" names \"sub/none\" on line 2, which cannot be read:
+hint: No such file or directory (os error 2)" check none.brief --hints always
 lines far.brief "brief 2" "with \"sub/far.brief\" ;"
 lines sub/far.brief "brief 2" "" "with \"nothing\" ;"
 expect "from the folder of the text that names it" 2 "" "refused read
-hint: the brief 'sub/nothing', which 'sub/far.brief' names on line 3, cannot be read:
-hint:   No such file or directory (os error 2)" check far.brief --hints always
+hint: \"sub/far.brief\" names \"sub/nothing\" on line 3, which cannot be read:
+hint: No such file or directory (os error 2)" check far.brief --hints always
+want 2 "" "refused read"
 lines slip.brief "brief 2" "message m write nobody ;"
 lines both.brief "brief 2" "with \"slip.brief\" ;" "with \"nothing.brief\" ;"
 run "before what is wrong with the items of another" check both.brief

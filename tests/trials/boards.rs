@@ -74,7 +74,37 @@ pub fn made_up_board(dice: &mut Dice) -> Board {
     if let Some((_, item)) = slip.and_then(|slip| SLIPS.get(slip)) {
         items.insert(1 + dice.index(items.len()), (*item).to_owned());
     }
-    Board { briefs: briefs_of(&items, dice), slip }
+    let mut briefs = briefs_of(&items, dice);
+    if dice.index(4) == 0 {
+        name_files(&mut briefs, dice);
+    }
+    Board { briefs, slip }
+}
+
+// What the files of a board are called, and how heads may name them.
+const NAMES: [&str; 3] = ["plan", "brief2", "brief3"];
+
+// Heads name files of the board: most often those before, so that these stand there already.
+fn name_files(briefs: &mut [Vec<u8>], dice: &mut Dice) {
+    let count = briefs.len();
+    for (k, brief) in briefs.iter_mut().enumerate() {
+        let Some(head) = brief.windows(8).position(|bytes| bytes == b"brief 2\n") else {
+            continue;
+        };
+        let mut named = String::new();
+        for _ in 0..dice.index(4) {
+            let before = if k > 0 && dice.index(8) > 0 { k } else { count };
+            let name = NAMES[dice.index(before)];
+            let folder = if dice.index(3) == 0 { "./" } else { "" };
+            named += &match dice.index(40) {
+                0 => "with \"none\" oops\n".to_owned(),
+                1 => format!("with \"{name}\"\n"),
+                2 => format!("with {name} ;\n"),
+                _ => format!("with \"{folder}{name}\" ; # \"\n"),
+            };
+        }
+        brief.splice(head + 8..head + 8, named.into_bytes());
+    }
 }
 
 // What adds to a controller: mostly messages that it does not list.

@@ -19,7 +19,7 @@ pub const SLIPS: [(&str, &str); 63] = [
     ("P3", "message n write 0x20 wr(\"a\") ;"),
     ("P3", "message n write 0x20 pec \"a\" ;"),
     // words that are reserved
-    ("P3", "with \"a.brief\" ;"),
+    ("P3", "device w 0x70 ; with \"a.brief\" ;"),
     ("P3", "group x a b ;"),
     ("P3", "but ;"),
     ("P3", "device with 0x30 ;"),

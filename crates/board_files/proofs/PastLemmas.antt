@@ -12,16 +12,16 @@ module _ {D : Type 0} (files : Files D) where
   pub past_none : (folder : List ℕ) (from : Tokens) (known : List FileId) (before : D) → Past files folder from known before [] from known before
   past_none folder from known before = record { lists = λ texts last after l. l; stops = λ text stop after s. s }
 
-  pub past_one : (folder name : List ℕ) (line : ℕ) (from here rest more : Tokens) (known then last : List FileId) (before now next : D) (some texts : List spec.Listed) →
-      Past files folder from known before some here then now →
+  pub past_one : (folder name : List ℕ) (line : ℕ) (from here rest more : Tokens) (known known_now last : List FileId) (before now next : D) (some texts : List spec.Listed) →
+      Past files folder from known before some here known_now now →
       next_file here ≡ names name line rest →
-      spec.Adds files (spec.path_from folder name) then now texts last next →
+      spec.Adds files (spec.path_from folder name) known_now now texts last next →
       after_file rest ≡ Ok more →
       Past files folder from known before (some ++ texts) more last next
-  past_one folder name line from here rest more known then last before now next some texts p named adds ended = record {
+  past_one folder name line from here rest more known known_now last before now next some texts p named adds ended = record {
     lists = λ others end after l.
         subst (λ all. spec.Lists files folder from known before all end after) (sym (append_assoc some texts others))
-          (p.lists (texts ++ others) end after (spec.one_file named adds ended l));
+        (p.lists (texts ++ others) end after (spec.one_file named adds ended l));
     stops = λ text stop after s. p.stops text stop after (spec.later named adds ended s);
   }
 
@@ -31,33 +31,33 @@ module _ {D : Type 0} (files : Files D) where
     stops = λ rest stop after is s. subst (λ all. spec.StopsAll files all known before stop after) (sym is) s;
   }
 
-  lists_one : (text : spec.Given) (rest : List spec.Given) (known then : List FileId) (before now after : D) (texts others : List spec.Listed) →
-      AddsGiven files text known before texts then now → spec.ListsAll files rest then now others after → spec.ListsAll files (text ∷ rest) known before (texts ++ others) after
+  lists_one : (text : spec.Given) (rest : List spec.Given) (known known_now : List FileId) (before now after : D) (texts others : List spec.Listed) →
+      AddsGiven files text known before texts known_now now → spec.ListsAll files rest known_now now others after → spec.ListsAll files (text ∷ rest) known before (texts ++ others) after
   lists_one text rest known _ before _ after _ others (stood is) l = spec.stands is l
-  lists_one text rest known then before now after texts others (added new adds) l = spec.one_text new adds l
+  lists_one text rest known known_now before now after texts others (added new adds) l = spec.one_text new adds l
 
-  stops_later : (text : spec.Given) (rest : List spec.Given) (known then : List FileId) (before now after : D) (texts : List spec.Listed) (stop : spec.Stop) →
-      AddsGiven files text known before texts then now → spec.StopsAll files rest then now stop after → spec.StopsAll files (text ∷ rest) known before stop after
+  stops_later : (text : spec.Given) (rest : List spec.Given) (known known_now : List FileId) (before now after : D) (texts : List spec.Listed) (stop : spec.Stop) →
+      AddsGiven files text known before texts known_now now → spec.StopsAll files rest known_now now stop after → spec.StopsAll files (text ∷ rest) known before stop after
   stops_later text rest known _ before _ after _ stop (stood is) s = spec.passed_over is s
-  stops_later text rest known then before now after texts stop (added new adds) s = spec.further new adds s
+  stops_later text rest known known_now before now after texts stop (added new adds) s = spec.further new adds s
 
-  pub given_one : (given passed : List spec.Given) (text : spec.Given) (known then last : List FileId) (before now next : D) (some texts : List spec.Listed) →
-      PastGiven files given known before some passed then now →
-      AddsGiven files text then now texts last next →
+  pub given_one : (given passed : List spec.Given) (text : spec.Given) (known known_now last : List FileId) (before now next : D) (some texts : List spec.Listed) →
+      PastGiven files given known before some passed known_now now →
+      AddsGiven files text known_now now texts last next →
       PastGiven files given known before (some ++ texts) (passed ++ text ∷ []) last next
-  given_one given passed text known then last before now next some texts p adds = record {
+  given_one given passed text known known_now last before now next some texts p adds = record {
     lists = λ rest others after is l.
         subst (λ all. spec.ListsAll files given known before all after) (sym (append_assoc some texts others))
-          (p.lists (text ∷ rest) (texts ++ others) after (is ∙ append_assoc passed (text ∷ []) rest)
-            (lists_one text rest then last now next after texts others adds l));
+        (p.lists (text ∷ rest) (texts ++ others) after (is ∙ append_assoc passed (text ∷ []) rest)
+        (lists_one text rest known_now last now next after texts others adds l));
     stops = λ rest stop after is s.
         p.stops (text ∷ rest) stop after (is ∙ append_assoc passed (text ∷ []) rest)
-          (stops_later text rest then last now next after texts stop adds s);
+        (stops_later text rest known_now last now next after texts stop adds s);
   }
 
-  pub given_stops : (given passed rest : List spec.Given) (text : spec.Given) (known then : List FileId) (before now after : D) (some : List spec.Listed) (stop : spec.Stop) →
-      PastGiven files given known before some passed then now →
-      StopsGiven files text then now stop after →
+  pub given_stops : (given passed rest : List spec.Given) (text : spec.Given) (known known_now : List FileId) (before now after : D) (some : List spec.Listed) (stop : spec.Stop) →
+      PastGiven files given known before some passed known_now now →
+      StopsGiven files text known_now now stop after →
       given ≡ passed ++ (text ∷ rest) →
       spec.StopsAll files given known before stop after
-  given_stops given passed rest text known then before now after some stop p s is = p.stops (text ∷ rest) stop after is (spec.at_text s.new s.stops)
+  given_stops given passed rest text known known_now before now after some stop p s is = p.stops (text ∷ rest) stop after is (spec.at_text s.new s.stops)

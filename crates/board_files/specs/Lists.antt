@@ -65,38 +65,38 @@ module _ {D : Type 0} (files : Files D) where
   mutual
     -- What the files add to a list that a head names from these tokens on, in a text with this folder, where the files are known that
     -- stand in the list or are being read; and which are known then.
-    pub data Lists : (folder : List ℕ) (from : Tokens) (known : List FileId) (before : D) (texts : List Listed) (then : List FileId) (after : D) → Type 0 where
+    pub data Lists : (folder : List ℕ) (from : Tokens) (known : List FileId) (before : D) (texts : List Listed) (known_now : List FileId) (after : D) → Type 0 where
       no_file : {folder : List ℕ} {from rest : Tokens} {known : List FileId} {state : D} →
           next_file from ≡ no_more rest →
           Lists folder from known state [] known state
-      one_file : {folder name : List ℕ} {from rest more : Tokens} {line : ℕ} {known between then : List FileId}
+      one_file : {folder name : List ℕ} {from rest more : Tokens} {line : ℕ} {known between known_now : List FileId}
           {before middle after : D} {texts others : List Listed} →
           next_file from ≡ names name line rest →
           Adds (path_from folder name) known before texts between middle →
           after_file rest ≡ Ok more →
-          Lists folder more between middle others then after →
-          Lists folder from known before (texts ++ others) then after
+          Lists folder more between middle others known_now after →
+          Lists folder from known before (texts ++ others) known_now after
 
     -- The same of one file. It is passed over where it is known. Else it is read; there have to be fewer than 64 texts before it.
-    pub data Adds : (path : List ℕ) (known : List FileId) (before : D) (texts : List Listed) (then : List FileId) (after : D) → Type 0 where
+    pub data Adds : (path : List ℕ) (known : List FileId) (before : D) (texts : List Listed) (known_now : List FileId) (after : D) → Type 0 where
       passed : {path : List ℕ} {id : FileId} {known : List FileId} {before after : D} →
           files.opens before path (Ok id) after →
           is_known id known ≡ true →
           Adds path known before [] known after
-      read : {path text : List ℕ} {id : FileId} {known then : List FileId} {before opened begins after : D} {texts : List Listed} →
+      read : {path text : List ℕ} {id : FileId} {known known_now : List FileId} {before opened begins after : D} {texts : List Listed} →
           files.opens before path (Ok id) opened →
           is_known id known ≡ false →
           length known ≤ most_before →
           files.gives opened (Ok text) begins →
-          AddsText (record { path = path; text = text }) (folder_of path) (known ++ id ∷ []) begins texts then after →
-          Adds path known before texts then after
+          AddsText (record { path = path; text = text }) (folder_of path) (known ++ id ∷ []) begins texts known_now after →
+          Adds path known before texts known_now after
 
-    -- the same of a text: what its head names, and then the text
-    pub data AddsText : (text : Listed) (folder : List ℕ) (known : List FileId) (before : D) (texts : List Listed) (then : List FileId) (after : D) → Type 0 where
-      text_last : {text : Listed} {folder : List ℕ} {head : Tokens} {known then : List FileId} {before after : D} {texts : List Listed} →
+    -- the same of a text: what its head names, and known_now the text
+    pub data AddsText : (text : Listed) (folder : List ℕ) (known : List FileId) (before : D) (texts : List Listed) (known_now : List FileId) (after : D) → Type 0 where
+      text_last : {text : Listed} {folder : List ℕ} {head : Tokens} {known known_now : List FileId} {before after : D} {texts : List Listed} →
           files_of text.text ≡ Ok head →
-          Lists folder head known before texts then after →
-          AddsText text folder known before (texts ++ text ∷ []) then after
+          Lists folder head known before texts known_now after →
+          AddsText text folder known before (texts ++ text ∷ []) known_now after
 
   -- The list of these texts that were given: each after what its head names. One that stands there already is passed over.
   pub data ListsAll : (given : List Given) (known : List FileId) (before : D) (texts : List Listed) (after : D) → Type 0 where
@@ -105,10 +105,10 @@ module _ {D : Type 0} (files : Files D) where
         is_known text.id known ≡ true →
         ListsAll given known before texts after →
         ListsAll (text ∷ given) known before texts after
-    one_text : {given : List Given} {text : Given} {known then : List FileId} {before middle after : D} {texts others : List Listed} →
+    one_text : {given : List Given} {text : Given} {known known_now : List FileId} {before middle after : D} {texts others : List Listed} →
         is_known text.id known ≡ false →
-        AddsText text.listed text.folder (known ++ text.id ∷ []) before texts then middle →
-        ListsAll given then middle others after →
+        AddsText text.listed text.folder (known ++ text.id ∷ []) before texts known_now middle →
+        ListsAll given known_now middle others after →
         ListsAll (text ∷ given) known before (texts ++ others) after
 
 -- ---- where there is none
@@ -129,16 +129,16 @@ module _ {D : Type 0} (files : Files D) where
           next_file from ≡ names name line rest →
           StopsAt text line (path_from folder name) known before stop after →
           Stops text folder from known before stop after
-      no_end : {text : Listed} {folder name : List ℕ} {from rest : Tokens} {line : ℕ} {known then : List FileId} {before after : D} {texts : List Listed} {e : PlanError} →
+      no_end : {text : Listed} {folder name : List ℕ} {from rest : Tokens} {line : ℕ} {known known_now : List FileId} {before after : D} {texts : List Listed} {e : PlanError} →
           next_file from ≡ names name line rest →
-          Adds files (path_from folder name) known before texts then after →
+          Adds files (path_from folder name) known before texts known_now after →
           after_file rest ≡ Err e →
           Stops text folder from known before (refused text e) after
-      later : {text : Listed} {folder name : List ℕ} {from rest more : Tokens} {line : ℕ} {known then : List FileId} {before middle after : D} {texts : List Listed} {stop : Stop} →
+      later : {text : Listed} {folder name : List ℕ} {from rest more : Tokens} {line : ℕ} {known known_now : List FileId} {before middle after : D} {texts : List Listed} {stop : Stop} →
           next_file from ≡ names name line rest →
-          Adds files (path_from folder name) known before texts then middle →
+          Adds files (path_from folder name) known before texts known_now middle →
           after_file rest ≡ Ok more →
-          Stops text folder more then middle stop after →
+          Stops text folder more known_now middle stop after →
           Stops text folder from known before stop after
 
     -- the file of this path, whose name stands in this text on this line
@@ -185,8 +185,8 @@ module _ {D : Type 0} (files : Files D) where
         is_known text.id known ≡ false →
         StopsText text.listed text.folder (known ++ text.id ∷ []) before stop after →
         StopsAll (text ∷ given) known before stop after
-    further : {given : List Given} {text : Given} {known then : List FileId} {before middle after : D} {texts : List Listed} {stop : Stop} →
+    further : {given : List Given} {text : Given} {known known_now : List FileId} {before middle after : D} {texts : List Listed} {stop : Stop} →
         is_known text.id known ≡ false →
-        AddsText files text.listed text.folder (known ++ text.id ∷ []) before texts then middle →
-        StopsAll given then middle stop after →
+        AddsText files text.listed text.folder (known ++ text.id ∷ []) before texts known_now middle →
+        StopsAll given known_now middle stop after →
         StopsAll (text ∷ given) known before stop after

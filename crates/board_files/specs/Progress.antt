@@ -32,12 +32,12 @@ IsInside text (inside.There stopped) Holds = IsStopped stopped Holds
 
 module _ {D : Type 0} (files : Files D) where
   -- a text that was given stands already, or is added
-  pub data AddsGiven : (text : spec.Given) (known : List FileId) (before : D) (texts : List spec.Listed) (then : List FileId) (after : D) → Type 0 where
+  pub data AddsGiven : (text : spec.Given) (known : List FileId) (before : D) (texts : List spec.Listed) (known_now : List FileId) (after : D) → Type 0 where
     stood : {text : spec.Given} {known : List FileId} {state : D} → is_known text.id known ≡ true → AddsGiven text known state [] known state
-    added : {text : spec.Given} {known then : List FileId} {before after : D} {texts : List spec.Listed} →
+    added : {text : spec.Given} {known known_now : List FileId} {before after : D} {texts : List spec.Listed} →
         is_known text.id known ≡ false →
-        spec.AddsText files text.listed text.folder (known ++ text.id ∷ []) before texts then after →
-        AddsGiven text known before texts then after
+        spec.AddsText files text.listed text.folder (known ++ text.id ∷ []) before texts known_now after →
+        AddsGiven text known before texts known_now after
 
   -- it does not, and stops
   pub record StopsGiven (text : spec.Given) (known : List FileId) (before : D) (stop : spec.Stop) (after : D) : Type 0 where
@@ -45,25 +45,32 @@ module _ {D : Type 0} (files : Files D) where
     pub stops : spec.StopsText files text.listed text.folder (known ++ text.id ∷ []) before stop after
 
   -- what the head of a text names
-  pub data AddsHead : (text : spec.Listed) (folder : List ℕ) (known : List FileId) (before : D) (texts : List spec.Listed) (then : List FileId) (after : D) → Type 0 where
-    named : {text : spec.Listed} {folder : List ℕ} {head : Tokens} {known then : List FileId} {before after : D} {texts : List spec.Listed} →
+  pub data AddsHead : (text : spec.Listed) (folder : List ℕ) (known : List FileId) (before : D) (texts : List spec.Listed) (known_now : List FileId) (after : D) → Type 0 where
+    named : {text : spec.Listed} {folder : List ℕ} {head : Tokens} {known known_now : List FileId} {before after : D} {texts : List spec.Listed} →
         spec.files_of text.text ≡ Ok head →
-        spec.Lists files folder head known before texts then after →
-        AddsHead text folder known before texts then after
+        spec.Lists files folder head known before texts known_now after →
+        AddsHead text folder known before texts known_now after
 
   -- some of the files that a head names were passed, which added these texts: what the others add comes after these, and what stops
   -- there stops all
   pub record Past (folder : List ℕ) (from : Tokens) (known : List FileId) (before : D) (added : List spec.Listed)
-      (here : Tokens) (then : List FileId) (now : D) : Type 0 where
+      (here : Tokens) (known_now : List FileId) (now : D) : Type 0 where
     pub lists : (texts : List spec.Listed) (last : List FileId) (after : D) →
-        spec.Lists files folder here then now texts last after → spec.Lists files folder from known before (added ++ texts) last after
+        spec.Lists files folder here known_now now texts last after → spec.Lists files folder from known before (added ++ texts) last after
     pub stops : (text : spec.Listed) (stop : spec.Stop) (after : D) →
-        spec.Stops files text folder here then now stop after → spec.Stops files text folder from known before stop after
+        spec.Stops files text folder here known_now now stop after → spec.Stops files text folder from known before stop after
 
   -- the same of texts that were given
   pub record PastGiven (given : List spec.Given) (known : List FileId) (before : D) (added : List spec.Listed)
-      (passed : List spec.Given) (then : List FileId) (now : D) : Type 0 where
+      (passed : List spec.Given) (known_now : List FileId) (now : D) : Type 0 where
     pub lists : (rest : List spec.Given) (texts : List spec.Listed) (after : D) → given ≡ passed ++ rest →
-        spec.ListsAll files rest then now texts after → spec.ListsAll files given known before (added ++ texts) after
+        spec.ListsAll files rest known_now now texts after → spec.ListsAll files given known before (added ++ texts) after
     pub stops : (rest : List spec.Given) (stop : spec.Stop) (after : D) → given ≡ passed ++ rest →
-        spec.StopsAll files rest then now stop after → spec.StopsAll files given known before stop after
+        spec.StopsAll files rest known_now now stop after → spec.StopsAll files given known before stop after
+
+  -- the same of what was made so far
+  pub record Passing (folder : List ℕ) (from : Tokens) (first : ListMade) (before : D) (here : Tokens) (made : ListMade) (now : D) : Type 0 where
+    pub texts : List Listed
+    pub kept : made.texts.items ≡ first.texts.items ++ texts
+    pub grown : length first.known.items ≤ length made.known.items
+    pub past : Past folder from first.known.items before (texts_listed texts) here made.known.items now

@@ -3,6 +3,8 @@
 ghost use Rattle.std.specs.Prelude.{◌≡◌, ◌≤◌, ◌++◌, ◌∷◌, [], length, Ok, IfOk, IfErr, OnOk};
 ghost use Rattle.board_files.specs.Given.{all_given, texts_listed, StopsWhere};
 ghost use Rattle.board_files.specs.Lists.{ListsAll, StopsAll};
+ghost use Rattle.board_files.specs.declared.lists.Inside.TheVariants as inside;
+ghost use Rattle.board_files.specs.declared.lists.Stopped.TheVariants as stopped;
 
 use crate::openers::{FileId, Opener, is_known};
 use crate::paths::{folder_of, path_from};
@@ -93,7 +95,7 @@ enum Stopped {
 }
 
 impl From<AllocError> for Stopped {
-    ghost from_gives = { λ _ e. e ≡ Stopped.NoMemory };
+    ghost from_gives = { λ _ e. e ≡ stopped.NoMemory };
 
     fn from(_error: AllocError) -> Stopped {
         Stopped::NoMemory
@@ -108,18 +110,10 @@ enum Inside {
 }
 
 impl From<AllocError> for Inside {
-    ghost from_gives = { λ _ e. e ≡ Inside.There Stopped.NoMemory };
+    ghost from_gives = { λ _ e. e ≡ inside.There stopped.NoMemory };
 
     fn from(_error: AllocError) -> Inside {
         Inside::There(Stopped::NoMemory)
-    }
-}
-
-impl From<Refused> for Inside {
-    ghost from_gives = { λ refused e. e ≡ Inside.Here (Why.Refused refused) };
-
-    fn from(refused: Refused) -> Inside {
-        Inside::Here(Why::Refused(refused))
     }
 }
 
@@ -157,6 +151,7 @@ impl ListMade {
 
     // A text, after the files that its head names.
     #[cycle(listing)]
+    #[tactic(auto, using(crate::proofs::AddedLemmas::text_added, crate::proofs::AddedLemmas::map_stopped))]
     fn add_text<O: Opener>(
         &mut self,
         opener: &mut O,
@@ -172,7 +167,10 @@ impl ListMade {
     {
         push(&mut self.known, id)?;
         match self.add_head(opener, &text, folder) {
-            Ok(()) => Ok(push(&mut self.texts, text)?),
+            Ok(()) => match push(&mut self.texts, text) {
+                Ok(()) => Ok(()),
+                Err(_) => Err(Stopped::NoMemory),
+            },
             Err(Inside::Here(why)) => Err(Stopped::At(text, why)),
             Err(Inside::There(stopped)) => Err(stopped),
         }
@@ -180,6 +178,7 @@ impl ListMade {
 
     // The files that the head of a text names. A brief of the first version names none.
     #[cycle(listing)]
+    #[tactic(auto, using(crate::proofs::AddedLemmas::map_ok, crate::proofs::AddedLemmas::map_inside, crate::proofs::AddedLemmas::nothing_added, crate::proofs::AddedLemmas::other_letters))]
     fn add_head<O: Opener>(
         &mut self,
         opener: &mut O,
@@ -192,15 +191,21 @@ impl ListMade {
         ensures stops { IfErr result (λ e. IsInside (listed text.now) e (λ stop.
             StopsText O.files (listed text.now) folder.now self.old.known.items opener.old stop opener.new)) }
     {
-        let tokens = begin(text.text.as_slice())?;
-        match tokens.letters() {
-            Letters::Board => self.add_files(opener, tokens, text, folder),
-            _ => Ok(()),
+        match begin(text.text.as_slice()) {
+            Ok(tokens) => {
+                if tokens.letters() == Letters::Board {
+                    self.add_files(opener, tokens, text, folder)
+                } else {
+                    Ok(())
+                }
+            }
+            Err(refused) => Err(Inside::Here(Why::Refused(refused))),
         }
     }
 
     // The files that the head of this text names from here on.
     #[cycle(listing)]
+    #[tactic(auto, using(crate::proofs::AddedLemmas::passing_none, crate::proofs::AddedLemmas::passing_one, crate::proofs::AddedLemmas::passing_all, crate::proofs::AddedLemmas::map_inside))]
     fn add_files<O: Opener>(
         &mut self,
         opener: &mut O,
@@ -209,21 +214,30 @@ impl ListMade {
         folder: &[u8],
     ) -> Result<(), Inside>
         ensures added { OnOk result (Added (λ texts then.
-            Lists O.files folder.now (left tokens) self.old.known.items opener.old texts then opener.new)
+            Lists O.files folder.now (left tokens.entry) self.old.known.items opener.old texts then opener.new)
             self.old self.new) }
         ensures stops { IfErr result (λ e. IsInside (listed text.now) e (λ stop.
-            Stops O.files (listed text.now) folder.now (left tokens) self.old.known.items opener.old stop opener.new)) }
+            Stops O.files (listed text.now) folder.now (left tokens.entry) self.old.known.items opener.old stop opener.new)) }
     {
-        while let Some(file) = tokens.next_file()? {
-            let refused = tokens.no_name(PlanError::TooMany(file.line));
-            self.add_file(opener, file, text, folder, refused)?;
-            tokens.end_file()?;
+        loop {
+            let file = match tokens.next_file() {
+                Ok(Some(file)) => file,
+                Ok(None) => return Ok(()),
+                Err(refused) => return Err(Inside::Here(Why::Refused(refused))),
+            };
+            let too_many = tokens.no_name(PlanError::TooMany(file.line));
+            if let Err(inside) = self.add_file(opener, file, text, folder, too_many) {
+                return Err(inside);
+            }
+            if let Err(refused) = tokens.end_file() {
+                return Err(Inside::Here(Why::Refused(refused)));
+            }
         }
-        Ok(())
     }
 
     // The file that has this name in this text, unless it is known. It is refused so where there are too many.
     #[cycle(listing)]
+    #[tactic(auto, using(crate::proofs::AddedLemmas::map_ok, crate::proofs::AddedLemmas::map_stopped, crate::proofs::AddedLemmas::nothing_added))]
     fn add_file<O: Opener>(
         &mut self,
         opener: &mut O,
@@ -234,16 +248,22 @@ impl ListMade {
     ) -> Result<(), Inside>
         requires { too_many.error ≡ TooMany file.line }
         ensures added { OnOk result (Added (λ texts then.
-            Adds O.files (path_from folder.now file.name.now) self.old.known.items opener.old texts then opener.new)
+            Adds O.files (path_from folder.now file.entry.name.now) self.old.known.items opener.old texts then opener.new)
             self.old self.new) }
         ensures stops { IfErr result (λ e. IsInside (listed text.now) e (λ stop.
-            StopsAt O.files (listed text.now) file.line (path_from folder.now file.name.now)
+            StopsAt O.files (listed text.now) file.entry.line (path_from folder.now file.entry.name.now)
             self.old.known.items opener.old stop opener.new)) }
     {
         let path = path_from(self.alloc, folder, file.name)?;
         let id = match opener.open(path.as_slice()) {
             Ok(id) => id,
-            Err(error) => return Err(unread(file.line, path, error)),
+            Err(error) => {
+                return Err(Inside::Here(Why::Unread {
+                    line: file.line,
+                    path,
+                    error,
+                }));
+            }
         };
         if is_known(id, self.known.as_slice()) {
             return Ok(());
@@ -252,8 +272,17 @@ impl ListMade {
             return Err(Inside::Here(Why::Refused(too_many)));
         }
         match opener.give() {
-            Ok(text) => self.add_opened(opener, Listed { path, text }, id),
-            Err(error) => Err(unread(file.line, path, error)),
+            Ok(bytes) => match self.add_opened(opener, Listed { path, text: bytes }, id) {
+                Ok(()) => Ok(()),
+                Err(stopped) => Err(Inside::There(stopped)),
+            },
+            Err(error) => {
+                Err(Inside::Here(Why::Unread {
+                    line: file.line,
+                    path,
+                    error,
+                }))
+            }
         }
     }
 
@@ -264,20 +293,17 @@ impl ListMade {
         opener: &mut O,
         text: Listed,
         id: FileId,
-    ) -> Result<(), Inside>
+    ) -> Result<(), Stopped>
         requires { length self.old.known.items ≤ most_before }
         ensures added { OnOk result (Added (λ texts then.
             AddsText O.files (listed text) (folder_of text.path.items) (self.old.known.items ++ id ∷ [])
             opener.old texts then opener.new) self.old self.new) }
-        ensures stops { IfErr result (λ e. (this : spec.Listed) → IsInside this e (λ stop.
+        ensures stops { IfErr result (λ e. IsStopped e (λ stop.
             StopsText O.files (listed text) (folder_of text.path.items) (self.old.known.items ++ id ∷ [])
             opener.old stop opener.new)) }
     {
         let folder = folder_of(text.path.as_slice()).to_vec(self.alloc)?;
-        match self.add_text(opener, text, folder.as_slice(), id) {
-            Ok(()) => Ok(()),
-            Err(stopped) => Err(Inside::There(stopped)),
-        }
+        self.add_text(opener, text, folder.as_slice(), id)
     }
 }
 
@@ -288,10 +314,4 @@ fn push<T: Drop>(all: &mut Vec<T>, one: T) -> Result<(), AllocError>
         Ok(()) => Ok(()),
         Err(_) => Err(AllocError),
     }
-}
-
-fn unread(line: u64, path: Vec<u8>, error: RunError) -> Inside
-    ensures { result ≡ Inside.Here (Why.Unread line path error) }
-{
-    Inside::Here(Why::Unread { line, path, error })
 }

@@ -52,11 +52,10 @@ pub fn on_named_file(
     error: Option<&Error>,
 ) -> Result<Hints, AllocError> {
     let mut lines = Lines::new(alloc);
-    lines.part("the brief ");
-    push_path(alloc, &mut lines, path);
-    lines.part(", which ");
     push_path(alloc, &mut lines, at.file);
-    lines.part(format_args!(" names on line {}, ", at.line));
+    lines.part(" names ");
+    push_path(alloc, &mut lines, path);
+    lines.part(format_args!(" on line {}, which ", at.line));
     lines.say(match error {
         Some(_) => "cannot be read:",
         None => "gave an error in reading, or has no end",

@@ -294,6 +294,11 @@ fn listed<'a, R: Files + Input + Eprint + Clock + AllocGlobal>(
 ) -> Result<Texts<Source<'a, R, R::File, R::Reader>>, AllocError> {
     let alloc = rt.alloc();
     let several = texts.len() > 1;
+    let (first, texts) = if errand.asks_meaning() {
+        (Vec::new(alloc), texts)
+    } else {
+        parted(alloc, texts)?
+    };
     let mut opener = FileOpener {
         rt,
         ids,
@@ -303,13 +308,44 @@ fn listed<'a, R: Files + Input + Eprint + Clock + AllocGlobal>(
         count: 0,
     };
     match list_texts(alloc, &mut opener, texts) {
-        Ok(list) => of_list(alloc, list, several),
+        Ok(list) => of_list(alloc, joined(first, list)?, several),
         Err(Unlisted::In(text, why, before)) => {
             let several = several || opener.count > 0;
-            not_listed(alloc, text, why, before, opener.error, several)
+            not_listed(
+                alloc,
+                text,
+                why,
+                joined(first, before)?,
+                opener.error,
+                several,
+            )
         }
         Err(Unlisted::NoMemory) => Err(AllocError),
     }
+}
+
+// Those that name no files, and the briefs of the second version.
+fn parted(
+    alloc: Global,
+    texts: Vec<GivenText>,
+) -> Result<(Vec<Listed>, Vec<GivenText>), AllocError> {
+    let mut others = Vec::new(alloc);
+    let mut seconds = Vec::new(alloc);
+    for text in texts {
+        if is_second_version(text.listed.text.as_slice()) {
+            push(&mut seconds, text)?;
+        } else {
+            push(&mut others, text.listed)?;
+        }
+    }
+    Ok((others, seconds))
+}
+
+fn joined(mut first: Vec<Listed>, then: Vec<Listed>) -> Result<Vec<Listed>, AllocError> {
+    for text in then {
+        push(&mut first, text)?;
+    }
+    Ok(first)
 }
 
 fn of_list<S: Drop>(

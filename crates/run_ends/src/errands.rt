@@ -64,9 +64,15 @@ impl<'a> Errand<'a> {
             Request::Decode { .. } | Request::Signals { .. } => false,
             Request::Rewrite { rewriting, .. } => match rewriting {
                 Rewriting::Expand | Rewriting::Certify | Rewriting::Print => true,
-                Rewriting::Format(_) | Rewriting::Brief => false,
+                Rewriting::Format(layout) => layout == Layout::Compared,
+                Rewriting::Brief => false,
             },
         }
+    }
+
+    /// Whether its texts have a meaning together. Else plans may stand among them.
+    pub(crate) fn asks_meaning(self) -> bool {
+        !self.rewrites(Rewriting::Format(Layout::Compared))
     }
 
     // Those that were given.

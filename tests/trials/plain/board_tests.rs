@@ -1,5 +1,6 @@
 //! The rows of docs/PLANS.md on the second version of briefs.
 
+use super::boards::{list_of, Text};
 use super::briefs::expansion_of;
 use super::commands::{expand, spelling, File};
 use super::layouts::laid_out;
@@ -200,5 +201,66 @@ fn the_second_version_is_laid_out() {
         [("brief 2\n\"a", "P3 line 2"), ("brief 2 \"\\\"", "P3 line 1"), ("brief 1 # \u{b0}", "P1 line 1")]
     {
         assert_eq!(laid_out(text.as_bytes()), Err(refusal.to_owned()), "{text}");
+    }
+}
+
+// The texts of a list that these files make up, by their paths, where the first of them is given: each has a file of its own, but
+// for those that begin with another one's number.
+fn list(files: &[(&str, &str)]) -> Result<String, String> {
+    let look = |path: &str| {
+        let place = files.iter().position(|(name, _)| *name == path)?;
+        Some((place, files[place].1.to_owned()))
+    };
+    let (path, text) = files[0];
+    let given = [Text { path: path.to_owned(), file: 0, text: text.to_owned() }];
+    let list = list_of(&given, &look)?;
+    Ok(list.iter().map(|one| one.path.as_str()).collect::<Vec<_>>().join(" "))
+}
+
+#[test]
+fn heads_name_the_texts_of_a_board() {
+    let board = ("board", "brief 2 with \"a\" ; with \"sub/b\" ;");
+    let rows: [(&[(&str, &str)], &str); 8] = [
+        (&[("alone", "brief 2 device a 0x10 ;")], "alone"),
+        (&[("alone", "brief 1 with \"a\" ;")], "alone"),
+        (&[board, ("a", "brief 1"), ("sub/b", "brief 2")], "a sub/b board"),
+        (&[board, ("a", "brief 2 with \"sub/b\" ;"), ("sub/b", "brief 2")], "sub/b a board"),
+        (&[board, ("a", "brief 2 with \"board\" ; with \"a\" ;"), ("sub/b", "brief 2")], "a sub/b board"),
+        (&[board, ("a", "brief 2"), ("sub/b", "brief 2 with \"c\" ;"), ("sub/c", "brief 2")], "a sub/c sub/b board"),
+        (&[("x/y", "brief 2 with \"../a\" ;"), ("x/../a", "brief 2 with \"/b\" ;"), ("/b", "brief 2")], "/b x/../a x/y"),
+        (&[("-", "brief 2 with \"a\" ; # \" "), ("a", "brief 2")], "a -"),
+    ];
+    for (files, wanted) in rows {
+        assert_eq!(list(files), Ok(wanted.to_owned()));
+    }
+    let rows: [(&[(&str, &str)], &str); 10] = [
+        (&[("b", "brief 2 with ;")], "P3 line 1"),
+        (&[("b", "brief 2 with a ;")], "P3 line 1"),
+        (&[("b", "brief 2 with \"\" ;")], "P3 line 1"),
+        (&[("b", "brief 2 with \"b\"\noops")], "P3 line 2"),
+        (&[("b", "brief 2 with \"none\" oops")], "read"),
+        (&[("b", "brief 2 with \"a\" oops"), ("a", "brief 2")], "P3 line 1 of b"),
+        (&[("b", "brief 2 with \"a\" ;"), ("a", "plan 1")], "P2 line 1 of a"),
+        (&[("b", "brief 2 with \"a\" ;"), ("a", "")], "P2 line 1 of a"),
+        (&[("b", "brief 2 with \"a\" ;"), ("a", "brief 2\nwith 1 ;")], "P3 line 2 of a"),
+        (&[("b", "brief 2 with \"a\" ;"), ("a", "brief 1 \u{b0}")], "a b"),
+    ];
+    for (files, wanted) in rows {
+        match list(files) {
+            Ok(found) => assert_eq!(found, wanted),
+            Err(found) => assert_eq!(found, wanted),
+        }
+    }
+}
+
+#[test]
+fn a_list_has_64_texts() {
+    let named = |count: usize| (1..=count).map(|k| format!("with \"{k}\" ;\n")).collect::<String>();
+    for (count, wanted) in [(63, None), (64, Some("P6 line 65 of board"))] {
+        let board = format!("brief 2\n{}", named(count));
+        let names: Vec<String> = (1..=count).map(|k| k.to_string()).collect();
+        let mut files = vec![("board", board.as_str())];
+        files.extend(names.iter().map(|name| (name.as_str(), "brief 2")));
+        assert_eq!(list(&files).err().as_deref(), wanted);
     }
 }

@@ -55,11 +55,53 @@ pub fn is_board(text: &str) -> bool {
     opened(text).is_ok_and(|reading| reading.language() == Language::Board)
 }
 
-// The words after the head of a brief. What is none of the second version is judged as one of the first.
-fn opened(text: &str) -> Result<Reading<'_>, Refusal> {
+/// Whether its first two words are those of the second version, whatever its head names.
+pub fn begins_board(text: &str) -> bool {
+    begun(text).is_some()
+}
+
+// The words after these two.
+fn begun(text: &str) -> Option<Reading<'_>> {
     let mut board = Reading::new(text, Language::Board);
-    if board.takes("brief") && board.takes("2") {
-        return Ok(board);
+    (board.takes("brief") && board.takes("2")).then_some(board)
+}
+
+/// Says the files that the head of a brief of the second version names, each with the line of its name, before what follows
+/// that is looked at. An error is the refusal of the head, or what the listener answers.
+pub fn named_files<E>(
+    text: &str,
+    say: &mut dyn FnMut(&str, usize) -> Result<(), E>,
+) -> Result<(), Result<Refusal, E>> {
+    match begun(text) {
+        Some(mut reading) => pass_files(&mut reading, say),
+        None => Ok(()),
+    }
+}
+
+// Past the files that a head names.
+fn pass_files<E>(
+    reading: &mut Reading,
+    say: &mut dyn FnMut(&str, usize) -> Result<(), E>,
+) -> Result<(), Result<Refusal, E>> {
+    while reading.takes("with") {
+        let word = reading.next().map_err(Ok)?;
+        let name = word.text.strip_prefix('"').and_then(|rest| rest.strip_suffix('"')).unwrap_or("");
+        word.only_if((1..=255).contains(&name.len()), 3).map_err(Ok)?;
+        say(name, word.line).map_err(Err)?;
+        reading.expect(";").map_err(Ok)?;
+    }
+    Ok(())
+}
+
+/// The words after the head of a brief. What is none of the second version is judged as one of the first.
+pub fn opened(text: &str) -> Result<Reading<'_>, Refusal> {
+    if let Some(mut board) = begun(text) {
+        let passed = pass_files(&mut board, &mut |_, _| Ok::<(), std::convert::Infallible>(()));
+        return match passed {
+            Ok(()) => Ok(board),
+            Err(Ok(refusal)) => Err(refusal),
+            Err(Err(never)) => match never {},
+        };
     }
     let mut brief = Reading::new(text, Language::Brief);
     brief.version(&["brief"])?;

@@ -1,0 +1,108 @@
+-- Texts that were added to a list, and what holds of them.
+use Rattle.std.proofs.Common.{◌≡◌, ℕ, ◌≤◌, ◌+◌, true, false, List, [], ◌∷◌, ◌++◌, length, map, length-append, append-nil, append_assoc, refl, ap, sym, subst, ◌∙◌, arith}
+use Rattle.std.specs.Prelude.{Result, Ok, Err, OnOk}
+use Rattle.brief_tokens.specs.Heads.{next_file, after_file, names, no_more, wrong}
+use Rattle.brief_tokens.specs.Tokens.{Tokens, last}
+use Rattle.board_files.specs.Files.{Files, is_known}
+use Rattle.board_files.specs.Given.{listed, texts_listed, stop_of}
+use Rattle.board_files.specs.Lists as spec
+use Rattle.lexer.specs.Lexemes.{text_end}
+use Rattle.lexer.specs.declared.lexemes.Letters.{Letters}
+use Rattle.lexer.specs.declared.lexemes.Letters.TheVariants.{Plain, Dots, Brief, Board}
+use Rattle.board_files.specs.declared.lists.Inside.{Inside}
+use Rattle.board_files.specs.declared.lists.Inside.TheVariants as inside
+use Rattle.board_files.specs.declared.lists.Stopped.{Stopped}
+use Rattle.board_files.specs.declared.lists.Stopped.TheVariants as stopped
+use Rattle.board_files.specs.Progress.{IsStopped, IsInside, Added, AddsGiven, stood, added, AddsHead, named, Past, Passing}
+use Rattle.board_files.specs.declared.lists.ListMade.{ListMade}
+use Rattle.board_files.specs.declared.lists.Listed.{Listed}
+use Rattle.board_files.specs.declared.openers.FileId.{FileId}
+use Rattle.board_files.proofs.PastLemmas.{past_none, past_one}
+
+pub map_over : {A B : Type 0} (f : A → B) (xs ys : List A) → map f (xs ++ ys) ≡ map f xs ++ map f ys
+map_over f [] ys = refl
+map_over f (x ∷ xs) ys = ap (λ all. f x ∷ all) (map_over f xs ys)
+
+pub nothing_added : (Holds : List spec.Listed → List FileId → Type 0) (made : ListMade) → Holds [] made.known.items → Added Holds made made
+nothing_added Holds made h = record { texts = []; kept = sym (append-nil made.texts.items); grown = omega arith; holds = h }
+
+pub map_added : (A B : List spec.Listed → List FileId → Type 0) (before now : ListMade) →
+    ((texts : List spec.Listed) (known : List FileId) → A texts known → B texts known) → Added A before now → Added B before now
+map_added A B before now f a = record { texts = a.texts; kept = a.kept; grown = a.grown; holds = f (texts_listed a.texts) now.known.items a.holds }
+
+pub map_ok : {V E : Type 0} (result : Result V E) (A B : List spec.Listed → List FileId → Type 0) (before now : ListMade) →
+    ((texts : List spec.Listed) (known : List FileId) → A texts known → B texts known) → OnOk result (Added A before now) → OnOk result (Added B before now)
+map_ok (Ok v) A B before now f a = map_added A B before now f a
+map_ok (Err e) A B before now f a = a
+
+module _ {D : Type 0} (files : Files D) where
+  -- a text after what its head names
+  pub text_added : (text : Listed) (folder : List ℕ) (known : List FileId) (before after : D) (first begun made final : ListMade) →
+      begun.texts.items ≡ first.texts.items → length first.known.items ≤ length begun.known.items → known ≡ begun.known.items →
+      final.texts.items ≡ made.texts.items ++ text ∷ [] → final.known.items ≡ made.known.items →
+      Added (λ texts now. AddsHead files (listed text) folder known before texts now after) begun made →
+      Added (λ texts now. spec.AddsText files (listed text) folder known before texts now after) first final
+  text_added text folder known before after first begun made final same more is end ids a = record {
+    texts = a.texts ++ text ∷ [];
+    kept = end ∙ ap (λ xs. xs ++ text ∷ []) a.kept ∙ append_assoc begun.texts.items a.texts (text ∷ []) ∙ ap (λ xs. xs ++ (a.texts ++ text ∷ [])) same;
+    grown = let n = a.grown in let m = ap length ids in omega (arith, more, n, m);
+    holds =
+        subst (λ all. spec.AddsText files (listed text) folder known before all final.known.items after) (sym (map_over listed a.texts (text ∷ [])))
+        (subst (λ ids. spec.AddsText files (listed text) folder known before (texts_listed a.texts ++ listed text ∷ []) ids after) (sym ids)
+        (text_last a.holds));
+  }
+    where
+      text_last : AddsHead files (listed text) folder known before (texts_listed a.texts) made.known.items after →
+          spec.AddsText files (listed text) folder known before (texts_listed a.texts ++ listed text ∷ []) made.known.items after
+      text_last (named head lists) = spec.text_last head lists
+
+  pub passing_none : (folder : List ℕ) (from : Tokens) (first : ListMade) (before : D) → Passing files folder from first before from first before
+  passing_none folder from first before = record {
+    texts = [];
+    kept = sym (append-nil first.texts.items);
+    grown = omega arith;
+    past = past_none files folder from first.known.items before;
+  }
+
+  pub passing_one : (folder name : List ℕ) (line : ℕ) (from here rest more : Tokens) (first made final : ListMade) (before now next : D) →
+      Passing files folder from first before here made now →
+      next_file here ≡ names name line rest →
+      Added (λ texts ids. spec.Adds files (spec.path_from folder name) made.known.items now texts ids next) made final →
+      after_file rest ≡ Ok more →
+      Passing files folder from first before more final next
+  passing_one folder name line from here rest more first made final before now next p is_named a ended = record {
+    texts = p.texts ++ a.texts;
+    kept = a.kept ∙ ap (λ xs. xs ++ a.texts) p.kept ∙ append_assoc first.texts.items p.texts a.texts;
+    grown = let n = p.grown in let m = a.grown in omega (arith, n, m);
+    past =
+        subst (λ all. Past files folder from first.known.items before all more final.known.items next) (sym (map_over listed p.texts a.texts))
+        (past_one files folder name line from here rest more first.known.items made.known.items final.known.items before now next (texts_listed p.texts) (texts_listed a.texts) p.past is_named a.holds ended);
+  }
+
+  pub passing_all : (folder : List ℕ) (from here rest : Tokens) (first made : ListMade) (before now : D) →
+      Passing files folder from first before here made now →
+      next_file here ≡ no_more rest →
+      Added (λ texts ids. spec.Lists files folder from first.known.items before texts ids now) first made
+  passing_all folder from here rest first made before now p none = record {
+    texts = p.texts;
+    kept = p.kept;
+    grown = p.grown;
+    holds =
+        subst (λ all. spec.Lists files folder from first.known.items before all made.known.items now) (append-nil (texts_listed p.texts))
+        (p.past.lists [] made.known.items now (spec.no_file none));
+  }
+
+pub map_stopped : (s : Stopped) (P Q : spec.Stop → Type 0) → ((stop : spec.Stop) → P stop → Q stop) → IsStopped s P → IsStopped s Q
+map_stopped (stopped.At text why) P Q f h = f (stop_of (listed text) why) h
+map_stopped stopped.NoMemory P Q f h = h
+
+pub map_inside : (text : spec.Listed) (e : Inside) (P Q : spec.Stop → Type 0) → ((stop : spec.Stop) → P stop → Q stop) → IsInside text e P → IsInside text e Q
+map_inside text (inside.Here why) P Q f h = f (stop_of text why) h
+map_inside text (inside.There s) P Q f h = map_stopped s P Q f h
+
+-- a brief of the first version names no files
+pub other_letters : (l : Letters) (rest : Tokens) → (l ≡ Board → ⊥) → spec.files_begin (Ok (l, rest)) ≡ Ok (last text_end 1)
+other_letters Plain rest no = refl
+other_letters Dots rest no = refl
+other_letters Brief rest no = refl
+other_letters Board rest no = absurd (no refl)
