@@ -150,7 +150,9 @@ fn compare<I: Input, O: Output>(
             Ok(formatted) => {
                 let file = files.of(u32::try_from(number).unwrap_or(0)).unwrap_or("");
                 push_change(&mut report, file, &formatted);
-                before.push(formatted.text)?;
+                if before.push(formatted.text).is_err() {
+                    return Err(Halt::Run(RunError::NoMemory));
+                }
             }
             Err(halted) => return Err(Halt::of(after(halted, before), Takes::Either)),
         }
