@@ -102,19 +102,19 @@ pub sendings_of : (controllers : List Listing) → sum_by (λ c. length c.1) (ma
 sendings_of controllers = sums 0 controllers
 
 module _ (draft : Draft) (has listed : List (List ℕ)) (name : List ℕ) where
-  pub listing_judged : (known before twice many : Bool) → is_message draft name ≡ known → have_one_of has (stands_for draft name) ≡ before → have_one_of listed (stands_for draft name) ≡ twice
+  pub listing_judged : (known twice many : Bool) → is_message draft name ≡ known → (have_one_of has (stands_for draft name) || have_one_of listed (stands_for draft name)) ≡ twice
       → nat_lt MOST_SENDINGS (sendings draft + length listed + length (stands_for draft name)) ≡ many
-      → listing_refusal draft has listed name ≡ (if not known then Some Unknown else if before || twice then Some Twice else if many then Some TooMany else None)
+      → listing_refusal draft has listed name ≡ (if not known then Some Unknown else if twice then Some Twice else if many then Some TooMany else None)
   unfolding listing_refusal
-  listing_judged known before twice many is_known is_before is_twice are_many =
-      λ i. if not (is_known i) then Some Unknown else if is_before i || is_twice i then Some Twice else if are_many i then Some TooMany else None
+  listing_judged known twice many is_known is_twice are_many =
+      λ i. if not (is_known i) then Some Unknown else if is_twice i then Some Twice else if are_many i then Some TooMany else None
 
 -- ---- what adds to a controller
 
-pub extend_judged : (draft : Draft) (name : List ℕ) (known labelled apart : Bool) → is_some (lookup (bytes_eq name) draft.controllers) ≡ known → is_labelled draft name ≡ labelled → list_any (is_side_of name) draft.nevers ≡ apart
-    → extend_refusal_of draft name ≡ (if not known then Some Unknown else if labelled || apart then Some Twice else None)
+pub extend_judged : (draft : Draft) (name : List ℕ) (known apart : Bool) → is_some (lookup (bytes_eq name) draft.controllers) ≡ known → (is_labelled draft name || list_any (is_side_of name) draft.nevers) ≡ apart
+    → extend_refusal_of draft name ≡ (if not known then Some Unknown else if apart then Some Twice else None)
 unfolding extend_refusal_of
-extend_judged draft name known labelled apart is_known is_split are_apart = λ i. if not (is_known i) then Some Unknown else if is_split i || are_apart i then Some Twice else None
+extend_judged draft name known apart is_known is_apart = λ i. if not (is_known i) then Some Unknown else if is_apart i then Some Twice else None
 
 -- ---- names of controllers and of parts
 

@@ -29,14 +29,19 @@ struct Known<'a> {
     at: NameAt,
     // that of the message, which is empty where it is no family
     range: &'a [u8],
-    // whether its item is an `extend`
-    is_added: bool,
+    // whether its item adds to a controller
+    adds: bool,
 }
 
 impl Known<'_> {
     // Whether an item gives this name to one of this kind.
     fn gives(self, kind: Kind) -> bool {
         self.at.gives(kind)
+    }
+
+    // Whether messages are listed after it, which is the name of a controller.
+    fn begins_list(self) -> bool {
+        self.gives(Kind::Controller) || self.adds && self.uses(Kind::Controller)
     }
 
     // Whether a controller lists it.
@@ -46,12 +51,7 @@ impl Known<'_> {
 
     // Whether it is a side of a `never`.
     fn is_side(self) -> bool {
-        self.uses(Kind::Controller) && !self.is_added
-    }
-
-    // Whether it is the controller whose list follows.
-    fn heads_list(self) -> bool {
-        self.gives(Kind::Controller) || self.uses(Kind::Controller) && self.is_added
+        self.uses(Kind::Controller) && !self.adds
     }
 
     fn uses(self, kind: Kind) -> bool {
@@ -131,14 +131,14 @@ fn push_known<'a>(
                 name: texts.word(at),
                 at,
                 range: texts.range(at),
-                is_added: is_added(texts, at),
+                adds: adds(texts, at),
             },
         )?),
     }
 }
 
-// Whether a name stands in an `extend`.
-fn is_added(texts: &NamedTexts<'_>, at: NameAt) -> bool {
+// Whether the item in which a name stands adds to a controller.
+fn adds(texts: &NamedTexts<'_>, at: NameAt) -> bool {
     matches!(texts.item(at), Some(item) if item.kind == ItemKind::Extends)
 }
 
@@ -175,10 +175,10 @@ enum Stands {
     Side,
     // a `never` with the same two
     Never(Option<Stand>),
-    // a `never` that names the controller of an `extend`, or what it sends
-    Kept(Option<Stand>),
     // a controller with the name of the part that a label makes
     Part(Option<Stand>),
+    // a `never` that names the controller to which an item adds
+    Apart(Option<Stand>),
 }
 
 impl Stands {
@@ -188,8 +188,8 @@ impl Stands {
             | Stands::Listed(stand)
             | Stands::Member(stand)
             | Stands::Never(stand)
-            | Stands::Kept(stand)
-            | Stands::Part(stand) => stand,
+            | Stands::Part(stand)
+            | Stands::Apart(stand) => stand,
             Stands::Side => None,
         }
     }
@@ -230,17 +230,11 @@ fn stands_among(known: &[Known<'_>], refused: &RefusedIn<'_>) -> Stands {
         ),
         Some(Expected::Sending) => Stands::Listed(stand_in_list(known, word)),
         Some(Expected::Times { .. }) => Stands::Member(stand_of_member(known, word)),
-        _ if is_in_extend(refused) => Stands::Kept(stand_of_side(known, word)),
+        Some(Expected::Controller) if first_side(known).is_none() => {
+            Stands::Apart(stand_of_side(known, word))
+        }
         _ => side_among(known, word),
     }
-}
-
-// Whether the refused token stands in an `extend`.
-fn is_in_extend(refused: &RefusedIn<'_>) -> bool {
-    let Some(at) = refused.spans.name_at(refused.number(), refused.place.start) else {
-        return false;
-    };
-    matches!(refused.spans.item(at), Some(item) if item.kind == ItemKind::Extends)
 }
 
 fn push_stands(alloc: Global, lines: &mut Lines, refused: &RefusedIn<'_>, stands: Stands) {
@@ -258,12 +252,12 @@ fn push_stands(alloc: Global, lines: &mut Lines, refused: &RefusedIn<'_>, stands
             lines.part("both are of one controller, which starts one message at a time")
         }
         Stands::Never(_) => lines.part("these two stand in a 'never' already"),
-        Stands::Kept(_) => lines.part(
-            "a 'never' before this place names the controller, or what it sends: 'extend' comes before that",
-        ),
         Stands::Part(_) => lines.part(
             "a label makes a controller, with '_' in place of '/': an earlier one has this name",
         ),
+        Stands::Apart(_) => {
+            lines.part("what adds to a controller stands before each 'never' that names it")
+        }
     }
     if let Some(stand) = stands.stand() {
         push_place(alloc, lines, refused, stand);
@@ -295,22 +289,22 @@ fn push_place(alloc: Global, lines: &mut Lines, refused: &RefusedIn<'_>, stand: 
     }
 }
 
-// Where the controller of the last list lists this, in that list or in one before it.
+// Where the controller of the last item lists this, in that item or in one before it.
 fn stand_in_list(known: &[Known<'_>], word: &[u8]) -> Option<Stand> {
-    let wanted = known.iter().rev().find(|one| one.heads_list())?.name;
+    let last = known.iter().rev().find(|one| one.begins_list())?.name;
     let mut controller: &[u8] = &[];
     for one in known {
-        if one.heads_list() {
+        if one.begins_list() {
             controller = one.name;
         }
-        if controller == wanted && one.is_listed() && one.name == word {
+        if controller == last && one.is_listed() && one.name == word {
             return Some(one.stand());
         }
     }
     None
 }
 
-// The side of a `never` that is this controller, or what it sends.
+// A `never` that names this controller, or a label of it.
 fn stand_of_side(known: &[Known<'_>], controller: &[u8]) -> Option<Stand> {
     for one in known {
         if one.is_side() && controller_of(one.name) == controller {
@@ -451,7 +445,7 @@ fn push_absent(alloc: Global, lines: &mut Lines, refused: &RefusedIn<'_>, known:
 
 // Says which word of the language is meant, where it may be that no byte is.
 fn push_keyword(alloc: Global, lines: &mut Lines, expected: Expected, word: &[u8]) {
-    match words_of(alloc, expected) {
+    match words_of(alloc, expected, false) {
         Ok(words) => {
             let word = str::from_utf8(word).unwrap_or("");
             let _ = push_meant(alloc, lines, words.as_slice(), word);
@@ -571,7 +565,7 @@ fn push_all(
     let mut nearest = Nearest::new(alloc, word);
     let mut controller: &[u8] = &[];
     for one in known {
-        if one.heads_list() {
+        if one.begins_list() {
             controller = one.name;
         }
         let is_shown = match listed {
