@@ -155,7 +155,6 @@ fn part_of_keyword(keyword: Keyword) -> Part<'static> {
         Keyword::Device => Part::Item(ItemKind::Gives(Kind::Device)),
         Keyword::Byte => Part::Item(ItemKind::Gives(Kind::Byte)),
         Keyword::Message => Part::Item(ItemKind::Gives(Kind::Message)),
-        // what adds to a controller has its name and those of messages, as the controller has
         Keyword::Controller => Part::Item(ItemKind::Gives(Kind::Controller)),
         Keyword::Extend => Part::Item(ItemKind::Extends),
         Keyword::Interrupt => Part::Item(ItemKind::Gives(Kind::Interrupt)),
