@@ -50,10 +50,12 @@ told "the nearest names on one line" 2 "" \
     "text:4:14: error: 'gets': no message before this place has this name; the nearest names of messages: get, set [P8]" check text
 printf 'brief 1\nmessage a write 0x48 ;\ncontroller main b ;\nmessage b write 0x48 ;\nnever 1st/a main ;\n' >text
 told "the label of what is no controller belongs to no name before it" 2 "" \
-    "text:3:17: error: 'b': the message stands below, on line 4: messages come before what names them [P8]" check text
+    "text:3:17: error: 'b': the message stands below, on line 4: messages come before what names them [P8]
+text:5:7: error: expected here: the name of a controller or a label (a controller, '/' and its message) [P3]" check text
 printf 'brief 1\nmessage a write 0x48 ;\ncontroller main fan ;\nmessage 2nd write fan ;\n' >text
 told "what a message names is not its name" 2 "" \
-    "text:3:17: error: 'fan': no message before this place has this name; the nearest names of messages: a [P8]" check text
+    "text:3:17: error: 'fan': no message before this place has this name; the nearest names of messages: a [P8]
+text:4:9: error: expected here: a name (a letter, then letters, digits and '_', 32 at most) [P3]" check text
 
 # shown PLACE REASON TEXT: the first line of the messages on a 'brief 2' with this line.
 shown() {

@@ -282,6 +282,13 @@ REFUSED = [
 for code, text, span in REFUSED:
     want(f'{code} at {span}', [[code, 1, *span]], places(server.change(BRIEF, text)))
 want('mended', [], server.change(BRIEF, SAFE))
+want('all that is refused, and nothing that follows from it',
+     [['P3', 1, 7, 13, 7, 14], ['P8', 1, 8, 18, 8, 22], ['P1', 1, 9, 4, 9, 5], ['P4', 1, 10, 24, 10, 25]],
+     places(server.change(BRIEF, SAFE + 'device other ;\nmessage bad write none other ;\n#  \t\u00e9 \u00e9\n'
+                          'message less read other 0 ;\ncontroller last bad less ;\n')))
+want('after an item that is being typed', [['P3', 1, 2, 0, 2, 4], ['P7', 1, 7, 5, 7, 9]],
+     places(server.change(BRIEF, SAFE.replace('byte', 'message\nbyte').replace('device', '').replace('eeprom 0x50 ;\n', '')
+                          .replace('eeprom', '0x50') + 'byte page 0x11 ;\n')))
 told = server.change(BRIEF, SAFE + 'byte page 0x11 ;\n')
 want('where a name stands already', [[BRIEF, [2, 5, 2, 9]]],
      [[other['location']['uri'], spot(other['location']['range'])] for other in told[0]['relatedInformation']])
@@ -375,6 +382,9 @@ def here(*span):
 
 want('a device after write', here(1, 7, 1, 13), defined(3, 20))
 want('a device after read', here(1, 7, 1, 13), defined(3, 36))
+server.change(BRIEF, BOARD.replace('brief 1', 'brief 2').replace('page read eeprom 2 ;', 'page wr(eeprom) rd( eeprom ) ;'))
+want('a device of a header that is sent as a byte', [here(1, 7, 1, 13)] * 2, [defined(3, 35), defined(3, 47)])
+server.change(BRIEF, BOARD)
 want('a device of an interrupt', here(1, 7, 1, 13), defined(7, 17))
 want('a device after else', here(1, 7, 1, 13), defined(4, 54))
 want('a byte', here(2, 5, 2, 9), defined(3, 26))
@@ -481,6 +491,10 @@ server.notify('textDocument/didChange', {'textDocument': {'uri': SECOND, 'versio
                                          'contentChanges': [{'text': OTHER.replace('get ;', 'put ;')}]})
 want('a refusal of the second alone', [], server.told(FIRST))
 want('at its place', [['P8', 1, 2, 15, 2, 18]], places(server.told(SECOND)))
+server.notify('textDocument/didChange', {'textDocument': {'uri': FIRST, 'version': 2},
+                                         'contentChanges': [{'text': SHARED.replace(' 0x50', '')}]})
+want('a refusal of the first', [['P3', 1, 1, 14, 1, 15]], places(server.told(FIRST)))
+want('and what else is refused, in the second', [['P8', 1, 2, 15, 2, 18]], places(server.told(SECOND)))
 want('the end of two files', [0, []], server.stop())
 
 server = Server('--with', '../board/./pch one.brief', folder='board').begin()

@@ -5,6 +5,8 @@ use lexer::{Letters, Spot};
 use origins::Kind;
 use plan_text::Place;
 
+const EMPTY: &[u8] = &[];
+
 /// A brief whose head was read, of this number among those that give the plan.
 #[derive(Clone, Copy)]
 pub(crate) struct Text<'a> {
@@ -65,14 +67,13 @@ impl<'a> Text<'a> {
     /// What follows the token that was taken last. Of what is no token that is what follows its character, or the comment in
     /// which it stands.
     pub(crate) fn point_after(self, tokens: &Tokens<'a>, token: Token<'_>) -> Point {
-        let Spot { before, start, end } = tokens.spot();
-        let (before, start) = (self.place(before), self.place(start));
-        let bytes = match token.symbol {
-            Symbol::Stray | Symbol::Foreign => self.untaken(before, start),
-            _ => self.place(end).saturating_sub(start),
+        let Spot { start, end, .. } = tokens.spot();
+        let start = match token.symbol {
+            Symbol::Stray | Symbol::Foreign => self.after_untaken(self.place(start)),
+            _ => self.place(end),
         };
         Point {
-            start: start.saturating_add(bytes),
+            start,
             line: token.line,
         }
     }
@@ -82,14 +83,25 @@ impl<'a> Text<'a> {
         self.bytes.len().saturating_sub(left)
     }
 
-    // How many bytes belong to what is no token, and stands here after the token before.
-    fn untaken(self, before: usize, start: usize) -> usize {
-        let rest = self.bytes.get(start..).unwrap_or(&[]);
-        if is_in_comment(self.bytes.get(before..start).unwrap_or(&[])) {
-            return rest.iter().take_while(|byte| **byte != b'\n').count();
-        }
-        let foreign = rest.iter().take_while(|byte| !byte.is_ascii()).count();
-        foreign.max(1)
+    // How many bytes stand before what follows something that stands here and is no token.
+    fn after_untaken(self, start: usize) -> usize {
+        let (before, rest) = match self.bytes.split_at_checked(start) {
+            Some(parts) => parts,
+            None => (self.bytes, EMPTY),
+        };
+        let bytes = if self.is_in_comment(before) {
+            rest.iter().take_while(|byte| **byte != b'\n').count()
+        } else {
+            let foreign = rest.iter().take_while(|byte| !byte.is_ascii()).count();
+            foreign.max(1)
+        };
+        start.saturating_add(bytes)
+    }
+
+    // Whether what follows this much of the text stands in a comment. In the second version comments have any bytes.
+    fn is_in_comment(self, before: &[u8]) -> bool {
+        let line = before.rsplit(is_line_feed).next().unwrap_or(EMPTY);
+        self.letters != Letters::Board && line.contains(&b'#')
     }
 
     /// The item that begins here and is refused at this place. The next one begins after the next `;`, or with the next word
@@ -198,12 +210,6 @@ fn begins_item(token: Token<'_>) -> bool {
                 | Keyword::Extend
         )
     )
-}
-
-// Whether what follows these bytes, which are white space and comments, belongs to a comment.
-fn is_in_comment(blank: &[u8]) -> bool {
-    let line = blank.rsplit(is_line_feed).next().unwrap_or(&[]);
-    line.contains(&b'#')
 }
 
 fn is_line_feed(byte: &u8) -> bool {

@@ -49,7 +49,8 @@ pub fn slips_in(alloc: Global, texts: &[&[u8]]) -> Result<Slips, AllocError> {
     let mut finder = Finder::new(alloc);
     let mut file = 0u32;
     for text in texts {
-        finder.read(file, text)?;
+        let earlier = texts.get(..file as usize).unwrap_or(&[]);
+        finder.read(file, text, earlier.contains(text))?;
         file = file.saturating_add(1);
     }
     let Finder { slips, .. } = finder;
@@ -87,8 +88,9 @@ impl<'a> Finder<'a> {
         Ok(())
     }
 
-    // Reads a further text. Of one that begins as no brief nothing else is told, and no names are known.
-    fn read(&mut self, file: u32, text: &'a [u8]) -> Result<(), AllocError> {
+    // Reads a further text. Of one that begins as no brief nothing else is told, and no names are known. Of the copy of an
+    // earlier one its first refusal is told.
+    fn read(&mut self, file: u32, text: &'a [u8], is_copy: bool) -> Result<(), AllocError> {
         if self.is_done() {
             return Ok(());
         }
@@ -110,7 +112,11 @@ impl<'a> Finder<'a> {
             letters: tokens.letters(),
         };
         self.record(text, &tokens);
-        self.read_all(text, tokens)
+        let next = self.read_from(text, tokens, false)?;
+        if is_copy {
+            return Ok(());
+        }
+        self.read_on(text, next)
     }
 
     // Keeps the names of a text after its head.
@@ -129,9 +135,9 @@ impl<'a> Finder<'a> {
         }
     }
 
-    // Reads the items of a text.
-    fn read_all(&mut self, text: Text<'a>, tokens: Tokens<'a>) -> Result<(), AllocError> {
-        let mut next = self.read_from(text, tokens, false)?;
+    // Reads items after the first one that is refused.
+    fn read_on(&mut self, text: Text<'a>, after: Option<Next>) -> Result<(), AllocError> {
+        let mut next = after;
         for _ in 0..text.bytes.len() {
             let Some(Next { point, may_be_name }) = next else {
                 return Ok(());

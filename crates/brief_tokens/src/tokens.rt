@@ -62,14 +62,14 @@ impl<'a> Tokens<'a> {
     /// Those of a text with these letters, from this place on: so many bytes stand before it, and it is on this line. None of
     /// the tokens before it reaches over it.
     pub fn from(text: &'a [u8], letters: Letters, start: usize, line: u64) -> Self {
-        let mut tokens = match letters {
-            Letters::Board => Tokens::of_board(text),
-            _ => Tokens::new(text),
+        let mut lexer = match letters {
+            Letters::Board => Lexer::new(text, Letters::Board),
+            _ => Lexer::new(text, Letters::Brief),
         };
         let rest = text.get(start..).unwrap_or(&[]);
-        tokens.lexer.line = line.min(u64::MAX - rest.len() as u64);
-        tokens.lexer.rest = rest;
-        tokens
+        lexer.rest = rest;
+        lexer.line = line.min(u64::MAX - rest.len() as u64);
+        Tokens { lexer }
     }
 
     /// The letters of the text: those of the first version, or of the second.

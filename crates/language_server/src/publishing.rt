@@ -184,7 +184,8 @@ impl List {
         if found.is_plan {
             return;
         }
-        for diagnostic in found.all.iter() {
+        // (what else is refused there is told with that one)
+        if let Some(diagnostic) = found.all.first() {
             if let Some(part) = given.parts.get(diagnostic.span.file as usize) {
                 if !part.is_told {
                     let shown = Shown {
