@@ -132,6 +132,10 @@ expect "format looks at one text" 0 "brief 2
 with \"none.brief\" ;" "" format - <<<'brief 2
 with "none.brief" ;'
 
+expect "learn takes one brief that names no files" 2 "" "refused P3 line 2" learn board.vcd --names board.brief
+cp whole.brief sole.brief
+expect "one that names none" 1 "$("$twire" learn board.vcd --names whole.brief | sed s.whole.sole.)" "" learn board.vcd --names sole.brief
+
 # ---- Files that cannot be read.
 
 lines none.brief "brief 2" "with \"sub/none\" oops"

@@ -11,6 +11,7 @@ use files::{OpenSource, Source, Watcher, closed, is_standard_input, open_path};
 use given_plans::RefusedText;
 use lexer::Letters;
 use origins::{Language, Spans};
+use plan_text::{PlanError, Refused};
 use run_parts::devices::reading::READS;
 use run_parts::{Opened, RunError, Watched, read_within};
 use std::alloc::{AllocError, Global};
@@ -156,7 +157,46 @@ fn board_of<'a, R: Files + Input + Eprint + Clock + AllocGlobal>(
             ..Texts::halted(alloc, Halt::Run(RunError::Read))
         });
     }
+    if errand.takes_one_text() {
+        return alone(alloc, texts, unread);
+    }
     listed(rt, errand, texts, ids)
+}
+
+// A text of a run that takes one alone: its head may name no files.
+fn alone<S: Drop>(
+    alloc: Global,
+    texts: Vec<GivenText>,
+    unread: Vec<S>,
+) -> Result<Texts<S>, AllocError> {
+    let named = match texts.first() {
+        Some(first) => first_named(first.listed.text.as_slice()),
+        None => None,
+    };
+    let Some(refused) = named else {
+        return as_given(alloc, texts, None, unread);
+    };
+    for text in texts {
+        return not_listed(
+            alloc,
+            text.listed,
+            Why::Refused(refused),
+            Vec::new(alloc),
+            None,
+            false,
+        );
+    }
+    Err(AllocError)
+}
+
+// The refusal of the first file that the head of a brief names.
+fn first_named(text: &[u8]) -> Option<Refused> {
+    let mut tokens = begin(text).ok()?;
+    if tokens.letters() != Letters::Board {
+        return None;
+    }
+    let file = tokens.next_file().ok()??;
+    Some(tokens.no_name(PlanError::Unexpected(file.line)))
 }
 
 // Reads the texts that were given, up to one that cannot be read.

@@ -69,6 +69,11 @@ impl<'a> Errand<'a> {
         }
     }
 
+    /// Whether that is one brief, which names no further files.
+    pub(crate) fn takes_one_text(self) -> bool {
+        matches!(self.request, Request::Learn { .. })
+    }
+
     // Those that were given.
     fn given(self) -> NamedSources<'a> {
         let first = match self.request {
