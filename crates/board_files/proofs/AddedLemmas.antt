@@ -102,7 +102,7 @@ map_inside text (inside.There s) P Q f h = map_stopped s P Q f h
 
 -- a brief of the first version names no files
 pub other_letters : (l : Letters) (rest : Tokens) → (l ≡ Board → ⊥) → spec.files_begin (Ok (l, rest)) ≡ Ok (last text_end 1)
-other_letters Plain rest no = refl
-other_letters Dots rest no = refl
-other_letters Brief rest no = refl
-other_letters Board rest no = absurd (no refl)
+other_letters Plain rest other = refl
+other_letters Dots rest other = refl
+other_letters Brief rest other = refl
+other_letters Board rest other = absurd (other refl)

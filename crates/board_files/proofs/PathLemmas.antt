@@ -1,7 +1,6 @@
 -- A path up to its last stroke.
-use Rattle.std.proofs.Common.{◌≡◌, ℕ, zero, suc, ◌+◌, ◌-◌, ◌<◌, ◌≤◌, Bool, true, false, ◌||◌, ◌==◌, List, [], ◌∷◌, ◌++◌, length, get_or, take, drop, refl, ap, sym, subst, ◌∙◌, arith, true≢false}
+use Rattle.std.proofs.Common.{◌≡◌, ℕ, zero, suc, ◌+◌, ◌-◌, ◌<◌, ◌≤◌, Bool, true, false, ◌||◌, ◌==◌, List, [], ◌∷◌, ◌++◌, refl, ap, sym, subst, ◌∙◌, arith, true≢false}
 use Rattle.std.specs.Prelude.{if◌then◌else◌}
-use Rattle.std.proofs.lemmas.List.{take-append-drop, drop_all, drop_more}
 use Rattle.board_files.specs.Lists.{has_stroke, folder_of}
 
 or_true : (b : Bool) → (b || true) ≡ true
@@ -30,20 +29,18 @@ last_stroke (byte ∷ front) back e =
     if_true (has_stroke (byte ∷ (front ++ (47 ∷ back)))) (byte ∷ folder_of (front ++ (47 ∷ back))) [] (stroke_in (byte ∷ front) back)
     ∙ ap (λ xs. byte ∷ xs) (last_stroke front back e)
 
--- none stands at the end
-pub none_at_end : (path : List ℕ) → has_stroke (drop (length path) path) ≡ false
-none_at_end path = ap has_stroke (drop_all (length path) path (omega arith))
+pub stroke_last : (front : List ℕ) → folder_of (front ++ (47 ∷ [])) ≡ front ++ (47 ∷ [])
+stroke_last front = last_stroke front [] refl
 
-before_end : (end : ℕ) → 0 < end → suc (end - 1) ≡ end
-before_end end some = omega (arith, some)
+is_other : (byte : ℕ) → (byte ≡ 47 → ⊥) → (byte == 47) ≡ false
+is_other byte other = grind arith
 
--- what stands before the end
-at_stroke : (path : List ℕ) (k byte : ℕ) → k < length path → byte ≡ get_or path k byte → byte ≡ 47 → has_stroke (drop (k + 1) path) ≡ false → folder_of path ≡ take k path ++ (47 ∷ [])
-at_stroke path k byte within is stroke none =
-    let back : drop k path ≡ byte ∷ drop (k + 1) path = drop_more path k byte within ∙ ap (λ b. b ∷ drop (k + 1) path) (sym is) in
-    let split : path ≡ take k path ++ (47 ∷ drop (k + 1) path) =
-    sym (take-append-drop k path) ∙ ap (λ all. take k path ++ all) (back ∙ ap (λ b. b ∷ drop (k + 1) path) stroke) in
-    ap folder_of split ∙ last_stroke (take k path) (drop (k + 1) path) none
+stroke_same : (front : List ℕ) (byte : ℕ) → (byte ≡ 47 → ⊥) → has_stroke (front ++ (byte ∷ [])) ≡ has_stroke front
+stroke_same [] byte other = ap (λ b. b || false) (is_other byte other)
+stroke_same (first ∷ front) byte other = ap (λ b. (first == 47) || b) (stroke_same front byte other)
 
-pub no_stroke_left : (path : List ℕ) → has_stroke (drop 0 path) ≡ false → take 0 path ≡ folder_of path
-no_stroke_left path none = sym (no_stroke path none)
+pub other_last : (front : List ℕ) (byte : ℕ) → (byte ≡ 47 → ⊥) → folder_of (front ++ (byte ∷ [])) ≡ folder_of front
+other_last [] byte other = no_stroke (byte ∷ []) (stroke_same [] byte other)
+other_last (first ∷ front) byte other =
+    ap (λ b. if b then first ∷ folder_of (front ++ (byte ∷ [])) else []) (stroke_same (first ∷ front) byte other)
+    ∙ ap (λ xs. if has_stroke (first ∷ front) then first ∷ xs else []) (other_last front byte other)

@@ -6,14 +6,14 @@ ghost use Rattle.board_files.specs.Lists.{folder_of, is_absolute, path_from};
 use std::alloc::{AllocError, Global};
 
 /// A path up to its last `/`: the folder of its file, from which that names others.
+#[tactic(auto, using(crate::proofs::PathLemmas::stroke_last, crate::proofs::PathLemmas::other_last))]
 pub fn folder_of(path: &[u8]) -> &[u8]
     ensures { result.now ≡ folder_of path.now }
 {
-    let mut end = path.len();
-    while end > 0 && path[end - 1] != b'/' {
-        end -= 1;
+    match path.split_last() {
+        Some((b'/', _)) | None => path,
+        Some((_, front)) => folder_of(front),
     }
-    &path[..end]
 }
 
 /// The path of a file, by its name in a text which names files from this folder.

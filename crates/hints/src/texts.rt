@@ -416,9 +416,13 @@ fn push_fault(alloc: Global, lines: &mut Lines, refused: &RefusedIn<'_>, fault: 
         (Fault::Token(_), Some(expected)) => push_token(alloc, lines, refused, expected),
         (Fault::End(_), Some(expected)) => push_all(alloc, lines, refused, expected),
         // (in a head nothing else has no word for what could stand there)
+        (_, None) if refused.token().starts_with(b"\"") => lines.say(FILE_REFUSED),
         (_, None) => lines.say(FILE_EXPECTED),
     }
 }
+
+const FILE_REFUSED: &str =
+    "a file has 1 to 255 characters here, and 'learn --names' takes one brief that names no files";
 
 const FILE_EXPECTED: &str =
     "expected here: a file in double quotes, 1 to 255 characters from blank to '~', as in: with \"devices.brief\" ;";

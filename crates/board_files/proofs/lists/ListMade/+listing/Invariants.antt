@@ -18,9 +18,9 @@ decreases-add_opened g l = 5 * (63 - length l.self.now.known.items) + 6
 abbrev pub decreases-add_text : goal.decreases-add_text
 decreases-add_text g l = 5 * (63 - length l.self.now.known.items) + 5
 
-abbrev pub invariant-add_files-loop : goal.invariant-add_files-loop
-invariant-add_files-loop g l =
+abbrev pub invariant-add_files-loop-file : goal.invariant-add_files-loop-file
+invariant-add_files-loop-file g l =
     Passing g.O.Opener.files l.folder (left l.initial.tokens) l.initial.self l.initial.opener (left l.tokens) l.self l.opener
 
-abbrev pub decreases-add_files-loop : goal.decreases-add_files-loop
-decreases-add_files-loop g l = token_count (left l.tokens)
+abbrev pub decreases-add_files-loop-file : goal.decreases-add_files-loop-file
+decreases-add_files-loop-file g l = token_count (left l.tokens)
