@@ -515,7 +515,8 @@ want('the device of the file is that of its first one', [FIRST, 1],
 server.notify('textDocument/didClose', {'textDocument': {'uri': FIRST}})
 want('without it', [], server.told(FIRST))
 want('the other first one', [['P8', 1, 1, 17, 1, 20]], places(server.told(THIRD)))
-want('to whose plan the file belongs then', [], server.told(SECOND))
+want('to whose plan the file belongs then, and what else is refused there', [['P8', 1, 1, 18, 1, 24]],
+     places(server.told(SECOND)))
 want('the first one again', [], [one for one in server.open(FIRST, SHARED) if one['code'] != 'unsafe'])
 server.notify('textDocument/didClose', {'textDocument': {'uri': THIRD}})
 want('without the other one', [], server.told(THIRD))

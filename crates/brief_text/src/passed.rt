@@ -61,11 +61,6 @@ impl<'a> Passed<'a> {
         }
     }
 
-    /// How many there are.
-    pub(crate) fn count(&self) -> usize {
-        self.names.len()
-    }
-
     /// A further one, where there is a name, which stands on the board or not.
     pub(crate) fn add(
         &mut self,

@@ -5,8 +5,6 @@ use lexer::{Letters, Spot};
 use origins::Kind;
 use plan_text::Place;
 
-const EMPTY: &[u8] = &[];
-
 /// A brief whose head was read, of this number among those that give the plan.
 #[derive(Clone, Copy)]
 pub(crate) struct Text<'a> {
@@ -15,7 +13,7 @@ pub(crate) struct Text<'a> {
     pub(crate) letters: Letters,
 }
 
-/// Where a token begins: how many bytes stand before it, and its line.
+/// A place in a text, in no comment: how many bytes stand before it, and its line.
 #[derive(Clone, Copy)]
 pub(crate) struct Point {
     pub(crate) start: usize,
@@ -57,10 +55,31 @@ impl<'a> Text<'a> {
     }
 
     /// Where the token begins that was taken last.
-    pub(crate) fn point_of(self, tokens: &Tokens<'a>, token: Token<'_>) -> Point {
+    fn point_of(self, tokens: &Tokens<'a>, token: Token<'_>) -> Point {
         Point {
             start: self.place(tokens.spot().start),
             line: token.line,
+        }
+    }
+
+    /// What stands between the token that was taken last and the one before it: white space and comments.
+    fn blank_before(self, tokens: &Tokens<'a>) -> &'a [u8] {
+        let Spot { before, start, .. } = tokens.spot();
+        self.bytes
+            .get(self.place(before)..self.place(start))
+            .unwrap_or(&[])
+    }
+
+    /// Where that begins.
+    pub(crate) fn point_before(self, tokens: &Tokens<'a>, token: Token<'_>) -> Point {
+        let lines = self
+            .blank_before(tokens)
+            .iter()
+            .filter(|byte| **byte == b'\n')
+            .count();
+        Point {
+            start: self.place(tokens.spot().before),
+            line: token.line.saturating_sub(lines as u64),
         }
     }
 
@@ -69,7 +88,11 @@ impl<'a> Text<'a> {
     pub(crate) fn point_after(self, tokens: &Tokens<'a>, token: Token<'_>) -> Point {
         let Spot { start, end, .. } = tokens.spot();
         let start = match token.symbol {
-            Symbol::Stray | Symbol::Foreign => self.after_untaken(self.place(start)),
+            Symbol::Stray | Symbol::Foreign => {
+                let rest = self.bytes.get(self.place(start)..).unwrap_or(&[]);
+                let bytes = untaken(rest, is_in_comment(self.blank_before(tokens)));
+                self.place(start).saturating_add(bytes)
+            }
             _ => self.place(end),
         };
         Point {
@@ -81,27 +104,6 @@ impl<'a> Text<'a> {
     // How many bytes of the text stand before what has so many left.
     fn place(self, left: usize) -> usize {
         self.bytes.len().saturating_sub(left)
-    }
-
-    // How many bytes stand before what follows something that stands here and is no token.
-    fn after_untaken(self, start: usize) -> usize {
-        let (before, rest) = match self.bytes.split_at_checked(start) {
-            Some(parts) => parts,
-            None => (self.bytes, EMPTY),
-        };
-        let bytes = if self.is_in_comment(before) {
-            rest.iter().take_while(|byte| **byte != b'\n').count()
-        } else {
-            let foreign = rest.iter().take_while(|byte| !byte.is_ascii()).count();
-            foreign.max(1)
-        };
-        start.saturating_add(bytes)
-    }
-
-    // Whether what follows this much of the text stands in a comment. In the second version comments have any bytes.
-    fn is_in_comment(self, before: &[u8]) -> bool {
-        let line = before.rsplit(is_line_feed).next().unwrap_or(EMPTY);
-        self.letters != Letters::Board && line.contains(&b'#')
     }
 
     /// The item that begins here and is refused at this place. The next one begins after the next `;`, or with the next word
@@ -155,12 +157,7 @@ impl<'a> Text<'a> {
 
     // Whether the token that was taken last is the first one of its line.
     fn begins_line(self, tokens: &Tokens<'a>) -> bool {
-        let Spot { before, start, .. } = tokens.spot();
-        let blank = self
-            .bytes
-            .get(self.place(before)..self.place(start))
-            .unwrap_or(&[]);
-        blank.contains(&b'\n')
+        self.blank_before(tokens).contains(&b'\n')
     }
 }
 
@@ -210,6 +207,21 @@ fn begins_item(token: Token<'_>) -> bool {
                 | Keyword::Extend
         )
     )
+}
+
+// How many bytes at the front belong to what is no token, or to the comment in which it stands.
+fn untaken(rest: &[u8], is_in_comment: bool) -> usize {
+    if is_in_comment {
+        return rest.iter().take_while(|byte| **byte != b'\n').count();
+    }
+    let foreign = rest.iter().take_while(|byte| !byte.is_ascii()).count();
+    foreign.max(1)
+}
+
+// Whether what follows white space and comments belongs to the last of these.
+fn is_in_comment(blank: &[u8]) -> bool {
+    let line = blank.rsplit(is_line_feed).next().unwrap_or(&[]);
+    line.contains(&b'#')
 }
 
 fn is_line_feed(byte: &u8) -> bool {

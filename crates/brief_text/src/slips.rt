@@ -36,8 +36,8 @@ pub struct Slips {
 // So many are found.
 const MOST: usize = 20;
 
-// So many names are passed over.
-const MOST_PASSED: usize = 1000;
+// So many items are passed over.
+const MOST_PASSED: usize = 1_000;
 
 /// What is refused in these briefs: the first refusal, and others that follow from none of those before, 20 in all. What an item
 /// would have named that is refused counts as known.
@@ -63,6 +63,8 @@ struct Finder<'a> {
     alloc: Global,
     board: Board,
     passed: Passed<'a>,
+    // how many items were passed over
+    count: usize,
     slips: Slips,
 }
 
@@ -72,6 +74,7 @@ impl<'a> Finder<'a> {
             alloc,
             board: Board::new(alloc),
             passed: Passed::new(alloc),
+            count: 0,
             slips: Slips {
                 all: Vec::new(alloc),
                 spans: Spans::new(alloc),
@@ -80,7 +83,7 @@ impl<'a> Finder<'a> {
     }
 
     fn is_done(&self) -> bool {
-        self.slips.all.len() >= MOST || self.passed.count() >= MOST_PASSED
+        self.slips.all.len() >= MOST || self.count >= MOST_PASSED
     }
 
     fn add(&mut self, file: u32, refused: Refused) -> Result<(), AllocError> {
@@ -159,9 +162,9 @@ impl<'a> Finder<'a> {
         may_be_name: bool,
     ) -> Result<Option<Next>, AllocError> {
         let mut source = Source::new(self.alloc, tokens, Spans::unasked(self.alloc));
-        let first = text.point_of(&source.tokens, source.token);
+        let first = text.point_before(&source.tokens, source.token);
         for _ in 0..text.bytes.len() {
-            let item = text.point_of(&source.tokens, source.token);
+            let item = text.point_before(&source.tokens, source.token);
             let labels = self.board.labels.len();
             match read_item(&mut source, &mut self.board, text.letters) {
                 Ok(true) => {}
@@ -189,6 +192,7 @@ impl<'a> Finder<'a> {
             return Err(AllocError);
         };
         let over = text.pass_over(item, place);
+        self.count = self.count.saturating_add(1);
         let wrong = Wrong {
             error: refused.error,
             place,
