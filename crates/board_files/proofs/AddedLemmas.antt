@@ -1,8 +1,11 @@
 -- Texts that were added to a list, and what holds of them.
-use Rattle.std.proofs.Common.{◌≡◌, ℕ, ◌≤◌, ◌+◌, true, false, List, [], ◌∷◌, ◌++◌, length, map, length-append, append-nil, append_assoc, refl, ap, sym, subst, ◌∙◌, arith}
+use Rattle.std.proofs.Common.{◌≡◌, ℕ, ◌<◌, ◌≤◌, ◌+◌, true, false, List, [], ◌∷◌, ◌++◌, length, map, length-append, append-nil, append_assoc, refl, ap, sym, subst, ◌∙◌, arith}
 use Rattle.std.specs.Prelude.{Result, Ok, Err, OnOk}
-use Rattle.brief_tokens.specs.Heads.{next_file, after_file, names, no_more, wrong}
+use Rattle.brief_tokens.specs.Heads.{begun, next_file, after_file, names, no_more, wrong}
 use Rattle.brief_tokens.specs.Tokens.{Tokens, last}
+use Rattle.plan_text.specs.declared.errors.PlanError.{PlanError}
+use Rattle.plan_text.specs.declared.errors.PlanError.TheVariants as errors
+use Rattle.run_parts.specs.declared.errors.RunError.{RunError}
 use Rattle.board_files.specs.Files.{Files, is_known}
 use Rattle.board_files.specs.Given.{listed, texts_listed, stop_of}
 use Rattle.board_files.specs.Lists as spec
@@ -56,6 +59,59 @@ module _ {D : Type 0} (files : Files D) where
           spec.AddsText files (listed text) folder known before (texts_listed a.texts ++ listed text ∷ []) made.known.items after
       text_last (named head lists) = spec.text_last head lists
 
+  -- ---- one file
+
+  pub at_unopened : (text : spec.Listed) (line : ℕ) (slice path wanted : List ℕ) (known : List FileId) (before after : D) (e : RunError) →
+      slice ≡ path → path ≡ wanted → files.opens before slice (Err e) after →
+      spec.StopsAt files text line wanted known before (spec.unread text line path e) after
+  at_unopened text line slice path wanted known before after e s p o =
+      subst (λ w. spec.StopsAt files text line w known before (spec.unread text line path e) after) p
+      (spec.unopened (subst (λ w. files.opens before w (Err e) after) s o))
+
+  pub at_too_many : (text : spec.Listed) (line : ℕ) (slice path wanted : List ℕ) (id : FileId) (known : List FileId) (before after : D) (e : PlanError) →
+      slice ≡ path → path ≡ wanted → files.opens before slice (Ok id) after → is_known id known ≡ false → spec.most_before < length known →
+      e ≡ errors.TooMany line →
+      spec.StopsAt files text line wanted known before (spec.refused text e) after
+  at_too_many text line slice path wanted id known before after e s p o new many is =
+      subst (λ c. spec.StopsAt files text line wanted known before (spec.refused text c) after) (sym is)
+      (spec.too_many (subst (λ w. files.opens before w (Ok id) after) (s ∙ p) o) new many)
+
+  pub at_not_given : (text : spec.Listed) (line : ℕ) (slice path wanted : List ℕ) (id : FileId) (known : List FileId) (before opened after : D) (e : RunError) →
+      slice ≡ path → path ≡ wanted → files.opens before slice (Ok id) opened → is_known id known ≡ false → length known ≤ spec.most_before →
+      files.gives opened (Err e) after →
+      spec.StopsAt files text line wanted known before (spec.unread text line path e) after
+  at_not_given text line slice path wanted id known before opened after e s p o new room g =
+      subst (λ w. spec.StopsAt files text line w known before (spec.unread text line path e) after) p
+      (spec.not_given (subst (λ w. files.opens before w (Ok id) opened) s o) new room g)
+
+  pub stops_inside : (text : spec.Listed) (line : ℕ) (slice path wanted bytes : List ℕ) (id : FileId) (known : List FileId) (before opened begins after : D) →
+      slice ≡ path → path ≡ wanted → files.opens before slice (Ok id) opened → is_known id known ≡ false → length known ≤ spec.most_before →
+      files.gives opened (Ok bytes) begins → (stop : spec.Stop) →
+      spec.StopsText files (record { path = path; text = bytes }) (spec.folder_of path) (known ++ id ∷ []) begins stop after →
+      spec.StopsAt files text line wanted known before stop after
+  stops_inside text line slice path wanted bytes id known before opened begins after s p o new room g stop h =
+      subst (λ w. spec.StopsAt files text line w known before stop after) p
+      (spec.inside (subst (λ w. files.opens before w (Ok id) opened) s o) new room g h)
+
+  pub passes : (slice path wanted : List ℕ) (id : FileId) (made : ListMade) (before after : D) →
+      slice ≡ path → path ≡ wanted → files.opens before slice (Ok id) after → is_known id made.known.items ≡ true →
+      Added (λ texts ids. spec.Adds files wanted made.known.items before texts ids after) made made
+  passes slice path wanted id made before after s p o is =
+      nothing_added (λ texts ids. spec.Adds files wanted made.known.items before texts ids after) made
+      (spec.passed (subst (λ w. files.opens before w (Ok id) after) (s ∙ p) o) is)
+
+  pub reads : (slice path wanted bytes : List ℕ) (id : FileId) (first made : ListMade) (before opened begins after : D) →
+      slice ≡ path → path ≡ wanted → files.opens before slice (Ok id) opened → is_known id first.known.items ≡ false →
+      length first.known.items ≤ spec.most_before → files.gives opened (Ok bytes) begins →
+      Added (λ texts ids. spec.AddsText files (record { path = path; text = bytes }) (spec.folder_of path) (first.known.items ++ id ∷ []) begins texts ids after) first made →
+      Added (λ texts ids. spec.Adds files wanted first.known.items before texts ids after) first made
+  reads slice path wanted bytes id first made before opened begins after s p o new room g a =
+      map_added (λ texts ids. spec.AddsText files (record { path = path; text = bytes }) (spec.folder_of path) (first.known.items ++ id ∷ []) begins texts ids after)
+      (λ texts ids. spec.Adds files wanted first.known.items before texts ids after) first made
+      (λ texts ids h.
+      subst (λ w. spec.Adds files w first.known.items before texts ids after) p
+      (spec.read (subst (λ w. files.opens before w (Ok id) opened) s o) new room g h)) a
+
   pub passing_none : (folder : List ℕ) (from : Tokens) (first : ListMade) (before : D) → Passing files folder from first before from first before
   passing_none folder from first before = record {
     texts = [];
@@ -106,3 +162,9 @@ other_letters Plain rest other = refl
 other_letters Dots rest other = refl
 other_letters Brief rest other = refl
 other_letters Board rest other = absurd (other refl)
+
+pub begins_board : (text : List ℕ) (l : Letters) (rest : Tokens) → begun text ≡ Ok (l, rest) → l ≡ Board → spec.files_of text ≡ Ok rest
+begins_board text l rest e is = ap spec.files_begin e ∙ ap (λ (m : Letters). spec.files_begin (Ok (m, rest))) is
+
+pub begins_other : (text : List ℕ) (l : Letters) (rest : Tokens) → begun text ≡ Ok (l, rest) → (l ≡ Board → ⊥) → spec.files_of text ≡ Ok (last text_end 1)
+begins_other text l rest e other = ap spec.files_begin e ∙ other_letters l rest other

@@ -1,6 +1,9 @@
 -- What the functions that make a list say of it. Only private contracts and proofs use this.
-use Rattle.std.specs.Prelude.{◌≡◌, ℕ, ◌≤◌, true, false, List, [], ◌∷◌, ◌++◌, length, Ok}
-use Rattle.brief_tokens.specs.Tokens.{Tokens}
+use Rattle.std.specs.Prelude.{◌≡◌, ℕ, ◌≤◌, true, false, List, [], ◌∷◌, ◌++◌, length, Option, Some, None, Ok}
+use Rattle.brief_tokens.specs.Reading.{left}
+use Rattle.brief_tokens.specs.Tokens.{Tokens, last}
+use Rattle.brief_tokens.specs.declared.tokens.Tokens.{Tokens as TokensRead}
+use Rattle.lexer.specs.Lexemes.{text_end}
 use Rattle.board_files.specs.Files.{Files, is_known}
 use Rattle.board_files.specs.Given.{listed, texts_listed, stop_of}
 use Rattle.board_files.specs.Lists as spec
@@ -19,6 +22,11 @@ pub record Added (Holds : List spec.Listed → List FileId → Type 0) (before n
   pub kept : now.texts.items ≡ before.texts.items ++ texts
   pub holds : Holds (texts_listed texts) now.known.items
   pub grown : length before.known.items ≤ length now.known.items
+
+-- the tokens at which the files of a head begin, where it may name some
+abbrev pub files_left : Option TokensRead → Tokens
+files_left (Some tokens) = left tokens
+files_left None = last text_end 1
 
 -- this holds of where it stopped, but for out of memory
 abbrev pub IsStopped : Stopped → (spec.Stop → Type 0) → Type 0

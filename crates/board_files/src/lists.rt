@@ -2,7 +2,8 @@
 
 ghost use Rattle.std.specs.Prelude.{◌≡◌, ◌≤◌, ◌++◌, ◌∷◌, [], length, Ok, IfOk, IfErr, OnOk};
 ghost use Rattle.board_files.specs.Given.{all_given, texts_listed, StopsWhere};
-ghost use Rattle.board_files.specs.Lists.{ListsAll, StopsAll};
+ghost use Rattle.board_files.specs.Lists.{ListsAll, StopsAll, files_of};
+ghost use Rattle.board_files.specs.Progress.{files_left};
 ghost use Rattle.board_files.specs.declared.lists.Inside.TheVariants as inside;
 ghost use Rattle.board_files.specs.declared.lists.Stopped.TheVariants as stopped;
 
@@ -146,12 +147,14 @@ impl ListMade {
         if is_known(id, self.known.as_slice()) {
             return Ok(());
         }
-        self.add_text(opener, listed, folder.as_slice(), id)
+        match self.add_text(opener, listed, folder.as_slice(), id) {
+            Ok(()) => Ok(()),
+            Err(stopped) => Err(stopped),
+        }
     }
 
     // A text, after the files that its head names.
     #[cycle(listing)]
-    #[tactic(auto, using(crate::proofs::AddedLemmas::text_added, crate::proofs::AddedLemmas::map_stopped))]
     fn add_text<O: Opener>(
         &mut self,
         opener: &mut O,
@@ -178,7 +181,6 @@ impl ListMade {
 
     // The files that the head of a text names. A brief of the first version names none.
     #[cycle(listing)]
-    #[tactic(auto, using(crate::proofs::AddedLemmas::map_ok, crate::proofs::AddedLemmas::map_inside, crate::proofs::AddedLemmas::nothing_added, crate::proofs::AddedLemmas::other_letters))]
     fn add_head<O: Opener>(
         &mut self,
         opener: &mut O,
@@ -191,21 +193,18 @@ impl ListMade {
         ensures stops { IfErr result (λ e. IsInside (listed text.now) e (λ stop.
             StopsText O.files (listed text.now) folder.now self.old.known.items opener.old stop opener.new)) }
     {
-        match begin(text.text.as_slice()) {
-            Ok(tokens) => {
-                if tokens.letters() == Letters::Board {
-                    self.add_files(opener, tokens, text, folder)
-                } else {
-                    Ok(())
-                }
-            }
+        match files_begin(text.text.as_slice()) {
+            Ok(Some(tokens)) => match self.add_files(opener, tokens, text, folder) {
+                Ok(()) => Ok(()),
+                Err(inside) => Err(inside),
+            },
+            Ok(None) => Ok(()),
             Err(refused) => Err(Inside::Here(Why::Refused(refused))),
         }
     }
 
     // The files that the head of this text names from here on.
     #[cycle(listing)]
-    #[tactic(auto, using(crate::proofs::AddedLemmas::passing_none, crate::proofs::AddedLemmas::passing_one, crate::proofs::AddedLemmas::passing_all, crate::proofs::AddedLemmas::map_inside))]
     fn add_files<O: Opener>(
         &mut self,
         opener: &mut O,
@@ -237,7 +236,6 @@ impl ListMade {
 
     // The file that has this name in this text, unless it is known. It is refused so where there are too many.
     #[cycle(listing)]
-    #[tactic(auto, using(crate::proofs::AddedLemmas::map_ok, crate::proofs::AddedLemmas::map_stopped, crate::proofs::AddedLemmas::nothing_added))]
     fn add_file<O: Opener>(
         &mut self,
         opener: &mut O,
@@ -304,6 +302,24 @@ impl ListMade {
     {
         let folder = folder_of(text.path.as_slice()).to_vec(self.alloc)?;
         self.add_text(opener, text, folder.as_slice(), id)
+    }
+}
+
+// The tokens at which the files of a head begin. A brief of the first version names none.
+#[tactic(auto, using(crate::proofs::AddedLemmas::begins_board, crate::proofs::AddedLemmas::begins_other))]
+fn files_begin(text: &[u8]) -> Result<Option<Tokens<'_>>, Refused>
+    ensures some { IfOk result (λ it. files_of text.now ≡ Ok (files_left it)) }
+    ensures refused { IfErr result (λ e. files_of text.now ≡ Err e.error) }
+{
+    match begin(text) {
+        Ok(tokens) => {
+            if tokens.letters() == Letters::Board {
+                Ok(Some(tokens))
+            } else {
+                Ok(None)
+            }
+        }
+        Err(refused) => Err(refused),
     }
 }
 
