@@ -233,4 +233,15 @@ expect "a pipe is named" 0 "$plan" "" expand - < <(
     tail -n +5 pch.brief
 )
 
+# ---- The shelf of the examples.
+
+shelf=$examples/shelf
+expect "the shelf" 0 "safe: 1045 pairs" "" check "$shelf/board.brief" --strict
+expect "the certificate of the shelf" 0 "accepted safe" "" verify "$shelf/board.brief" "$shelf/board.cert"
+expect "the certificate is as it is written" 0 "$(cat "$shelf/board.cert")" "" certify "$shelf/board.brief"
+for file in devices shmm_a shmm_b blade; do
+    expect "a file of the shelf by itself: $file" 0 "safe: 0 pairs" "" check "$shelf/$file.brief"
+done
+expect "its supplies by themselves" 0 "safe: 3 pairs" "" check "$shelf/supplies.brief"
+
 finish
