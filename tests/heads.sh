@@ -132,7 +132,7 @@ expect "format looks at one text" 0 "brief 2
 with \"none.brief\" ;" "" format - <<<'brief 2
 with "none.brief" ;'
 
-expect "what is learned beside a board" 1 "$("$twire" learn board.vcd --names whole.brief | sed s.whole.board.)" "" \
+expect "what is learned beside a board" 0 "$("$twire" learn board.vcd --names whole.brief | sed s.whole.board.)" "" \
     learn board.vcd --names board.brief
 
 # ---- Files that cannot be read.
