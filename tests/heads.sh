@@ -134,7 +134,7 @@ with "none.brief" ;'
 
 expect "learn takes one brief that names no files" 2 "" "refused P3 line 2" learn board.vcd --names board.brief
 cp whole.brief sole.brief
-expect "one that names none" 1 "$("$twire" learn board.vcd --names whole.brief | sed s.whole.sole.)" "" learn board.vcd --names sole.brief
+expect "one that names none" 0 "$("$twire" learn board.vcd --names whole.brief | sed s.whole.sole.)" "" learn board.vcd --names sole.brief
 
 # ---- Files that cannot be read.
 
