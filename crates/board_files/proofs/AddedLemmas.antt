@@ -1,6 +1,8 @@
 -- Texts that were added to a list, and what holds of them.
 use Rattle.std.proofs.Common.{◌≡◌, ℕ, ◌<◌, ◌≤◌, ◌+◌, true, false, List, [], ◌∷◌, ◌++◌, length, map, length-append, append-nil, append_assoc, refl, ap, sym, subst, ◌∙◌, arith}
-use Rattle.std.specs.Prelude.{Result, Ok, Err, OnOk}
+use Rattle.std.specs.Prelude.{Result, Ok, Err, OnOk, Option, Some, None}
+use Rattle.brief_tokens.specs.Reading.{naming}
+use Rattle.brief_tokens.specs.declared.tokens.FileNamed.{FileNamed}
 use Rattle.brief_tokens.specs.Heads.{begun, next_file, after_file, names, no_more, wrong}
 use Rattle.brief_tokens.specs.Tokens.{Tokens, last}
 use Rattle.plan_text.specs.declared.errors.PlanError.{PlanError}
@@ -168,3 +170,9 @@ begins_board text l rest e is = ap spec.files_begin e ∙ ap (λ (m : Letters). 
 
 pub begins_other : (text : List ℕ) (l : Letters) (rest : Tokens) → begun text ≡ Ok (l, rest) → (l ≡ Board → ⊥) → spec.files_of text ≡ Ok (last text_end 1)
 begins_other text l rest e other = ap spec.files_begin e ∙ other_letters l rest other
+
+pub named_none : (o : Option FileNamed) (t rest : Tokens) → next_file t ≡ naming o rest → o ≡ None → next_file t ≡ no_more rest
+named_none o t rest e is = e ∙ ap (λ x. naming x rest) is
+
+pub named_some : (o : Option FileNamed) (file : FileNamed) (t rest : Tokens) → next_file t ≡ naming o rest → o ≡ Some file → next_file t ≡ names file.name.now file.line rest
+named_some o file t rest e is = e ∙ ap (λ x. naming x rest) is

@@ -1,5 +1,8 @@
 -- Files that were passed, one after another, and what that makes of those after them.
-use Rattle.std.proofs.Common.{◌≡◌, ℕ, List, [], ◌∷◌, ◌++◌, append_assoc, refl, sym, subst, ap, ◌∙◌}
+use Rattle.std.proofs.Common.{◌≡◌, ℕ, ◌+◌, ◌<◌, ◌≤◌, List, [], ◌∷◌, ◌++◌, length, get_or, drop, append-nil, append_assoc, refl, sym, subst, ap, ◌∙◌}
+use Rattle.std.proofs.lemmas.List.{drop_all, drop_more}
+use Rattle.board_files.specs.Given.{given, all_given}
+use Rattle.board_files.specs.declared.lists.GivenText.{GivenText}
 use Rattle.std.specs.Prelude.{Result, Ok}
 use Rattle.brief_tokens.specs.Heads.{next_file, after_file, names}
 use Rattle.brief_tokens.specs.Tokens.{Tokens}
@@ -25,11 +28,8 @@ module _ {D : Type 0} (files : Files D) where
     stops = λ text stop after s. p.stops text stop after (spec.later named adds ended s);
   }
 
-  pub given_none : (given : List spec.Given) (known : List FileId) (before : D) → PastGiven files given known before [] [] known before
-  given_none given known before = record {
-    lists = λ rest texts after is l. subst (λ all. spec.ListsAll files all known before texts after) (sym is) l;
-    stops = λ rest stop after is s. subst (λ all. spec.StopsAll files all known before stop after) (sym is) s;
-  }
+  pub given_none : (given : List spec.Given) (known : List FileId) (before : D) → PastGiven files given known before [] given known before
+  given_none given known before = record { lists = λ texts after l. l; stops = λ stop after s. s }
 
   lists_one : (text : spec.Given) (rest : List spec.Given) (known known_now : List FileId) (before now after : D) (texts others : List spec.Listed) →
       AddsGiven files text known before texts known_now now → spec.ListsAll files rest known_now now others after → spec.ListsAll files (text ∷ rest) known before (texts ++ others) after
@@ -41,23 +41,32 @@ module _ {D : Type 0} (files : Files D) where
   stops_later text rest known _ before _ after _ stop (stood is) s = spec.passed_over is s
   stops_later text rest known known_now before now after texts stop (added new adds) s = spec.further new adds s
 
-  pub given_one : (given passed : List spec.Given) (text : spec.Given) (known known_now last : List FileId) (before now next : D) (some texts : List spec.Listed) →
-      PastGiven files given known before some passed known_now now →
+  pub given_one : (given rest : List spec.Given) (text : spec.Given) (known known_now last : List FileId) (before now next : D) (some texts : List spec.Listed) →
+      PastGiven files given known before some (text ∷ rest) known_now now →
       AddsGiven files text known_now now texts last next →
-      PastGiven files given known before (some ++ texts) (passed ++ text ∷ []) last next
-  given_one given passed text known known_now last before now next some texts p adds = record {
-    lists = λ rest others after is l.
+      PastGiven files given known before (some ++ texts) rest last next
+  given_one given rest text known known_now last before now next some texts p adds = record {
+    lists = λ others after l.
         subst (λ all. spec.ListsAll files given known before all after) (sym (append_assoc some texts others))
-        (p.lists (text ∷ rest) (texts ++ others) after (is ∙ append_assoc passed (text ∷ []) rest)
-        (lists_one text rest known_now last now next after texts others adds l));
-    stops = λ rest stop after is s.
-        p.stops (text ∷ rest) stop after (is ∙ append_assoc passed (text ∷ []) rest)
-        (stops_later text rest known_now last now next after texts stop adds s);
+        (p.lists (texts ++ others) after (lists_one text rest known_now last now next after texts others adds l));
+    stops = λ stop after s. p.stops stop after (stops_later text rest known_now last now next after texts stop adds s);
   }
 
-  pub given_stops : (given passed rest : List spec.Given) (text : spec.Given) (known known_now : List FileId) (before now after : D) (some : List spec.Listed) (stop : spec.Stop) →
-      PastGiven files given known before some passed known_now now →
+  pub given_all : (given : List spec.Given) (known known_now : List FileId) (before now : D) (some : List spec.Listed) →
+      PastGiven files given known before some [] known_now now → spec.ListsAll files given known before some now
+  given_all given known known_now before now some p =
+      subst (λ all. spec.ListsAll files given known before all now) (append-nil some) (p.lists [] now spec.no_text)
+
+  pub given_stops : (given rest : List spec.Given) (text : spec.Given) (known known_now : List FileId) (before now after : D) (some : List spec.Listed) (stop : spec.Stop) →
+      PastGiven files given known before some (text ∷ rest) known_now now →
       StopsGiven files text known_now now stop after →
-      given ≡ passed ++ (text ∷ rest) →
       spec.StopsAll files given known before stop after
-  given_stops given passed rest text known known_now before now after some stop p s is = p.stops (text ∷ rest) stop after is (spec.at_text s.new s.stops)
+  given_stops given rest text known known_now before now after some stop p s = p.stops stop after (spec.at_text s.new s.stops)
+
+-- one more of the texts that were given
+pub one_given : (texts : List GivenText) (n : ℕ) (text : GivenText) → n < length texts → text ≡ get_or texts n text →
+    all_given (drop n texts) ≡ given text ∷ all_given (drop (n + 1) texts)
+one_given texts n text within is = ap all_given (drop_more texts n text within) ∙ ap (λ t. given t ∷ all_given (drop (n + 1) texts)) (sym is)
+
+pub none_given : (texts : List GivenText) (n : ℕ) → length texts ≤ n → all_given (drop n texts) ≡ []
+none_given texts n past = ap all_given (drop_all n texts past)

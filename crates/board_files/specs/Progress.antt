@@ -68,12 +68,12 @@ module _ {D : Type 0} (files : Files D) where
     pub stops : (text : spec.Listed) (stop : spec.Stop) (after : D) →
         spec.Stops files text folder here known_now now stop after → spec.Stops files text folder from known before stop after
 
-  -- the same of texts that were given
-  pub record PastGiven (given : List spec.Given) (known : List FileId) (before : D) (added : List spec.Listed)
-      (passed : List spec.Given) (known_now : List FileId) (now : D) : Type 0 where
-    pub lists : (rest : List spec.Given) (texts : List spec.Listed) (after : D) → given ≡ passed ++ rest →
+  -- the same of texts that were given, where these are left
+  pub record PastGiven (given : List spec.Given) (known : List FileId) (before : D) (added : List spec.Listed) (rest : List spec.Given)
+      (known_now : List FileId) (now : D) : Type 0 where
+    pub lists : (texts : List spec.Listed) (after : D) →
         spec.ListsAll files rest known_now now texts after → spec.ListsAll files given known before (added ++ texts) after
-    pub stops : (rest : List spec.Given) (stop : spec.Stop) (after : D) → given ≡ passed ++ rest →
+    pub stops : (stop : spec.Stop) (after : D) →
         spec.StopsAll files rest known_now now stop after → spec.StopsAll files given known before stop after
 
   -- the same of what was made so far

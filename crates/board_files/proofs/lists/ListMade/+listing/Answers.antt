@@ -3,7 +3,7 @@ use Rattle.board_files.specs.Files.{is_known}
 use Rattle.board_files.specs.Given.{listed}
 use Rattle.board_files.specs.Lists as spec
 use Rattle.board_files.specs.Progress.{named, Passing}
-use Rattle.board_files.proofs.AddedLemmas.{at_unopened, at_too_many, at_not_given, stops_inside, passes, reads, passing_all, map_stopped, map_inside, map_added, nothing_added, text_added}
+use Rattle.board_files.proofs.AddedLemmas.{at_unopened, at_too_many, at_not_given, stops_inside, passes, reads, passing_all, map_stopped, map_inside, map_added, nothing_added, text_added, named_none, named_some}
 use Rattle.board_files.proofs.lists.ListMade.+listing.Goals as goal
 
 pub add_file-returns-in-Err-clause-stops : goal.add_file-returns-in-Err-clause-stops
@@ -66,7 +66,7 @@ add_file-returns-in-Err-give-clause-stops g t c =
 
 pub add_files-returns-in-Ok-None-clause-added : goal.add_files-returns-in-Ok-None-clause-added
 add_files-returns-in-Ok-None-clause-added g t c =
-    passing_all g.O.Opener.files c.args.folder.now _ _ _ c.args.self.now c.loop-file.self c.args.opener.now c.loop-file.opener c.loop-file.invariant c.in-Ok-None.ensures.file
+    passing_all g.O.Opener.files c.args.folder.now _ _ _ c.args.self.now c.loop-file.self c.args.opener.now c.loop-file.opener c.loop-file.invariant (let f = c.in-Ok-None.field-0-is in named_none c.in-Ok-None.field-0 _ _ c.in-Ok-None.ensures.file cc)
 
 pub add_files-returns-in-Err-clause-stops : goal.add_files-returns-in-Err-clause-stops
 add_files-returns-in-Err-clause-stops g t c = c.loop-file.invariant.past.stops _ _ _ (spec.no_name c.in-Err.ensures.refused)
@@ -74,10 +74,10 @@ add_files-returns-in-Err-clause-stops g t c = c.loop-file.invariant.past.stops _
 pub add_files-returns-in-Err-add_file-clause-stops : goal.add_files-returns-in-Err-add_file-clause-stops
 add_files-returns-in-Err-add_file-clause-stops g t c =
     map_inside (listed c.args.text.now) c.in-Err-add_file.inside _ _
-    (λ stop h. c.loop-file.invariant.past.stops _ _ _ (spec.at_file c.in-Ok-Some.ensures.file h))
+    (λ stop h. c.loop-file.invariant.past.stops _ _ _ (spec.at_file (let f = c.in-Ok-Some.field-0-is in named_some c.in-Ok-Some.field-0 c.in-Ok-Some.file _ _ c.in-Ok-Some.ensures.file cc) h))
     c.in-Err-add_file.ensures.stops
 
 pub add_files-returns-in-Err-end_file-clause-stops : goal.add_files-returns-in-Err-end_file-clause-stops
 add_files-returns-in-Err-end_file-clause-stops g t c =
     let it = c.in_default.ensures.added in
-    c.loop-file.invariant.past.stops _ _ _ (spec.no_end c.in-Ok-Some.ensures.file it.holds c.in-Err-end_file.ensures.refused)
+    c.loop-file.invariant.past.stops _ _ _ (spec.no_end (let f = c.in-Ok-Some.field-0-is in named_some c.in-Ok-Some.field-0 c.in-Ok-Some.file _ _ c.in-Ok-Some.ensures.file cc) it.holds c.in-Err-end_file.ensures.refused)
