@@ -119,6 +119,28 @@ second:1:1: error: a brief begins with 'brief 1' or 'brief 2'; this is a plan, a
 third:3:8: error: expected here: $byte [P3]" check first --with second --with third
 told "several refusals: a later file that cannot be read" 2 "" "first:2:10: error: expected here: $address [P3]" \
     check first --with .
+printf 'brief 1\ndevice temp ;\nmessage get write tmp read temp 1\ncontroller bmc gte ;\n' >first
+expect "several refusals: hints are short after the first" 2 "" "refused P3 line 2
+hint: line 2 of the brief:
+hint:   device temp ;
+hint:               ^
+hint: expected here: an address ('0x' and two digits, at most 0x7F, or '0b' and
+hint: seven of '0', '1' and 'x')
+hint: also line 3 of the brief:
+hint:   message get write tmp read temp 1
+hint:                     ^^^
+hint: no device before this place has this name; the nearest names of devices:
+hint:   temp
+hint: also line 4 of the brief:
+hint:   controller bmc gte ;
+hint:                  ^^^
+hint: no message before this place has this name; the nearest names of messages:
+hint:   get" check first --hints always
+expect "several refusals: objects say which one is the answer" 2 "" \
+    '{"kind":"refusal","code":"P3","line":2,"byte":20,"column":13,"expected":"address","reason":"expected here: '"$address"'"}
+{"kind":"refusal","code":"P8","line":3,"byte":40,"column":19,"expected":"target","further":true,"reason":"'"'tmp'"': no device before this place has this name; the nearest names of devices: temp"}
+{"kind":"refusal","code":"P8","line":4,"byte":71,"column":16,"expected":"sending","further":true,"reason":"'"'gte'"': no message before this place has this name; the nearest names of messages: get"}' check first --format json
+expect "several refusals: the exact form has the answer alone" 2 "" "refused P3 line 2" check first
 printf 'brief 1\ndevice temp 0x48 ;\n' >first
 printf 'brief 1\nbyte R 0x01 ; device temp 0x49 ;\n' >second
 printf 'brief 2\nmessage \xc2\xb0\n' >text
