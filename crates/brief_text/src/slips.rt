@@ -58,6 +58,16 @@ pub fn slips_in(alloc: Global, texts: &[&[u8]]) -> Result<Slips, AllocError> {
     Ok(slips)
 }
 
+// An item that is refused, after others that are not: where the first of them and where it begins itself, and how many labels stood
+// before it.
+#[derive(Clone, Copy)]
+struct RefusedItem {
+    first: Point,
+    begins: Point,
+    labels: usize,
+    refused: Refused,
+}
+
 #[derive(Drop)]
 struct Finder<'a> {
     alloc: Global,
@@ -161,23 +171,41 @@ impl<'a> Finder<'a> {
         tokens: Tokens<'a>,
         may_be_name: bool,
     ) -> Result<Option<Next>, AllocError> {
+        let Some(item) = self.refused_among(text, tokens) else {
+            return Ok(None);
+        };
+        let RefusedItem {
+            first,
+            begins,
+            labels,
+            refused,
+        } = item;
+        self.board.labels.truncate(labels);
+        let may_be_name = may_be_name && begins.start == first.start;
+        self.pass(text, begins, refused, may_be_name)
+    }
+
+    // The first one of these items that is refused.
+    fn refused_among(&mut self, text: Text<'a>, tokens: Tokens<'a>) -> Option<RefusedItem> {
         let mut source = Source::new(self.alloc, tokens, Spans::unasked(self.alloc));
         let first = text.point_before(&source.tokens, source.token);
         for _ in 0..text.bytes.len() {
-            let item = text.point_before(&source.tokens, source.token);
+            let begins = text.point_before(&source.tokens, source.token);
             let labels = self.board.labels.len();
             match read_item(&mut source, &mut self.board, text.letters) {
                 Ok(true) => {}
-                Ok(false) => return Ok(None),
+                Ok(false) => return None,
                 Err(error) => {
-                    let refused = source.refusal(error);
-                    self.board.labels.truncate(labels);
-                    let may_be_name = may_be_name && item.start == first.start;
-                    return self.pass(text, item, refused, may_be_name);
+                    return Some(RefusedItem {
+                        first,
+                        begins,
+                        labels,
+                        refused: source.refusal(error),
+                    });
                 }
             }
         }
-        Ok(None)
+        None
     }
 
     // Passes over the item that begins here and is refused, and tells that, unless it follows from what was passed over before.
