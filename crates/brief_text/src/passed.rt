@@ -106,6 +106,7 @@ impl<'a> Passed<'a> {
                 None => self.has(Kind::Controller, word),
             },
             Some(Expected::Name(kind)) => self.has(kind, word),
+            Some(Expected::Controller) => self.has(Kind::Controller, word),
             _ => self.has(Kind::Byte, word),
         }
     }
