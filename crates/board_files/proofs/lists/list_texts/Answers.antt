@@ -12,7 +12,7 @@ pub loop-text-preserved : goal.loop-text-preserved
 loop-text-preserved g c =
     let gives = c.into_iter-text-iterator.ensures.into_iter_gives in
     let y = YieldsList-from_vec {s = c.into_iter-text-iterator.result} c.args.given.items gives.0 (gives.1 ∙ c.args.given.ok.0) in
-    let t = YieldsList-turn y c.loop-text.yielded _ c.loop-text.yielded_by _ _ c.in-Some.text c.in-Some.is c.next.ensures.steps in
+    let t = YieldsList-turn y c.loop-text.yielded c.loop-text.text-iterator c.loop-text.yielded_by c.next.result c.next.new.self c.in-Some.text c.in-Some.is c.next.ensures.steps in
     let files = g.O.Opener.files in
     let all = all_given c.args.given.items in
     let n = length c.loop-text.yielded in
@@ -30,7 +30,7 @@ pub returns-in-Err-At-clause-stops : goal.returns-in-Err-At-clause-stops
 returns-in-Err-At-clause-stops g c =
     let gives = c.into_iter-text-iterator.ensures.into_iter_gives in
     let y = YieldsList-from_vec {s = c.into_iter-text-iterator.result} c.args.given.items gives.0 (gives.1 ∙ c.args.given.ok.0) in
-    let t = YieldsList-turn y c.loop-text.yielded _ c.loop-text.yielded_by _ _ c.in-Some.text c.in-Some.is c.next.ensures.steps in
+    let t = YieldsList-turn y c.loop-text.yielded c.loop-text.text-iterator c.loop-text.yielded_by c.next.result c.next.new.self c.in-Some.text c.in-Some.is c.next.ensures.steps in
     let files = g.O.Opener.files in
     let all = all_given c.args.given.items in
     let n = length c.loop-text.yielded in
@@ -43,7 +43,7 @@ pub returns-clause-listed : goal.returns-clause-listed
 returns-clause-listed g c =
     let gives = c.into_iter-text-iterator.ensures.into_iter_gives in
     let y = YieldsList-from_vec {s = c.into_iter-text-iterator.result} c.args.given.items gives.0 (gives.1 ∙ c.args.given.ok.0) in
-    let t = YieldsList-end y c.loop-text.yielded _ c.loop-text.yielded_by _ _ c.in-None.is c.next.ensures.steps in
+    let t = YieldsList-end y c.loop-text.yielded c.loop-text.text-iterator c.loop-text.yielded_by c.next.result c.next.new.self c.in-None.is c.next.ensures.steps in
     let files = g.O.Opener.files in
     let all = all_given c.args.given.items in
     let none = none_given c.args.given.items (length c.loop-text.yielded) (omega (arith, t.1)) in

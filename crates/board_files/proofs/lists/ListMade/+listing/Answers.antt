@@ -1,4 +1,5 @@
 use Rattle.std.proofs.Common.{◌≡◌, ◌≤◌, ◌<◌, length, true, false, sym, ◌∙◌, arith, ap, refl}
+use Rattle.brief_tokens.specs.Reading.{left}
 use Rattle.board_files.specs.Files.{is_known}
 use Rattle.board_files.specs.Given.{listed}
 use Rattle.board_files.specs.Lists as spec
@@ -66,7 +67,7 @@ add_file-returns-in-Err-give-clause-stops g t c =
 
 pub add_files-returns-in-Ok-None-clause-added : goal.add_files-returns-in-Ok-None-clause-added
 add_files-returns-in-Ok-None-clause-added g t c =
-    passing_all g.O.Opener.files c.args.folder.now _ _ _ c.args.self.now c.loop-file.self c.args.opener.now c.loop-file.opener c.loop-file.invariant (let f = c.in-Ok-None.field-0-is in named_none c.in-Ok-None.field-0 _ _ c.in-Ok-None.ensures.file cc)
+    passing_all g.O.Opener.files c.args.folder.now _ _ _ c.args.self.now c.loop-file.self c.args.opener.now c.loop-file.opener c.loop-file.invariant (let f = c.in-Ok-None.field-0-is in named_none c.in-Ok-None.field-0 (left c.loop-file.tokens) (left c.next_file.new.self) c.in-Ok-None.ensures.file cc)
 
 pub add_files-returns-in-Err-clause-stops : goal.add_files-returns-in-Err-clause-stops
 add_files-returns-in-Err-clause-stops g t c = c.loop-file.invariant.past.stops _ _ _ (spec.no_name c.in-Err.ensures.refused)
@@ -74,10 +75,10 @@ add_files-returns-in-Err-clause-stops g t c = c.loop-file.invariant.past.stops _
 pub add_files-returns-in-Err-add_file-clause-stops : goal.add_files-returns-in-Err-add_file-clause-stops
 add_files-returns-in-Err-add_file-clause-stops g t c =
     map_inside (listed c.args.text.now) c.in-Err-add_file.inside _ _
-    (λ stop h. c.loop-file.invariant.past.stops _ _ _ (spec.at_file (let f = c.in-Ok-Some.field-0-is in named_some c.in-Ok-Some.field-0 c.in-Ok-Some.file _ _ c.in-Ok-Some.ensures.file cc) h))
+    (λ stop h. c.loop-file.invariant.past.stops _ _ _ (spec.at_file (let f = c.in-Ok-Some.field-0-is in named_some c.in-Ok-Some.field-0 c.in-Ok-Some.file (left c.loop-file.tokens) (left c.next_file.new.self) c.in-Ok-Some.ensures.file cc) h))
     c.in-Err-add_file.ensures.stops
 
 pub add_files-returns-in-Err-end_file-clause-stops : goal.add_files-returns-in-Err-end_file-clause-stops
 add_files-returns-in-Err-end_file-clause-stops g t c =
     let it = c.in_default.ensures.added in
-    c.loop-file.invariant.past.stops _ _ _ (spec.no_end (let f = c.in-Ok-Some.field-0-is in named_some c.in-Ok-Some.field-0 c.in-Ok-Some.file _ _ c.in-Ok-Some.ensures.file cc) it.holds c.in-Err-end_file.ensures.refused)
+    c.loop-file.invariant.past.stops _ _ _ (spec.no_end (let f = c.in-Ok-Some.field-0-is in named_some c.in-Ok-Some.field-0 c.in-Ok-Some.file (left c.loop-file.tokens) (left c.next_file.new.self) c.in-Ok-Some.ensures.file cc) it.holds c.in-Err-end_file.ensures.refused)
