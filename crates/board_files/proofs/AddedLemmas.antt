@@ -1,7 +1,8 @@
 -- Texts that were added to a list, and what holds of them.
 use Rattle.std.proofs.Common.{◌≡◌, ℕ, ◌<◌, ◌≤◌, ◌+◌, true, false, List, [], ◌∷◌, ◌++◌, length, map, length-append, append-nil, append_assoc, refl, ap, sym, subst, ◌∙◌, arith}
 use Rattle.std.specs.Prelude.{Result, Ok, Err, OnOk, Option, Some, None}
-use Rattle.brief_tokens.specs.Reading.{naming}
+use Rattle.brief_tokens.specs.Reading.{naming, left}
+use Rattle.brief_tokens.specs.declared.tokens.Tokens.{Tokens as TokensRead}
 use Rattle.brief_tokens.specs.declared.tokens.FileNamed.{FileNamed}
 use Rattle.brief_tokens.specs.Heads.{begun, next_file, after_file, names, no_more, wrong}
 use Rattle.brief_tokens.specs.Tokens.{Tokens, last}
@@ -18,7 +19,7 @@ use Rattle.board_files.specs.declared.lists.Inside.{Inside}
 use Rattle.board_files.specs.declared.lists.Inside.TheVariants as inside
 use Rattle.board_files.specs.declared.lists.Stopped.{Stopped}
 use Rattle.board_files.specs.declared.lists.Stopped.TheVariants as stopped
-use Rattle.board_files.specs.Progress.{IsStopped, IsInside, Added, AddsGiven, stood, added, AddsHead, named, Past, Passing}
+use Rattle.board_files.specs.Progress.{files_left, IsStopped, IsInside, Added, AddsGiven, stood, added, AddsHead, named, Past, Passing}
 use Rattle.board_files.specs.declared.lists.ListMade.{ListMade}
 use Rattle.board_files.specs.declared.lists.Listed.{Listed}
 use Rattle.board_files.specs.declared.openers.FileId.{FileId}
@@ -176,3 +177,9 @@ named_none o t rest e is = e ∙ ap (λ x. naming x rest) is
 
 pub named_some : (o : Option FileNamed) (file : FileNamed) (t rest : Tokens) → next_file t ≡ naming o rest → o ≡ Some file → next_file t ≡ names file.name.now file.line rest
 named_some o file t rest e is = e ∙ ap (λ x. naming x rest) is
+
+pub head_some : (slice text : List ℕ) (o : Option TokensRead) (tokens : TokensRead) → spec.files_of slice ≡ Ok (files_left o) → slice ≡ text → o ≡ Some tokens → spec.files_of text ≡ Ok (left tokens)
+head_some slice text o tokens e same is = sym (ap spec.files_of same) ∙ e ∙ ap (λ (x : Option TokensRead). Ok (files_left x)) is
+
+pub head_none : (slice text : List ℕ) (o : Option TokensRead) → spec.files_of slice ≡ Ok (files_left o) → slice ≡ text → o ≡ None → spec.files_of text ≡ Ok (last text_end 1)
+head_none slice text o e same is = sym (ap spec.files_of same) ∙ e ∙ ap (λ (x : Option TokensRead). Ok (files_left x)) is
