@@ -68,6 +68,11 @@ struct RefusedItem {
     refused: Refused,
 }
 
+// Leaves so many labels: an item that is refused adds none.
+fn forget_labels(board: &mut Board, left: usize) {
+    board.labels.truncate(left);
+}
+
 #[derive(Drop)]
 struct Finder<'a> {
     alloc: Global,
@@ -180,7 +185,7 @@ impl<'a> Finder<'a> {
             labels,
             refused,
         } = item;
-        self.board.labels.truncate(labels);
+        forget_labels(&mut self.board, labels);
         let may_be_name = may_be_name && begins.start == first.start;
         self.pass(text, begins, refused, may_be_name)
     }
