@@ -14,11 +14,12 @@ use Rattle.plan_core.specs.Contents.{Contents, empty}
 use Rattle.plan_text.specs.Values.{address_by}
 use Rattle.brief_text.specs.declared.syntax.Lengths.{Lengths}
 use Rattle.brief_text.specs.Trees.{Said, spelled, named, Times, times, ranged, BriefFrame, write_to, read_from, BriefBytes}
-use Rattle.brief_text.specs.Trees.{data_byte, made_byte, no_more, BriefTail, stop_here, go_on, Made, header, packet_code, checksum}
+use Rattle.brief_text.specs.Trees.{data_byte, chosen_byte, made_byte, no_more, BriefTail, stop_here, go_on, Made, header, packet_code, checksum}
 use Rattle.brief_text.specs.Trees.{Side, BriefItem, device, byte, message, controller, extend, interrupt, never_both}
 use Rattle.brief_text.specs.Codes.{at_start, unknown, after_bits, header_bits, exactly, remaining}
 use Rattle.brief_text.specs.declared.codes.Path.{Path}
 use Rattle.std.specs.Option.{option_map}
+use Rattle.brief_text.specs.Choices.{chosen_bits}
 use Rattle.brief_text.specs.Words.{any_byte, known_number}
 
 pub record Draft : Type 0 where
@@ -76,8 +77,8 @@ members_or name None = name ∷ []
 abbrev pub stands_for : Draft → List ℕ → List (List ℕ)
 stands_for draft name = members_or name (lookup (bytes_eq name) draft.families)
 
--- ---- messages: names are looked up, repetitions are written out, and the byte of a range stands n times. Here bytes that follow
--- from others are open: it is the outline of a message, which has its size.
+-- ---- messages: names are looked up, repetitions are written out, and the byte of a range stands n times. Here bytes that are
+-- choices or follow from others are open: it is the outline of a message, which has its size.
 
 -- so many times the same byte, each with the same after it where it is not acknowledged
 abbrev pub repeated : ℕ → Pattern → PayloadTree → TailTree → PayloadTree
@@ -98,6 +99,8 @@ abbrev mutual
   pub bytes_meant : Draft → ℕ → BriefBytes → PayloadTree
   bytes_meant draft n (data_byte bits often refused acked) =
       repeated (how_often n often) (bits_said draft bits) (bytes_meant draft n acked) (tail_meant draft n refused)
+  bytes_meant draft n (chosen_byte choice refused acked) =
+      trees.byte any_byte (bytes_meant draft n acked) (tail_meant draft n refused)
   bytes_meant draft n (made_byte made refused acked) =
       trees.byte any_byte (bytes_meant draft n acked) (tail_meant draft n refused)
   bytes_meant draft n (no_more tail) = last (tail_meant draft n tail)
@@ -106,7 +109,7 @@ abbrev mutual
   tail_meant draft n stop_here = stop
   tail_meant draft n (go_on frame) = again (frame_meant draft n frame)
 
--- ---- the same with the bytes that follow from others, by the path up to them
+-- ---- the same with block n of a choice, and with the bytes that follow from others, by the path up to them
 
 -- each copy of what stands where the byte is not acknowledged is on a path of its own
 abbrev pub repeated_on : ℕ → Pattern → (Path → PayloadTree) → (Path → TailTree) → Path → PayloadTree
@@ -138,6 +141,8 @@ abbrev mutual
   pub bytes_on : Draft → ℕ → BriefBytes → Path → PayloadTree
   bytes_on draft n (data_byte bits often refused acked) path =
       repeated_on (how_often n often) (bits_said draft bits) (bytes_on draft n acked) (tail_on draft n refused) path
+  bytes_on draft n (chosen_byte choice refused acked) path =
+      trees.byte (chosen_bits choice n) (bytes_on draft n acked (after_bits path (chosen_bits choice n))) (tail_on draft n refused (after_bits path (chosen_bits choice n)))
   bytes_on draft n (made_byte made refused acked) path =
       trees.byte (made_bits draft made path) (bytes_on draft n acked (after_made draft made path)) (tail_on draft n refused (after_made draft made path))
   bytes_on draft n (no_more tail) path = last (tail_on draft n tail path)

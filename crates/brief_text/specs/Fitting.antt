@@ -9,7 +9,7 @@ use Rattle.brief_text.specs.Grammar.{Spells}
 use Rattle.brief_text.specs.Judging.{named_refusal, message_refusal_of, range_refusal, controller_refusal_of, extend_refusal_of}
 use Rattle.brief_text.specs.Judging.{listed_by, listing_refusal, all_of, first_refusal, second_refusal}
 use Rattle.brief_text.specs.Places.{is_known}
-use Rattle.brief_text.specs.Trees.{Times, times, ranged, BriefFrame, write_to, read_from, BriefBytes, data_byte, made_byte}
+use Rattle.brief_text.specs.Trees.{Times, times, ranged, BriefFrame, write_to, read_from, BriefBytes, data_byte, chosen_byte, made_byte}
 use Rattle.brief_text.specs.Trees.{no_more, BriefTail, stop_here, go_on, Made, header, packet_code, checksum, BriefItem, device}
 use Rattle.brief_text.specs.Trees.{byte, message, controller, extend, interrupt, never_both}
 use Rattle.brief_text.specs.Words.{known_number}
@@ -32,6 +32,7 @@ abbrev mutual
   pub KnowsBytes : Draft → BriefBytes → Type 0
   KnowsBytes draft (data_byte bits often refused acked) =
       (is_known draft.bytes bits ≡ true) × KnowsTail draft refused × KnowsBytes draft acked
+  KnowsBytes draft (chosen_byte choice refused acked) = KnowsTail draft refused × KnowsBytes draft acked
   KnowsBytes draft (made_byte made refused acked) =
       (knows_made draft made ≡ true) × KnowsTail draft refused × KnowsBytes draft acked
   KnowsBytes draft (no_more tail) = KnowsTail draft tail
@@ -40,7 +41,7 @@ abbrev mutual
   KnowsTail draft stop_here = Unit {0}
   KnowsTail draft (go_on frame) = KnowsFrame draft frame
 
--- how many of its bytes stand LO to HI times
+-- how many of its bytes stand LO to HI times, or are choices
 abbrev pub often_ranges : Times → ℕ
 often_ranges (times n) = 0
 often_ranges ranged = 1
@@ -52,6 +53,7 @@ abbrev mutual
 
   pub bytes_ranges : BriefBytes → ℕ
   bytes_ranges (data_byte bits often refused acked) = often_ranges often + tail_ranges refused + bytes_ranges acked
+  bytes_ranges (chosen_byte choice refused acked) = 1 + tail_ranges refused + bytes_ranges acked
   bytes_ranges (made_byte made refused acked) = tail_ranges refused + bytes_ranges acked
   bytes_ranges (no_more tail) = tail_ranges tail
 

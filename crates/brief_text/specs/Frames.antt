@@ -16,11 +16,14 @@ use Rattle.brief_tokens.specs.declared.symbols.Sign.TheVariants as signs
 use Rattle.brief_text.specs.declared.syntax.Lengths.{Lengths}
 use Rattle.brief_text.specs.Drafts.{Draft}
 use Rattle.brief_text.specs.Judging.{range_refusal}
-use Rattle.brief_text.specs.Places.{Place, Reads, token_as, open_in, close_in, past, to_at, data_at}
+use Rattle.std.specs.Option.{option_map}
+use Rattle.brief_text.specs.Places.{Place, Reads, Finds, token_as, open_in, close_in, past, to_at, data_at}
 use Rattle.brief_tokens.specs.Tokens.{Token, keyword, word, sign, Tokens, next, last}
-use Rattle.brief_text.specs.Trees.{Said, Times, times, ranged, BriefFrame, write_to, read_from, BriefBytes, data_byte, made_byte}
-use Rattle.brief_text.specs.Trees.{no_more, BriefTail, stop_here, go_on, Made, header, packet_code, checksum}
-use Rattle.brief_text.specs.Words.{Repetition, so_often, from_to, repetition_by, is_countable, is_range}
+use Rattle.brief_tokens.specs.Tokens as tokens
+use Rattle.brief_text.specs.Trees.{Said, Times, times, ranged, BriefFrame, write_to, read_from, BriefBytes, data_byte, chosen_byte, made_byte}
+use Rattle.brief_text.specs.Trees.{no_more, BriefTail, stop_here, go_on, Made, header, packet_code, checksum, Choice, span, all_but}
+use Rattle.brief_text.specs.Choices.{is_choice, numbers}
+use Rattle.brief_text.specs.Words.{known_byte_by, Repetition, so_often, from_to, repetition_by, is_countable, is_range}
 
 -- ---- the limits. What stands after the `else` of `any*16` stands in the message 16 times: in 16 copies. Room is how many
 -- bytes a path may still have, where it is longest. A range counts as its HI.
@@ -100,6 +103,14 @@ pub data Opening : Type 0 where
   opens_header : (is_read : Bool) → Opening
   opens_code : Opening
   opens_checksum : Opening
+
+-- the first token of a choice, and how the rest of the data bytes is read after it
+pub data Chooser : Type 0 where
+  chooses : (choice : Choice) → Chooser
+  excepts : Chooser
+
+abbrev pub Choosers : Type 0
+Choosers = Chooser → ℕ → Place → Reads BriefBytes
 
 abbrev pub Mades : Type 0
 Mades = Opening → ℕ → Place → Reads BriefBytes
@@ -192,16 +203,80 @@ mades_by mades at = do
   found ← token_as opening_in at
   mades found.0 found.1 found.2
 
+-- ---- choices
+
+-- `0x02..0xFF`, or `any` and then `but`
+abbrev pub begins_but : Tokens → Bool
+begins_but (next (keyword keywords.But) line rest) = true
+begins_but tokens = false
+
+abbrev pub begins_choice : Tokens → Bool
+begins_choice (next (tokens.span least greatest) line rest) = true
+begins_choice (next (keyword keywords.Any) line rest) = begins_but rest
+begins_choice tokens = false
+
+abbrev pub chooser_in : Token → Option Chooser
+chooser_in (tokens.span least greatest) = Some (chooses (span least greatest))
+chooser_in (keyword keywords.Any) = Some excepts
+chooser_in token = None
+
+-- a choice whose last token stands on this line: the message is a family
+abbrev pub chosen : Around → Choice → ℕ → Place → Result Place PlanError
+chosen around choice line at =
+    if is_choice choice then range_refusal around.draft around.name (numbers choice) line (record at { range = Some (numbers choice) })
+    else Err (BadCount line)
+
+-- a message has one choice or one range
+abbrev pub only_choice : ℕ → Place → Result Place PlanError
+only_choice line at = if is_some at.range then Err (Unexpected line) else Ok at
+
+-- a choice of one token is judged before its byte is counted
+abbrev pub judged : Around → Chooser → ℕ → Place → Result Place PlanError
+judged around (chooses choice) line at = only_choice line at >>= chosen around choice line
+judged around excepts line at = Ok at
+
+abbrev pub choice_begun : Around → Place → Finds Chooser
+choice_begun around at = do
+  found ← token_as chooser_in at
+  after ← judged around found.0 found.1 found.2
+  Ok (found.0, found.1, after)
+
+-- what is not chosen
+abbrev pub excepted_in : Token → Option Choice
+excepted_in (tokens.span least greatest) = Some (all_but least greatest)
+excepted_in (word bytes) = option_map (λ value. all_but value value) (known_byte_by bytes)
+excepted_in token = None
+
+abbrev pub but_in : Token → Option (Unit {0})
+but_in (keyword keywords.But) = Some tt
+but_in token = None
+
+-- the rest of a choice
+abbrev pub choice_at : Around → Chooser → Place → Reads Choice
+choice_at around (chooses choice) at = Ok (choice, at)
+choice_at around excepts at = do
+  but ← token_as but_in at
+  alone ← only_choice but.1 but.2
+  found ← token_as excepted_in alone
+  after ← chosen around found.0 found.1 found.2
+  Ok (found.0, after)
+
+abbrev pub choices_by : Around → Choosers → Place → Reads BriefBytes
+choices_by around choosers at = do
+  found ← choice_begun around at
+  choosers found.0 found.1 found.2
+
 abbrev pub last_by : Draft → Frames → Place → Reads BriefBytes
 last_by draft frames at = do
   tail ← next_by draft frames at
   Ok (no_more tail.0, tail.1)
 
-abbrev pub payload_by : Draft → Frames → Bytes → Mades → Place → Reads BriefBytes
-payload_by draft frames bytes mades at =
-    if begins_data at.tokens then bytes_by draft bytes at
+abbrev pub payload_by : Around → Frames → Bytes → Choosers → Mades → Place → Reads BriefBytes
+payload_by around frames bytes choosers mades at =
+    if begins_choice at.tokens then choices_by around choosers at
+    else if begins_data at.tokens then bytes_by around.draft bytes at
     else if begins_made at.tokens then mades_by mades at
-    else last_by draft frames at
+    else last_by around.draft frames at
 
 -- The rest of a frame after its address on this line, and the rest of the data bytes after the first token, where what stands
 -- before them has used so many bytes of the room, and where they stand in so many copies.
@@ -212,7 +287,7 @@ unfoldable mutual
   frame_in around (suc room) zero copies writes to line at = do
     node ← counted copies line at
     refused ← refused_by around.draft (frame_in around room 0 copies) node
-    acked ← payload_by around.draft (frame_in around room 0 copies) (byte_in around room 0 copies) (made_in around room 0 copies) refused.1
+    acked ← payload_by around (frame_in around room 0 copies) (byte_in around room 0 copies) (chosen_in around room 0 copies) (made_in around room 0 copies) refused.1
     Ok (write_to to refused.0 acked.0, acked.1)
   frame_in around (suc room) zero copies reads to line at = do
     node ← counted copies line at
@@ -228,8 +303,18 @@ unfoldable mutual
     node ← counted copies line at
     often ← often_at around room copies node
     refused ← refused_by around.draft (frame_in around room often.0.1 (copies * suc often.0.1)) often.1
-    acked ← payload_by around.draft (frame_in around room often.0.1 copies) (byte_in around room often.0.1 copies) (made_in around room often.0.1 copies) refused.1
+    acked ← payload_by around (frame_in around room often.0.1 copies) (byte_in around room often.0.1 copies) (chosen_in around room often.0.1 copies) (made_in around room often.0.1 copies) refused.1
     Ok (data_byte bits often.0.0 refused.0 acked.0, acked.1)
+
+  pub chosen_in : Around → ℕ → ℕ → ℕ → Chooser → ℕ → Place → Reads BriefBytes
+  chosen_in around zero used copies chooser line at = Err (TooLong line)
+  chosen_in around (suc room) (suc used) copies chooser line at = chosen_in around room used copies chooser line at
+  chosen_in around (suc room) zero copies chooser line at = do
+    node ← counted copies line at
+    choice ← choice_at around chooser node
+    refused ← refused_by around.draft (frame_in around room 0 copies) choice.1
+    acked ← payload_by around (frame_in around room 0 copies) (byte_in around room 0 copies) (chosen_in around room 0 copies) (made_in around room 0 copies) refused.1
+    Ok (chosen_byte choice.0 refused.0 acked.0, acked.1)
 
   pub made_in : Around → ℕ → ℕ → ℕ → Opening → ℕ → Place → Reads BriefBytes
   made_in around zero used copies opening line at = Err (TooLong line)
@@ -238,7 +323,7 @@ unfoldable mutual
     node ← counted copies line at
     made ← made_at around.draft opening node
     refused ← refused_by around.draft (frame_in around room 0 copies) made.1
-    acked ← payload_by around.draft (frame_in around room 0 copies) (byte_in around room 0 copies) (made_in around room 0 copies) refused.1
+    acked ← payload_by around (frame_in around room 0 copies) (byte_in around room 0 copies) (chosen_in around room 0 copies) (made_in around room 0 copies) refused.1
     Ok (made_byte made.0 refused.0 acked.0, acked.1)
 
 -- the frames of a message, where a path has so much room and they stand in so many copies

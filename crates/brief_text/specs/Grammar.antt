@@ -14,9 +14,10 @@ use Rattle.brief_tokens.specs.Heads.{opened}
 use Rattle.brief_tokens.specs.Tokens.{Token, keyword, word, sign, Tokens}
 use Rattle.brief_tokens.specs.Tokens as tokens
 use Rattle.brief_text.specs.Trees.{Said, spelled, named, Times, times, ranged, BriefFrame, write_to, read_from, BriefBytes}
-use Rattle.brief_text.specs.Trees.{data_byte, made_byte, no_more, BriefTail, stop_here, go_on, Made, header, packet_code, checksum}
+use Rattle.brief_text.specs.Trees.{data_byte, chosen_byte, made_byte, no_more, BriefTail, stop_here, go_on, Made, header, packet_code, checksum, Choice, span, all_but}
 use Rattle.brief_text.specs.Trees.{BriefItem, device, byte, message, controller, extend, interrupt, never_both}
-use Rattle.brief_text.specs.Words.{address_by, data_by, any_byte, repetition_by, so_often, from_to, is_countable, is_range, side_by}
+use Rattle.brief_text.specs.Choices.{is_choice, numbers}
+use Rattle.brief_text.specs.Words.{known_byte_by, address_by, data_by, any_byte, repetition_by, so_often, from_to, is_countable, is_range, side_by}
 
 -- tokens from one place of a text up to another
 abbrev pub Phrase : Type 1
@@ -66,6 +67,17 @@ SpellsMade (header true to) = one (keyword keywords.Rd) ▸ one (sign signs.Open
 SpellsMade packet_code = one (keyword keywords.Pec)
 SpellsMade checksum = one (keyword keywords.Sum)
 
+-- a choice, in a message with the numbers of its blocks
+abbrev pub SpellsExcepted : ℕ → ℕ → Phrase
+SpellsExcepted least greatest from to = one (tokens.span least greatest) from to ⊎ (SpellsAs known_byte_by least from to × (greatest ≡ least))
+
+abbrev pub SpellsValues : Choice → Phrase
+SpellsValues (span least greatest) = one (tokens.span least greatest)
+SpellsValues (all_but least greatest) = one (keyword keywords.Any) ▸ one (keyword keywords.But) ▸ SpellsExcepted least greatest
+
+abbrev pub SpellsChoice : Option Lengths → Choice → Phrase
+SpellsChoice range choice from to = SpellsValues choice from to × (is_choice choice ≡ true) × (range ≡ Some (numbers choice))
+
 -- how often a byte stands, in a message with this range
 abbrev pub SpellsOften : Option Lengths → Times → Phrase
 SpellsOften range (times n) from to =
@@ -87,6 +99,7 @@ abbrev mutual
   pub SpellsBytes : Option Lengths → BriefBytes → Phrase
   SpellsBytes range (data_byte bits often refused acked) =
       SpellsData bits ▸ SpellsOften range often ▸ SpellsRefused range refused ▸ SpellsBytes range acked
+  SpellsBytes range (chosen_byte choice refused acked) = SpellsChoice range choice ▸ SpellsRefused range refused ▸ SpellsBytes range acked
   SpellsBytes range (made_byte made refused acked) = SpellsMade made ▸ SpellsRefused range refused ▸ SpellsBytes range acked
   SpellsBytes range (no_more tail) = SpellsNext range tail
 

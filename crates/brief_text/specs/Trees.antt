@@ -16,6 +16,11 @@ pub data Made : Type 0 where
   packet_code : Made
   checksum : Made
 
+-- what value a byte has: one from LO to HI, or any but these
+pub data Choice : Type 0 where
+  span : (least greatest : ℕ) → Choice
+  all_but : (least greatest : ℕ) → Choice
+
 -- how often a byte stands one after another: so often, or from LO to HI times, as the message says
 pub data Times : Type 0 where
   times : (n : ℕ) → Times
@@ -27,10 +32,11 @@ mutual
     write_to : (to : Said Address) (refused : BriefTail) (acked : BriefBytes) → BriefFrame
     read_from : (to : Said Address) (count : Count) (refused after : BriefTail) → BriefFrame
 
-  -- a data byte, what follows it where it is not acknowledged, and what follows else, and the same of one that follows from
-  -- others; or what follows the last of them
+  -- a data byte, what follows it where it is not acknowledged, and what follows else, and the same of one that is a choice, or
+  -- follows from others; or what follows the last of them
   pub data BriefBytes : Type 0 where
     data_byte : (bits : Said Pattern) (often : Times) (refused : BriefTail) (acked : BriefBytes) → BriefBytes
+    chosen_byte : (choice : Choice) (refused : BriefTail) (acked : BriefBytes) → BriefBytes
     made_byte : (made : Made) (refused : BriefTail) (acked : BriefBytes) → BriefBytes
     no_more : (tail : BriefTail) → BriefBytes
 
@@ -44,7 +50,7 @@ pub record Side : Type 0 where
   pub controller : List ℕ
   pub label : Option (List ℕ)
 
--- an item; a message of which a byte stands LO to HI times is a family
+-- an item; a message of which a byte stands LO to HI times, or is a choice, is a family
 pub data BriefItem : Type 0 where
   device : (name : List ℕ) (address : Address) → BriefItem
   byte : (name : List ℕ) (bits : Pattern) → BriefItem

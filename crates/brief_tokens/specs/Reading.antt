@@ -24,6 +24,7 @@ with_symbol (symbols.Keyword k) line rest = spec.next (spec.keyword k) line rest
 with_symbol (symbols.Word w) line rest = spec.next (spec.word w.now) line rest
 with_symbol (symbols.Sign s) line rest = spec.next (spec.sign s) line rest
 with_symbol (symbols.Quoted q) line rest = spec.next (spec.quoted q.now) line rest
+with_symbol (symbols.Span least greatest) line rest = spec.next (spec.span least greatest) line rest
 with_symbol symbols.Stray line rest = spec.last stray line
 with_symbol symbols.Foreign line rest = spec.last foreign line
 with_symbol symbols.End line rest = spec.last text_end line
@@ -34,6 +35,7 @@ token_of_symbol (symbols.Keyword k) = Some (spec.keyword k)
 token_of_symbol (symbols.Word w) = Some (spec.word w.now)
 token_of_symbol (symbols.Sign s) = Some (spec.sign s)
 token_of_symbol (symbols.Quoted q) = Some (spec.quoted q.now)
+token_of_symbol (symbols.Span least greatest) = Some (spec.span least greatest)
 token_of_symbol _ = None
 
 abbrev pub with_token : Token → spec.Tokens → spec.Tokens
