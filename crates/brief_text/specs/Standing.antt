@@ -17,9 +17,15 @@ use Rattle.brief_text.specs.declared.naming.Named.{Named}
 use Rattle.brief_text.specs.declared.sources.Source.{Source}
 use Rattle.brief_tokens.specs.declared.symbols.Token.{Token}
 use Rattle.brief_text.specs.declared.syntax.DataSyntax.{DataSyntax}
-use Rattle.brief_text.specs.declared.syntax.DataSyntax.TheVariants.{Byte', Made', Last}
+use Rattle.brief_text.specs.declared.syntax.DataSyntax.TheVariants.{Byte', Chosen', Made', Last}
 use Rattle.brief_text.specs.declared.syntax.MadeSyntax.{MadeSyntax}
 use Rattle.brief_text.specs.declared.syntax.MadeSyntax.TheVariants as mades
+use Rattle.brief_text.specs.declared.syntax.Choice as syntax
+use Rattle.brief_text.specs.declared.syntax.Choice.TheVariants as choices
+use Rattle.brief_text.specs.declared.choices.Block as declared
+use Rattle.brief_text.specs.declared.frames.Chooser as frames
+use Rattle.brief_text.specs.declared.frames.Chooser.TheVariants as choosers
+use Rattle.brief_text.specs.Choices.{Block}
 use Rattle.brief_text.specs.declared.frames.MadeOpening.{MadeOpening}
 use Rattle.brief_text.specs.declared.frames.MadeOpening.TheVariants as openings
 use Rattle.brief_text.specs.declared.syntax.FrameSyntax.{FrameSyntax}
@@ -33,11 +39,12 @@ use Rattle.brief_text.specs.declared.syntax.Value.{Value}
 use Rattle.brief_text.specs.declared.syntax.Value.TheVariants as values
 use Rattle.brief_text.specs.Drafts.{Draft, with_item}
 use Rattle.brief_text.specs.Frames.{Around, Opening, opens_header, opens_code, opens_checksum, opening_in, count_at, counted, often_at, made_at, refused_by}
-use Rattle.brief_text.specs.Frames.{next_by, payload_by, frame_in, byte_in, made_in}
+use Rattle.brief_text.specs.Frames.{Chooser, chooses, excepts, choice_begun, choice_at}
+use Rattle.brief_text.specs.Frames.{next_by, payload_by, frame_in, byte_in, chosen_in, made_in}
 use Rattle.brief_text.specs.Places.{Place, Reads, Finds, token_as, to_at, data_at}
 use Rattle.brief_tokens.specs.Reading.{left, with_token}
 use Rattle.brief_text.specs.Trees.{Said, spelled, named, Times, times, ranged, BriefFrame, write_to, read_from, BriefBytes}
-use Rattle.brief_text.specs.Trees.{data_byte, made_byte, no_more, BriefTail, stop_here, go_on, Made, header, packet_code, checksum}
+use Rattle.brief_text.specs.Trees.{Choice, span, all_but, data_byte, chosen_byte, made_byte, no_more, BriefTail, stop_here, go_on, Made, header, packet_code, checksum}
 use Rattle.brief_text.specs.Trees.{Side, BriefItem}
 
 -- ---- trees
@@ -50,6 +57,17 @@ abbrev pub made_of : MadeSyntax → Made
 made_of (mades.Header reads to) = header reads (said to)
 made_of mades.PacketCode = packet_code
 made_of mades.Checksum = checksum
+
+abbrev pub choice_of : syntax.Choice → Choice
+choice_of (choices.Span least greatest) = span least greatest
+choice_of (choices.AllBut least greatest) = all_but least greatest
+
+abbrev pub block_of : declared.Block → Block
+block_of block = record { power = block.power; first = block.first }
+
+abbrev pub chooser_of : frames.Chooser → Chooser
+chooser_of (choosers.Chooses choice) = chooses (choice_of choice)
+chooser_of choosers.Excepts = excepts
 
 abbrev pub opening_of : MadeOpening → Opening
 opening_of (openings.Header reads) = opens_header reads
@@ -69,6 +87,7 @@ abbrev mutual
   pub brief_bytes : DataSyntax → BriefBytes
   brief_bytes (Byte' bits often refused p acked) =
       data_byte (said bits) (times_of often) (brief_tail refused) (brief_bytes acked)
+  brief_bytes (Chosen' choice refused p acked) = chosen_byte (choice_of choice) (brief_tail refused) (brief_bytes acked)
   brief_bytes (Made' made refused p acked) = made_byte (made_of made) (brief_tail refused) (brief_bytes acked)
   brief_bytes (Last tail) = no_more (brief_tail tail)
 
@@ -146,7 +165,7 @@ next_at around room copies = next_by around.draft (frame_in around room 0 copies
 
 abbrev pub payload_at : Around → ℕ → ℕ → Place → Reads BriefBytes
 payload_at around room copies =
-    payload_by around.draft (frame_in around room 0 copies) (byte_in around room 0 copies) (made_in around room 0 copies)
+    payload_by around (frame_in around room 0 copies) (byte_in around room 0 copies) (chosen_in around room 0 copies) (made_in around room 0 copies)
 
 -- after `write`
 abbrev pub write_at : Around → ℕ → ℕ → Place → Reads BriefFrame
@@ -167,15 +186,34 @@ read_at around room copies at = do
   after ← next_at around (node.0 - greatest_of count.0) copies refused.1
   Ok (read_from to.0 count.0 refused.0 after.0, after.1)
 
+-- a data byte after its first token on this line
+abbrev pub byte_after : Around → ℕ → ℕ → Said Pattern → ℕ → Place → Reads BriefBytes
+byte_after around room copies bits line at = do
+  node ← node_at room copies line at
+  often ← often_at around node.0 copies node.1
+  refused ← refused_at around (node.0 - often.0.1) (copies * suc often.0.1) often.1
+  acked ← payload_at around (node.0 - often.0.1) copies refused.1
+  Ok (data_byte bits often.0.0 refused.0 acked.0, acked.1)
+
 -- data bytes
 abbrev pub bytes_at : Around → ℕ → ℕ → Place → Reads BriefBytes
 bytes_at around room copies at = do
   found ← data_at around.draft at
-  node ← node_at room copies found.1 found.2
-  often ← often_at around node.0 copies node.1
-  refused ← refused_at around (node.0 - often.0.1) (copies * suc often.0.1) often.1
-  acked ← payload_at around (node.0 - often.0.1) copies refused.1
-  Ok (data_byte found.0 often.0.0 refused.0 acked.0, acked.1)
+  byte_after around room copies found.0 found.1 found.2
+
+-- a choice after its first token on this line
+abbrev pub chosen_after : Around → ℕ → ℕ → Chooser → ℕ → Place → Reads BriefBytes
+chosen_after around room copies chooser line at = do
+  node ← node_at room copies line at
+  choice ← choice_at around chooser node.1
+  refused ← refused_at around node.0 copies choice.1
+  acked ← payload_at around node.0 copies refused.1
+  Ok (chosen_byte choice.0 refused.0 acked.0, acked.1)
+
+abbrev pub choices_at : Around → ℕ → ℕ → Place → Reads BriefBytes
+choices_at around room copies at = do
+  found ← choice_begun around at
+  chosen_after around room copies found.0 found.1 found.2
 
 -- bytes that follow from others
 abbrev pub mades_at : Around → ℕ → ℕ → Place → Reads BriefBytes

@@ -6,6 +6,7 @@ ghost use Rattle.plan_core.specs.NameBytes.{name_bytes};
 ghost use Rattle.plan_core.specs.declared.limits.TheConstants.{MOST_BYTES, MOST_NODES};
 ghost use Rattle.plan_text.specs.Words.{number};
 ghost use Rattle.brief_text.specs.Frames.{Around, frames_at, count_at, often_at, often_by, further, opening_in, made_at};
+ghost use Rattle.brief_text.specs.Frames.{only_choice, chosen, choice_at, but_in, excepted_in};
 ghost use Rattle.brief_text.specs.Words.{so_often, from_to, is_range};
 ghost use Rattle.brief_text.specs.Places.{past, close_in, token_as};
 ghost use Rattle.brief_text.specs.Standing.{brief_frame, brief_bytes, brief_tail};
@@ -13,11 +14,13 @@ ghost use Rattle.brief_text.specs.Standing.{brief_frame, brief_bytes, brief_tail
 use crate::boards::Board;
 use crate::numbers::Digits;
 use crate::sources::{Found, Source};
-use crate::syntax::{DataSyntax, FrameSyntax, Lengths, MadeSyntax, Often, TailSyntax};
+use crate::syntax::{
+    Choice, DataSyntax, FrameSyntax, Lengths, MadeSyntax, Often, TailSyntax, Value,
+};
 use crate::traces::Wanted;
-use crate::words::{Repetition, repetition_of};
+use crate::words::{Repetition, known_data, repetition_of};
 use brief_tokens::{Keyword, Sign, Symbol};
-use message_tree::Count;
+use message_tree::{Count, Pattern};
 use plan_core::Name;
 use plan_core::limits::{MOST_BYTES, MOST_NODES};
 use plan_text::PlanError;
@@ -48,6 +51,13 @@ struct Repeated {
     more: u32,
 }
 
+/// The first token of a choice: the whole of it, or `any` before `but`.
+#[derive(Clone, Copy)]
+pub(crate) enum Chooser {
+    Chooses(Choice),
+    Excepts,
+}
+
 /// The first token of a byte that follows from others.
 #[derive(Clone, Copy)]
 pub(crate) enum MadeOpening {
@@ -58,7 +68,8 @@ pub(crate) enum MadeOpening {
 
 impl Source<'_> {
     ghost use Rattle.brief_text.specs.Standing.{place, around, times_of, Gives, node_at, next_at, refused_at, payload_at};
-    ghost use Rattle.brief_text.specs.Standing.{write_at, read_at, bytes_at, mades_at, made_of, opening_of, FindsOut};
+    ghost use Rattle.brief_text.specs.Standing.{write_at, read_at, bytes_at, byte_after, choices_at, chosen_after, mades_at, made_of};
+    ghost use Rattle.brief_text.specs.Standing.{opening_of, choice_of, chooser_of, said, FindsOut};
     ghost use Rattle.plan_text.specs.Places.{Passes};
 
     /// The frames of a whole message.
@@ -137,7 +148,8 @@ impl Source<'_> {
     {
         match self.token.symbol {
             Symbol::Word(_) => self.bytes(within, room),
-            Symbol::Keyword(Keyword::Any) => self.bytes(within, room),
+            Symbol::Keyword(Keyword::Any) => self.any(within, room),
+            Symbol::Span { .. } => self.span(within, room),
             Symbol::Keyword(Keyword::Wr) => self.made(within, room),
             Symbol::Keyword(Keyword::Rd) => self.made(within, room),
             Symbol::Keyword(Keyword::Pec) => self.made(within, room),
@@ -152,6 +164,142 @@ impl Source<'_> {
         ensures { Gives brief_bytes result (bytes_at (around within.entry) room.bytes room.copies (place self.old)) (place self.new) }
     {
         let data = self.data(within.board)?;
+        self.byte(within, room, data)
+    }
+
+    // any refused? .., or any but ..
+    #[cycle(message)]
+    fn any(&mut self, within: Within<'_>, room: Room) -> Result<DataSyntax, PlanError>
+        requires { self.old.token.symbol ≡ Symbol.Keyword Keyword.Any }
+        ensures { Gives brief_bytes result (payload_at (around within.entry) room.bytes room.copies (place self.old)) (place self.new) }
+    {
+        let line = self.next(Wanted::Data).line;
+        match self.token.symbol {
+            Symbol::Keyword(Keyword::But) => self.chosen(within, room, Chooser::Excepts, line),
+            _ => {
+                let value = Value::Spelled(Pattern::new(0, 0));
+                self.byte(within, room, Found { value, line })
+            }
+        }
+    }
+
+    // 0xLO..0xHI refused? ..
+    #[cycle(message)]
+    fn span(&mut self, within: Within<'_>, room: Room) -> Result<DataSyntax, PlanError>
+        ensures { Gives brief_bytes result (choices_at (around within.entry) room.bytes room.copies (place self.old)) (place self.new) }
+    {
+        let token = self.next(Wanted::Choice);
+        let Symbol::Span { least, greatest } = token.symbol else {
+            return Err(token.unexpected());
+        };
+        let choice = Choice::Span { least, greatest };
+        self.only_choice(token.line)?;
+        self.judge(within, choice, token.line)?;
+        self.chosen(within, room, Chooser::Chooses(choice), token.line)
+    }
+
+    // A message has one choice or one range.
+    fn only_choice(&self, line: u64) -> Result<(), PlanError>
+        ensures { Passes result (only_choice line (place self.now)) (place self.now) }
+    {
+        if self.range.is_some() {
+            return Err(PlanError::Unexpected(line));
+        }
+        Ok(())
+    }
+
+    // A choice whose last token stands on this line makes a family.
+    fn judge(&mut self, within: Within<'_>, choice: Choice, line: u64) -> Result<(), PlanError>
+        ensures { Passes result (chosen (around within.entry) (choice_of choice) line (place self.old)) (place self.new) }
+    {
+        if !choice.is_some() {
+            return Err(PlanError::BadCount(line));
+        }
+        let numbers = choice.numbers(self.alloc)?;
+        within.board.range_refusal(within.name, numbers, line)?;
+        self.range = Some(numbers);
+        Ok(())
+    }
+
+    // The rest of a choice after its first token, which stands on this line: refused? ( data refused? )* frame*
+    #[cycle(message)]
+    fn chosen(
+        &mut self,
+        within: Within<'_>,
+        room: Room,
+        chooser: Chooser,
+        line: u64,
+    ) -> Result<DataSyntax, PlanError>
+        ensures { Gives brief_bytes result (chosen_after (around within.entry) room.bytes room.copies (chooser_of chooser) line
+            (place self.old)) (place self.new) }
+    {
+        let below = self.node(room, line)?;
+        let choice = self.choice(within, chooser)?;
+        let refused = self.refused(within, below, true)?;
+        let acked = self.payload(within, below)?;
+        Ok(DataSyntax::Chosen {
+            choice,
+            refused,
+            acked: Box::new(self.alloc, acked)?,
+        })
+    }
+
+    // What is chosen: it was told already, or is told by but 0xLO..0xHI | but DATA
+    fn choice(&mut self, within: Within<'_>, chooser: Chooser) -> Result<Choice, PlanError>
+        ensures { Gives choice_of result (choice_at (around within.entry) (chooser_of chooser) (place self.old)) (place self.new) }
+    {
+        let Chooser::Chooses(choice) = chooser else {
+            let but = self.but()?;
+            self.only_choice(but)?;
+            let excepted = self.excepted()?;
+            self.judge(within, excepted.value, excepted.line)?;
+            return Ok(excepted.value);
+        };
+        Ok(choice)
+    }
+
+    // but, and its line
+    fn but(&mut self) -> Result<u64, PlanError>
+        ensures { FindsOut (λ it. tt) (λ it. it) result (token_as but_in (place self.old)) (place self.new) }
+    {
+        let token = self.next(Wanted::But);
+        match token.symbol {
+            Symbol::Keyword(Keyword::But) => Ok(token.line),
+            _ => Err(token.unexpected()),
+        }
+    }
+
+    // What is not chosen.
+    fn excepted(&mut self) -> Result<Found<Choice>, PlanError>
+        ensures { FindsOut (λ it. choice_of it.value) (λ it. it.line) result (token_as excepted_in (place self.old))
+            (place self.new) }
+    {
+        let token = self.next(Wanted::Excepted);
+        let (least, greatest) = match token.symbol {
+            Symbol::Span { least, greatest } => (least, greatest),
+            Symbol::Word(word) => match known_data(word) {
+                Some(byte) => (byte, byte),
+                None => return Err(token.unexpected()),
+            },
+            _ => return Err(token.unexpected()),
+        };
+        Ok(Found {
+            value: Choice::AllBut { least, greatest },
+            line: token.line,
+        })
+    }
+
+    // The rest of a data byte after its first token: ( * NUMBER | * RANGE )? refused? ( data refused? )* frame*
+    #[cycle(message)]
+    fn byte(
+        &mut self,
+        within: Within<'_>,
+        room: Room,
+        data: Found<Value<Pattern>>,
+    ) -> Result<DataSyntax, PlanError>
+        ensures { Gives brief_bytes result (byte_after (around within.entry) room.bytes room.copies (said «data».value) «data».line
+            (place self.old)) (place self.new) }
+    {
         let first = self.node(room, data.line)?;
         let repeated = self.often(within, first)?;
         let below = first.bytes - repeated.more;

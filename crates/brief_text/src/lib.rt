@@ -12,6 +12,7 @@
 
 mod boards;
 mod briefs;
+mod choices;
 mod codes;
 mod frames;
 mod items;

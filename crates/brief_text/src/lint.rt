@@ -111,6 +111,10 @@ impl Uses {
                 self.tail(refused);
                 self.payload(acked);
             }
+            DataSyntax::Chosen { refused, acked, .. } => {
+                self.tail(refused);
+                self.payload(acked);
+            }
             DataSyntax::Made {
                 made,
                 refused,

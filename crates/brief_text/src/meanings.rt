@@ -206,6 +206,21 @@ impl Board {
                 }
                 Ok(payload)
             }
+            DataSyntax::Chosen {
+                choice,
+                refused,
+                acked,
+            } => {
+                let bits = choice.bits(self.alloc, n)?;
+                let path = path.after(&bits);
+                let acked = self.data(n, acked, path)?;
+                let refused = self.tail(n, refused, path)?;
+                Ok(Payload::Byte {
+                    bits,
+                    acked: Box::new(self.alloc, acked)?,
+                    refused,
+                })
+            }
             DataSyntax::Made {
                 made,
                 refused,

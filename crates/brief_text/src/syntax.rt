@@ -73,6 +73,13 @@ pub(crate) enum DataSyntax {
         refused: TailSyntax,
         acked: Box<DataSyntax>,
     },
+    /// A byte of several values.
+    Chosen {
+        choice: Choice,
+        /// Where the byte is not acknowledged.
+        refused: TailSyntax,
+        acked: Box<DataSyntax>,
+    },
     /// A byte that follows from others.
     Made {
         made: MadeSyntax,
@@ -82,6 +89,15 @@ pub(crate) enum DataSyntax {
     },
     /// No further byte.
     Last(TailSyntax),
+}
+
+/// What value a byte has.
+#[derive(Clone, Copy)]
+pub(crate) enum Choice {
+    /// One from the first to the second.
+    Span { least: u8, greatest: u8 },
+    /// Any but these.
+    AllBut { least: u8, greatest: u8 },
 }
 
 /// A byte that follows from others.

@@ -21,6 +21,10 @@ pub(crate) enum Wanted {
     Target,
     Count,
     Data,
+    /// The first token of a choice, its `but`, and what follows that.
+    Choice,
+    But,
+    Excepted,
     /// A byte that follows from others, and the parentheses of its address.
     Made,
     OpenAddress,
@@ -111,7 +115,13 @@ impl Trace {
             Wanted::Star | Wanted::Else => Expected::Semicolon,
             Wanted::OpenAddress => Expected::Bracket { opens: true },
             Wanted::CloseAddress => Expected::Bracket { opens: false },
-            Wanted::Data | Wanted::Made | Wanted::Close { .. } | Wanted::End => self.further(),
+            Wanted::Excepted => Expected::BriefByte,
+            Wanted::Data
+            | Wanted::Choice
+            | Wanted::But
+            | Wanted::Made
+            | Wanted::Close { .. }
+            | Wanted::End => self.further(),
         }
     }
 
@@ -120,7 +130,9 @@ impl Trace {
         let (times, refusal, bytes) = match self.before {
             Wanted::Target | Wanted::Times { .. } => (false, true, true),
             Wanted::Data => (true, true, true),
-            Wanted::Made | Wanted::CloseAddress => (false, true, true),
+            Wanted::Choice | Wanted::Excepted | Wanted::Made | Wanted::CloseAddress => {
+                (false, true, true)
+            }
             Wanted::Count => (false, true, false),
             Wanted::Refusal { bytes } | Wanted::Close { bytes } => (false, false, bytes),
             _ => return Expected::Semicolon,
