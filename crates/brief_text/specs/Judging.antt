@@ -84,15 +84,19 @@ listing_refusal draft has given name =
 abbrev pub listed_by : Draft → List ℕ → List (List ℕ)
 listed_by draft name = unwrap_or (lookup (bytes_eq name) draft.controllers) []
 
--- the `never` names the controller or a label of it
+-- a label of the controller has been named
+abbrev pub is_labelled : Draft → List ℕ → Bool
+is_labelled draft name = list_any (λ (label : Side). bytes_eq label.controller name) draft.labels
+
+-- the `never` names the controller
 abbrev pub is_side_of : List ℕ → Side × Side → Bool
 is_side_of name never = bytes_eq never.0.controller name || bytes_eq never.1.controller name
 
--- what adds to a controller: it stands before, and no `never` names it
+-- what adds to a controller: it stands before, and no `never` has named it or a label of it
 unfoldable pub extend_refusal_of : Draft → List ℕ → Option BuildError
 extend_refusal_of draft name =
     if not (is_some (lookup (bytes_eq name) draft.controllers)) then Some Unknown
-    else if list_any (is_side_of name) draft.nevers then Some Twice
+    else if is_labelled draft name || list_any (is_side_of name) draft.nevers then Some Twice
     else None
 
 -- ---- `never`

@@ -1,6 +1,6 @@
 // What the items of briefs make up so far: names are looked up in it, and what stands next is judged by it.
 
-ghost use Rattle.std.specs.Prelude.{◌≡◌, ◌<◌, ◌≤◌, ◌++◌, ◌∷◌, [], length, map, not, sum_by, is_some, IfOk, OnOk, None};
+ghost use Rattle.std.specs.Prelude.{◌≡◌, ◌||◌, ◌<◌, ◌≤◌, ◌++◌, ◌∷◌, [], length, map, not, sum_by, is_some, IfOk, OnOk, None};
 ghost use Rattle.std.specs.List.{list_any, prefix_len};
 ghost use Rattle.std.specs.Option.{option_map};
 ghost use Rattle.plan_text.specs.Places.{Passes};
@@ -15,7 +15,7 @@ ghost use Rattle.brief_text.specs.Drafts.{no_items, address_said, bits_said, sta
 ghost use Rattle.brief_text.specs.Splitting.{side_name};
 ghost use Rattle.brief_text.specs.Meanings.{is_twice};
 ghost use Rattle.brief_text.specs.Judging.{is_family, is_message, message_refusal_of, named_refusal, taken_names, is_taken};
-ghost use Rattle.brief_text.specs.Judging.{controller_refusal_of, extend_refusal_of, is_side_of, listed_by, listing_refusal, is_side};
+ghost use Rattle.brief_text.specs.Judging.{controller_refusal_of, extend_refusal_of, is_labelled, is_side_of, listed_by, listing_refusal, have_one_of, is_side};
 ghost use Rattle.brief_text.specs.Judging.{part_refusal, first_refusal, second_refusal, range_refusal, are_sides};
 
 use crate::lint::Uses;
@@ -297,7 +297,7 @@ impl Board {
     {
         if !self.is_message(name) {
             Some(BuildError::Unknown)
-        } else if have_one_of(has, further) || have_one_of(given, further) {
+        } else if either_has_one_of(has, given, further) {
             Some(BuildError::Twice)
         } else if self.sendings + given.len() + further.len() > MOST_SENDINGS as usize {
             Some(BuildError::TooMany)
@@ -346,8 +346,16 @@ impl Board {
         }
     }
 
-    // Whether a `never` names this controller or a label of it.
+    // Whether a label of this controller has been named, or a `never` names it.
     fn is_kept_apart(&self, name: &Name) -> bool
+        ensures { result ≡ (is_labelled (draft self.now) (name_bytes name.now) ||
+            list_any (is_side_of (name_bytes name.now)) (draft self.now).nevers) }
+    {
+        self.is_split(name) || self.has_never_of(name)
+    }
+
+    // Whether a `never` names this controller.
+    fn has_never_of(&self, name: &Name) -> bool
         ensures { result ≡ list_any (λ it. is_side_of (name_bytes name.now) (sides it)) self.now.nevers.items }
     {
         self.nevers.iter().any(|never| never.is_side_of(name))
@@ -519,6 +527,14 @@ impl Board {
     }
 }
 
+// Whether one of these names is listed in the first list or in the second.
+fn either_has_one_of(listed: &[Name], others: &[Name], names: &[Name]) -> bool
+    ensures { result ≡ (have_one_of (map name_bytes listed.now) (map name_bytes names.now) ||
+        have_one_of (map name_bytes others.now) (map name_bytes names.now)) }
+{
+    have_one_of(listed, names) || have_one_of(others, names)
+}
+
 // Whether one of these names is listed.
 pub(crate) fn have_one_of(listed: &[Name], names: &[Name]) -> bool
     ensures { result ≡
@@ -530,7 +546,7 @@ pub(crate) fn have_one_of(listed: &[Name], names: &[Name]) -> bool
 impl Never {
     ghost use Rattle.brief_text.specs.Standing.{side, sides};
 
-    // Whether it names this controller or a label of it.
+    // Whether it names this controller.
     fn is_side_of(&self, controller: &Name) -> bool
         ensures { result ≡ is_side_of (name_bytes controller.now) (sides self.now) }
     {

@@ -29,12 +29,19 @@ struct Known<'a> {
     at: NameAt,
     // that of the message, which is empty where it is no family
     range: &'a [u8],
+    // whether its item adds to a controller
+    adds: bool,
 }
 
 impl Known<'_> {
     // Whether an item gives this name to one of this kind.
     fn gives(self, kind: Kind) -> bool {
-        self.at.gives(kind)
+        self.at.gives(kind) && !self.adds
+    }
+
+    // Whether messages are listed after it, which is the name of a controller.
+    fn begins_list(self) -> bool {
+        self.at.gives(Kind::Controller)
     }
 
     // Whether a controller lists it.
@@ -124,8 +131,20 @@ fn push_known<'a>(
                 name: texts.word(at),
                 at,
                 range: texts.range(at),
+                adds: adds(texts, at),
             },
         )?),
+    }
+}
+
+// Whether the item in which a name stands adds to a controller.
+fn adds(texts: &NamedTexts<'_>, at: NameAt) -> bool {
+    match texts.item(at) {
+        Some(item) => item
+            .span
+            .of(texts.text(item.span.file))
+            .starts_with(b"extend"),
+        None => false,
     }
 }
 
@@ -164,6 +183,8 @@ enum Stands {
     Never(Option<Stand>),
     // a controller with the name of the part that a label makes
     Part(Option<Stand>),
+    // a `never` that names the controller to which an item adds
+    Apart(Option<Stand>),
 }
 
 impl Stands {
@@ -173,7 +194,8 @@ impl Stands {
             | Stands::Listed(stand)
             | Stands::Member(stand)
             | Stands::Never(stand)
-            | Stands::Part(stand) => stand,
+            | Stands::Part(stand)
+            | Stands::Apart(stand) => stand,
             Stands::Side => None,
         }
     }
@@ -214,6 +236,9 @@ fn stands_among(known: &[Known<'_>], refused: &RefusedIn<'_>) -> Stands {
         ),
         Some(Expected::Sending) => Stands::Listed(stand_in_list(known, word)),
         Some(Expected::Times { .. }) => Stands::Member(stand_of_member(known, word)),
+        Some(Expected::Controller) if first_side(known).is_none() => {
+            Stands::Apart(stand_of_side(known, word))
+        }
         _ => side_among(known, word),
     }
 }
@@ -236,6 +261,9 @@ fn push_stands(alloc: Global, lines: &mut Lines, refused: &RefusedIn<'_>, stands
         Stands::Part(_) => lines.part(
             "a label makes a controller, with '_' in place of '/': an earlier one has this name",
         ),
+        Stands::Apart(_) => {
+            lines.part("what adds to a controller stands before each 'never' that names it")
+        }
     }
     if let Some(stand) = stands.stand() {
         push_place(alloc, lines, refused, stand);
@@ -267,11 +295,25 @@ fn push_place(alloc: Global, lines: &mut Lines, refused: &RefusedIn<'_>, stand: 
     }
 }
 
-// Where the last item, a controller, lists this.
+// Where the controller of the last item lists this, in that item or in one before it.
 fn stand_in_list(known: &[Known<'_>], word: &[u8]) -> Option<Stand> {
-    let last = known.last()?;
+    let last = known.iter().rev().find(|one| one.begins_list())?.name;
+    let mut controller: &[u8] = &[];
     for one in known {
-        if one.at.item == last.at.item && one.is_listed() && one.name == word {
+        if one.begins_list() {
+            controller = one.name;
+        }
+        if controller == last && one.is_listed() && one.name == word {
+            return Some(one.stand());
+        }
+    }
+    None
+}
+
+// A `never` that names this controller, or a label of it.
+fn stand_of_side(known: &[Known<'_>], controller: &[u8]) -> Option<Stand> {
+    for one in known {
+        if one.is_side() && controller_of(one.name) == controller {
             return Some(one.stand());
         }
     }
@@ -409,7 +451,7 @@ fn push_absent(alloc: Global, lines: &mut Lines, refused: &RefusedIn<'_>, known:
 
 // Says which word of the language is meant, where it may be that no byte is.
 fn push_keyword(alloc: Global, lines: &mut Lines, expected: Expected, word: &[u8]) {
-    match words_of(alloc, expected) {
+    match words_of(alloc, expected, false) {
         Ok(words) => {
             let word = str::from_utf8(word).unwrap_or("");
             let _ = push_meant(alloc, lines, words.as_slice(), word);
@@ -529,7 +571,7 @@ fn push_all(
     let mut nearest = Nearest::new(alloc, word);
     let mut controller: &[u8] = &[];
     for one in known {
-        if one.gives(Kind::Controller) {
+        if one.begins_list() {
             controller = one.name;
         }
         let is_shown = match listed {

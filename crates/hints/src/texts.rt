@@ -55,6 +55,14 @@ impl<'a> RefusedIn<'a> {
         self.part(0, self.place.start)
     }
 
+    /// Whether it is a brief of the second version.
+    pub(crate) fn is_second(&self) -> bool {
+        match self.spans.head(self.number()) {
+            Some(head) => self.language == Language::Brief && head.version == 2,
+            None => false,
+        }
+    }
+
     /// Whether this stands right after it.
     pub(crate) fn is_before(&self, sign: u8) -> bool {
         self.text.get(self.place.end).copied() == Some(sign)
@@ -253,7 +261,7 @@ fn fault_of(refused: &RefusedIn<'_>) -> Fault {
 
 // The place after the token before, where `;` could stand and the refused token begins an item, or the text ends.
 fn missing_semicolon(refused: &RefusedIn<'_>) -> Option<Span> {
-    if !takes_semicolon(refused.place.expected?) || !ends_item(refused.language, refused.token()) {
+    if !takes_semicolon(refused.place.expected?) || !ends_item(refused) {
         return None;
     }
     let Place {
@@ -301,10 +309,11 @@ fn takes_semicolon(expected: Expected) -> bool {
     )
 }
 
-fn ends_item(language: Language, token: &[u8]) -> bool {
-    match token {
+fn ends_item(refused: &RefusedIn<'_>) -> bool {
+    match refused.token() {
         b"message" | b"controller" | b"interrupt" | b"never" => true,
-        b"device" | b"byte" => matches!(language, Language::Brief),
+        b"device" | b"byte" => matches!(refused.language, Language::Brief),
+        b"extend" => refused.is_second(),
         b"" => true,
         _ => false,
     }
@@ -376,11 +385,11 @@ fn push_fault(alloc: Global, lines: &mut Lines, refused: &RefusedIn<'_>, fault: 
         (Fault::NoSemicolon(span), _) => push_semicolon(lines, refused, span),
         (Fault::Range(_), _) => {
             lines.say(RANGES);
-            push_all(alloc, lines, Expected::Count { ranges: false });
+            push_all(alloc, lines, refused, Expected::Count { ranges: false });
         }
         (_, Some(Expected::Version)) => push_version(lines, refused),
         (Fault::Token(_), Some(expected)) => push_token(alloc, lines, refused, expected),
-        (Fault::End(_), Some(expected)) => push_all(alloc, lines, expected),
+        (Fault::End(_), Some(expected)) => push_all(alloc, lines, refused, expected),
         (_, None) => {}
     }
 }
@@ -409,7 +418,7 @@ fn last_word(bytes: &[u8]) -> &str {
 }
 
 fn push_token(alloc: Global, lines: &mut Lines, refused: &RefusedIn<'_>, expected: Expected) {
-    match words_of(alloc, expected) {
+    match words_of(alloc, expected, refused.is_second()) {
         Ok(words) => {
             let words = words.as_slice();
             let word = str::from_utf8(refused.token()).unwrap_or("");
@@ -423,8 +432,8 @@ fn push_token(alloc: Global, lines: &mut Lines, refused: &RefusedIn<'_>, expecte
     }
 }
 
-fn push_all(alloc: Global, lines: &mut Lines, expected: Expected) {
-    match words_of(alloc, expected) {
+fn push_all(alloc: Global, lines: &mut Lines, refused: &RefusedIn<'_>, expected: Expected) {
+    match words_of(alloc, expected, refused.is_second()) {
         Ok(words) => push_expected(lines, words.as_slice()),
         Err(_) => lines.fail(),
     }

@@ -4,7 +4,7 @@ use Rattle.brief_text.specs.declared.syntax.Lengths.{Lengths}
 use Rattle.brief_text.specs.Drafts.{Draft}
 use Rattle.brief_text.specs.Fitting.{Says}
 use Rattle.brief_text.specs.Grammar.{Phrase, one, SpellsName, SpellsAs, SpellsTo, SpellsData, SpellsMade, SpellsOften, SpellsFrame, SpellsBytes, SpellsNext, SpellsRefused, SpellsNames, SpellsItem, SpellsItems, Spells}
-use Rattle.brief_text.specs.Trees.{Said, spelled, named, Times, times, ranged, BriefFrame, write_to, read_from, BriefBytes, data_byte, made_byte, no_more, Made, header, packet_code, checksum, BriefTail, stop_here, go_on, BriefItem, device, byte, message, controller, interrupt, never_both}
+use Rattle.brief_text.specs.Trees.{Said, spelled, named, Times, times, ranged, BriefFrame, write_to, read_from, BriefBytes, data_byte, made_byte, no_more, Made, header, packet_code, checksum, BriefTail, stop_here, go_on, BriefItem, device, byte, message, controller, extend, interrupt, never_both}
 use Rattle.brief_text.specs.Words.{address_by, data_by, repetition_by, so_often, from_to, side_by}
 use Rattle.brief_tokens.specs.Tokens.{Token, Tokens, next, last}
 use Rattle.layout.specs.SameWords.{SameWords}
@@ -85,6 +85,7 @@ module _ (letters : Letters) where
   item_respects (byte name bits) = token _ >> name_respects name >> as_respects data_by bits >> token _
   item_respects (message name range frame) = token _ >> name_respects name >> frame_respects range frame >> token _
   item_respects (controller name messages) = token _ >> name_respects name >> names_respect messages >> token _
+  item_respects (extend name messages) = token _ >> name_respects name >> names_respect messages >> token _
   item_respects (interrupt name to) = token _ >> name_respects name >> to_respects to >> token _
   item_respects (never_both first second) = token _ >> as_respects (side_by letters) first >> as_respects (side_by letters) second >> token _
 
