@@ -31,9 +31,21 @@ const BYTES: [&str; 16] = [
     "0x01",
 ];
 
-// A range, and the number of one of its messages.
-const NUMBERS: [(&str, &str); 7] =
-    [("any*0..2", "0"), ("0x01*2..3", "3"), ("p * 0..1", "1"), ("q*007..8", "7"), ("", ""), ("", ""), ("", "")];
+// A range or a choice, and the number of one of its messages.
+const NUMBERS: [(&str, &str); 12] = [
+    ("any*0..2", "0"),
+    ("0x01*2..3", "3"),
+    ("p * 0..1", "1"),
+    ("q*007..8", "7"),
+    ("0x02..0xFF", "7"),
+    ("any but 0x01", "1"),
+    ("any but 0x10..0x7f", "2"),
+    ("0x5A..0x5a", "1"),
+    ("0x03..0x08", "3"),
+    ("", ""),
+    ("", ""),
+    ("", ""),
+];
 
 // What begins the items that a brief of the first version may have as well.
 const OF_FIRST: [&str; 3] = ["controller", "interrupt", "never"];

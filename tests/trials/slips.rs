@@ -5,7 +5,7 @@ pub const PRELUDE: &str = "device a 0x21 ; device b 0x23 ; device e 0b01x0110 ; 
     message k read 0x20 1 ; message l write 0x2X any*1..2 ; controller u k l ; controller v ;";
 
 /// The code of each, and the item, which ends with the token that is refused or soon after it.
-pub const SLIPS: [(&str, &str); 63] = [
+pub const SLIPS: [(&str, &str); 85] = [
     ("P1", "\u{b0}"),
     ("P1", "message n write 0x20 \u{b0}"),
     ("P3", "@"),
@@ -28,7 +28,6 @@ pub const SLIPS: [(&str, &str); 63] = [
     ("P3", "controller but ;"),
     ("P3", "message n write group ;"),
     ("P3", "message n write 0x20 with ;"),
-    ("P3", "message n write 0x20 any but 0x01 ;"),
     ("P3", "controller n extend ;"),
     ("P3", "never u/group v ;"),
     // what adds to a controller
@@ -39,6 +38,31 @@ pub const SLIPS: [(&str, &str); 63] = [
     ("P8", "extend v none ;"),
     ("P7", "extend u k ;"),
     ("P7", "never v u ; extend u ;"),
+    // choices
+    ("P3", "message n write 0x20 0x1..0x02 ;"),
+    ("P3", "message n write 0x20 0x01..0x0X ;"),
+    ("P3", "message n write 0x20 0X01..0x02 ;"),
+    ("P3", "message n write 0x20 0x01...0x02 ;"),
+    ("P3", "message n write 0x01..0x02 ;"),
+    ("P3", "byte n 0x01..0x02 ;"),
+    ("P3", "message n write 0x20 any*0x01..0x02 ;"),
+    ("P3", "message n write 0x20 0x01..0x02*2 ;"),
+    ("P3", "message n write 0x20 any but 0x01*1..2 ;"),
+    ("P3", "message n write 0x20 0b00000000 but 0x01 ;"),
+    ("P3", "message n write 0x20 any*2 but 0x01 ;"),
+    ("P3", "message n write 0x20 any but 0x0X ;"),
+    ("P3", "message n write 0x20 any but p ;"),
+    ("P3", "message n write 0x20 any but any ;"),
+    ("P3", "message n write 0x20 any but ;"),
+    ("P3", "message n write 0x20 0x01..0x02 0x02..0x01 ;"),
+    ("P3", "message n write 0x20 any but 0x01 any but 0x0X ;"),
+    ("P3", "message n write 0x20 any*1..2 any but none ;"),
+    ("P3", "message n write 0x20 0x01..0x02 any*2..1 ;"),
+    ("P4", "message n write 0x20 0x02..0x01 ;"),
+    ("P4", "message n write 0x20 any but 0x02..0x01 ;"),
+    ("P4", "message n write 0x20 any but 0x00..0xFF ;"),
+    ("P5", "message n write 0x20 any*255 any but none ;"),
+    ("P5", "message n write 0x20 any*255 0x01..0x02 ;"),
     // those of bytes that follow from others
     ("P3", "pec ;"),
     ("P3", "brief 2"),
@@ -67,7 +91,6 @@ pub const SLIPS: [(&str, &str); 63] = [
     ("P3", "message n write 0x20 pec*2 ;"),
     ("P3", "message n write 0x20 sum*1..2 ;"),
     ("P3", "message n write 0x20 wr(0x10)*2 ;"),
-    ("P3", "message n write 0x20 0x01..0x02 ;"),
     ("P5", "message n write 0x20 any*255 wr(none) ;"),
     ("P5", "message n write 0x20 any*255 rd 0x10 ;"),
     ("P5", "message n write 0x20 any*255 pec ;"),

@@ -152,6 +152,58 @@ fn texts_of_both_versions_make_up_a_board() {
     }
 }
 
+// The rows of PLANS.md with choices and their blocks.
+#[test]
+fn choices_are_cut_into_blocks() {
+    let seven = "0000001x 000001xx 00001xxx 0001xxxx 001xxxxx 01xxxxxx 1xxxxxxx";
+    let rows = [
+        ("0x02..0xFF", seven.to_owned()),
+        ("any but 0x01", format!("00000000 {seven}")),
+        ("any but 0b00000001", format!("00000000 {seven}")),
+        ("any but 0x00..0x01", seven.to_owned()),
+        ("0x00..0xff", "xxxxxxxx".to_owned()),
+        ("0x10..0x1F", "0001xxxx".to_owned()),
+        ("0x5a..0x5A", "01011010".to_owned()),
+        ("0x03..0x08", "00000011 000001xx 00001000".to_owned()),
+        (
+            "0x01..0xFE",
+            "00000001 0000001x 000001xx 00001xxx 0001xxxx 001xxxxx 01xxxxxx 10xxxxxx 110xxxxx 1110xxxx 11110xxx 111110xx \
+             1111110x 11111110"
+                .to_owned(),
+        ),
+        ("any but 0x55", "00xxxxxx 0100xxxx 010100xx 01010100 0101011x 01011xxx 011xxxxx 1xxxxxxx".to_owned()),
+        (
+            "any but 0x7F..0x80",
+            "00xxxxxx 010xxxxx 0110xxxx 01110xxx 011110xx 0111110x 01111110 10000001 1000001x 100001xx 10001xxx 1001xxxx \
+             101xxxxx 11xxxxxx"
+                .to_owned(),
+        ),
+        ("any but 0x00", "00000001 ".to_owned() + seven),
+        ("any but 0x80..0xFF", "0xxxxxxx".to_owned()),
+    ];
+    for (choice, wanted) in rows {
+        let plan = expanded(&format!("brief 2 message m write 0x20 {choice} ;")).expect(choice);
+        let messages: Vec<Vec<&str>> = plan.lines().skip(1).map(|line| line.split(' ').collect()).collect();
+        let blocks: Vec<&str> = messages.iter().map(|words| words[4]).collect();
+        assert_eq!(blocks.join(" "), wanted, "{choice}");
+        let names: Vec<String> = messages.iter().map(|words| words[1].to_owned()).collect();
+        assert_eq!(names, (1..=blocks.len()).map(|k| format!("m_{k}")).collect::<Vec<_>>(), "{choice}");
+    }
+}
+
+#[test]
+fn bytes_after_a_choice_follow_from_its_block() {
+    let rows = [
+        ("m write 0x20 0x01..0x03 sum", "01 BF 0000001x any"),
+        ("m write 0x50 0x01..0x01 pec", "01 1F"),
+        ("m write 0x20 0x01*2 else (write 0x20 0x04..0x06)", "01 01 0000010x 0000010x 01 01 06 06"),
+        ("m write 0x20 0x00..0x00 else (write 0x50 sum) 0x01", "00 01 20"),
+    ];
+    for (item, wanted) in rows {
+        assert_eq!(bytes(item).join(" "), wanted, "{item}");
+    }
+}
+
 #[test]
 fn extensions_add_to_controllers() {
     let board = "device a 0x21 ; message k write a ; message l write a any*1..2 ; message m read a 1 ; \
