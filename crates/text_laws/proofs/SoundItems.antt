@@ -22,13 +22,13 @@ use Rattle.plan_core.proofs.BuildingLemmas.{passes, same-bytes_eq, limits-interr
 use Rattle.brief_text.specs.declared.syntax.Lengths.{Lengths}
 use Rattle.brief_text.specs.Drafts.{Draft, members_or, stands_for, extended, address_said, number_said, same_label, same_side, is_new_label, with_label, with_item, no_items}
 use Rattle.brief_text.specs.Fitting.{ListFits, Fits, MakeUp, frame_ranges, bytes_ranges, tail_ranges, often_ranges}
-use Rattle.brief_text.specs.Judging.{is_family, is_message, taken_names, is_taken, controller_refusal_of, extend_refusal_of, is_labelled, listed_by, all_of, have_one_of, sendings, listing_refusal, is_side, part_refusal, first_refusal, second_refusal}
+use Rattle.brief_text.specs.Judging.{is_family, is_message, taken_names, is_taken, controller_refusal_of, extend_refusal_of, is_labelled, is_side_of, listed_by, all_of, have_one_of, sendings, listing_refusal, is_side, part_refusal, first_refusal, second_refusal}
 use Rattle.brief_text.specs.Splitting.{side_name, labels_of, parts_of, parts}
 use Rattle.brief_text.specs.Trees.{Side, device, byte, controller, extend, interrupt, never_both, Said, Times, BriefFrame, write_to, read_from, BriefBytes, data_byte, made_byte, no_more, BriefTail, stop_here, go_on, BriefItem, message}
 use Rattle.brief_text.specs.Words.{known_number, is_range, is_further_word, is_brief_name, is_no_slash, halves_at, around_slash, whole_side, label_side, side_from, side_by}
 use Rattle.text_laws.proofs.EntryNames.{has_name_in, keys_both, in_keys_left, in_keys_either, lookup_in}
 use Rattle.text_laws.proofs.Membership.{In, Distinct, in_left, in_right, in_either, in_last, distinct_both, distinct_push, in_map, any_in, in_any, is_false, not_both, true_or_false, or_either, or_neither, in_among, holds, holds_in, in_holds}
-use Rattle.text_laws.proofs.Extensions.{extended_keys, extended_in, extended_sum, extended_parts, none_where, one_part_of}
+use Rattle.text_laws.proofs.Extensions.{extended_keys, extended_in, extended_sum, extended_parts, same_parts_of, none_where, one_part_of}
 use Rattle.text_laws.proofs.SoundDrafts.{Listings, family_of, ListSound, LabelSound, SideSound, Sound}
 use Rattle.text_laws.proofs.PartLemmas.{one_side}
 use Rattle.plan_core.proofs.ContentsLemmas.{empty_within}
@@ -223,53 +223,63 @@ module _ (draft : Draft) (sound : Sound draft) where
   -- ---- what adds to a controller
 
   module _ (name : List ℕ) (messages : List (List ℕ)) (fits : Fits draft (extend name messages)) where
-    abbrev further : List (List ℕ)
-    further = flat_map (stands_for draft) messages
+    abbrev added : List (List ℕ)
+    added = flat_map (stands_for draft) messages
 
-    abbrev has : List (List ℕ)
-    has = listed_by draft name
+    abbrev already : List (List ℕ)
+    already = listed_by draft name
 
     abbrev longer : Listings
-    longer = extended name further draft.controllers
+    longer = extended name added draft.controllers
 
-    stands : (is_some (lookup (bytes_eq name) draft.controllers) ≡ true) × (is_labelled draft name ≡ false)
+    may_extend : (is_some (lookup (bytes_eq name) draft.controllers) ≡ true) × (is_labelled draft name ≡ false)
     unfolding extend_refusal_of
-    stands = grind (arith, common_steps, passes, or_neither)
+    may_extend =
+        let first = passes (not (is_some (lookup (bytes_eq name) draft.controllers))) Unknown _ fits.0 in
+        let second = passes (is_labelled draft name || list_any (is_side_of name) draft.nevers) Twice None first.1 in
+        let neither = or_neither (is_labelled draft name) (list_any (is_side_of name) draft.nevers) second.0 in
+        (by (is_some (lookup (bytes_eq name) draft.controllers)) first.0, neither.0)
+      where
+        by : (b : Bool) → not b ≡ false → b ≡ true
+        by true e = refl
+        by false e = absurd (true≢false e)
 
-    it_is : lookup (bytes_eq name) draft.controllers ≡ Some has
-    it_is = by (lookup (bytes_eq name) draft.controllers) stands.0
+    stood : lookup (bytes_eq name) draft.controllers ≡ Some already
+    stood = by (lookup (bytes_eq name) draft.controllers) may_extend.0
       where
         by : (o : Option (List (List ℕ))) → is_some o ≡ true → o ≡ Some (unwrap_or o [])
         by (Some x) e = refl
         by None e = absurd (true≢false (sym e))
 
-    held : ListSound draft.plan.messages has
-    held = sound.controllers.listed (name, has) (lookup_in name draft.controllers has it_is)
+    sound_already : ListSound draft.plan.messages already
+    sound_already = sound.controllers.listed (name, already) (lookup_in name draft.controllers already stood)
 
-    more : Listing has further
-    more = listed_on has [] messages fits.1 (record { whole = subst (ListSound draft.plan.messages) (sym (append-nil has)) held; room = (let few = sound.controllers.few in omega (arith, few)) })
+    all_added : Listing already added
+    all_added = listed_on already [] messages fits.1 (record { whole = subst (ListSound draft.plan.messages) (sym (append-nil already)) sound_already; room = omega (arith, sound.controllers.few) })
 
-    keys_kept : (n : List ℕ) → In n (keys_of draft.controllers) → In n (keys_of longer)
-    keys_kept n h = subst (λ (keys : List (List ℕ)). In n keys) (sym (extended_keys name further draft.controllers)) h
+    longer_kept : (n : List ℕ) → In n (keys_of draft.controllers) → In n (keys_of longer)
+    longer_kept n h = subst (λ (keys : List (List ℕ)). In n keys) (sym (extended_keys name added draft.controllers)) h
 
-    keys_back : (n : List ℕ) → In n (keys_of longer) → In n (keys_of draft.controllers)
-    keys_back n h = subst (λ (keys : List (List ℕ)). In n keys) (extended_keys name further draft.controllers) h
+    longer_back : (n : List ℕ) → In n (keys_of longer) → In n (keys_of draft.controllers)
+    longer_back n h = subst (λ (keys : List (List ℕ)). In n keys) (extended_keys name added draft.controllers) h
 
     same_parts : length (parts (record draft { controllers = longer })) ≡ length (parts draft)
     unfolding parts
-    same_parts = extended_parts name further (parts_of draft) (λ listed. one_part_of draft name listed (none_where (λ (label : Side). bytes_eq label.controller name) draft.labels stands.1)) draft.controllers
+    same_parts =
+        extended_parts (parts_of (record draft { controllers = longer })) (parts_of draft) (same_parts_of draft longer) name added
+        (λ listed. one_part_of draft name listed (none_where (λ (label : Side). bytes_eq label.controller name) draft.labels may_extend.1)) draft.controllers
 
-    pub sound_longer : Sound (record draft { controllers = longer })
+    sound_longer : Sound (record draft { controllers = longer })
     sound_longer = record {
       limits = sound.limits;
       no_controllers = sound.no_controllers;
       no_nevers = sound.no_nevers;
       families = sound.families;
       controllers = record {
-        keys = subst Distinct (sym (extended_keys name further draft.controllers)) sound.controllers.keys;
-        named = λ n h. sound.controllers.named n (keys_back n h);
-        listed = λ c h. elim (extended_in name further has c draft.controllers it_is h) [ inl a ↦ sound.controllers.listed c a | inr e ↦ subst (ListSound draft.plan.messages) (sym e) more.whole ];
-        few = let sums = extended_sum name further has draft.controllers it_is in let room = more.room in omega (arith, sums, room);
+        keys = subst Distinct (sym (extended_keys name added draft.controllers)) sound.controllers.keys;
+        named = λ n h. sound.controllers.named n (longer_back n h);
+        listed = λ c h. elim (extended_in name added already c draft.controllers stood h) [ inl a ↦ sound.controllers.listed c a | inr e ↦ subst (ListSound draft.plan.messages) (sym e) all_added.whole ];
+        few = let sums = extended_sum name added already draft.controllers stood in omega (arith, sums, all_added.room);
       };
       labels = record {
         once = sound.labels.once;
@@ -278,12 +288,12 @@ module _ (draft : Draft) (sound : Sound draft) where
           label = l.label;
           is = l.is;
           known = l.known;
-          owned = keys_kept s.controller l.owned;
-          new = λ g. l.new (keys_back (side_name s) g);
+          owned = longer_kept s.controller l.owned;
+          new = λ g. l.new (longer_back (side_name s) g);
         };
       };
-      few_parts = let same = same_parts in let few = sound.few_parts in omega (arith, same, few);
-      nevers = λ n h. let two = sound.nevers n h in ((keys_kept n.0.controller two.0.0, two.0.1), (keys_kept n.1.controller two.1.0, two.1.1));
+      few_parts = omega (arith, same_parts, sound.few_parts);
+      nevers = λ n h. let two = sound.nevers n h in ((longer_kept n.0.controller two.0.0, two.0.1), (longer_kept n.1.controller two.1.0, two.1.1));
     }
 
   pub sound_extension : (name : List ℕ) (messages : List (List ℕ)) → Fits draft (extend name messages) → Sound (with_item draft (extend name messages))
