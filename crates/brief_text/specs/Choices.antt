@@ -1,7 +1,8 @@
 -- The values that a byte may have where it is a choice, and the blocks that they are cut into. A block is 2^k values from a multiple
 -- of 2^k on: in a plan the last k bits are open. `laws::choices_are_cut_into_the_fewest_blocks` says what is found so.
-use Rattle.std.specs.Prelude.{◌≡◌, ℕ, zero, suc, ◌+◌, ◌*◌, ◌-◌, ◌^◌, ◌≤◌, Bool, true, ◌&&◌, ◌||◌, not, ◌==◌, nat_le, nat_lt, List, [], ◌∷◌, ◌++◌, map, length, is_some, if◌then◌else◌}
-use Rattle.std.specs.Prelude.{slice_get, Option, unwrap_or}
+use Rattle.std.specs.Prelude.{◌≡◌, ℕ, zero, suc, ◌+◌, ◌-◌, ◌^◌, ◌≤◌, Bool, ◌&&◌, ◌||◌, not, ◌==◌, nat_le, nat_lt, List, [], ◌∷◌, ◌++◌, length, if◌then◌else◌}
+use Rattle.std.specs.Prelude.{slice_get, Option, unwrap_or, All, ◌<◌, ◌%◌}
+use Rattle.std.specs.List.{list_any}
 use Rattle.std.specs.Option.{option_map}
 use Rattle.message_tree.specs.Bits.{bits_below}
 use Rattle.message_tree.specs.declared.bits.Pattern.{Pattern}
@@ -51,3 +52,23 @@ numbers choice = record { least = 1; greatest = length (blocks choice) }
 abbrev pub is_choice : Choice → Bool
 is_choice (span least greatest) = nat_le least greatest
 is_choice (all_but least greatest) = nat_le least greatest && not (least == 0 && greatest == 255)
+
+-- ---- what blocks are
+
+-- the value is in the block
+abbrev pub holds : ℕ → Block → Bool
+holds value block = nat_le block.first value && nat_lt value (block.first + 2 ^ block.power)
+
+-- it begins at a multiple of its size, and has values of a byte
+abbrev pub IsBlock : Block → Type 0
+IsBlock block = (block.first % 2 ^ block.power ≡ 0) × (block.first + 2 ^ block.power ≤ 256)
+
+-- these blocks have the values of the choice, and no others
+abbrev pub Cuts : Choice → List Block → Type 0
+Cuts choice cut = All IsBlock cut × ((value : ℕ) → value < 256 → list_any (holds value) cut ≡ allows choice value)
+
+-- each begins behind the one before it
+abbrev pub AreAscending : List Block → Type 0
+AreAscending [] = Unit {0}
+AreAscending (block ∷ []) = Unit {0}
+AreAscending (block ∷ next ∷ rest) = (block.first < next.first) × AreAscending (next ∷ rest)
