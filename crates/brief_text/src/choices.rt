@@ -2,7 +2,6 @@
 
 ghost use Rattle.std.specs.Prelude.{◌≡◌, ◌≤◌, ◌<◌, ◌^◌, ◌++◌, ◌+◌, map, length, true, is_some, IfOk, IfSome, OnOk};
 ghost use Rattle.brief_text.specs.Choices.{is_choice, allows_all, blocks, blocks_in, block_bits, chosen_bits, numbers};
-ghost use Rattle.brief_text.specs.Standing.{choice_of, block_of};
 
 use crate::syntax::{Choice, Lengths};
 use message_tree::Pattern;
@@ -18,6 +17,8 @@ struct Block {
 }
 
 impl Choice {
+    ghost use Rattle.brief_text.specs.Standing.{choice_of, block_of};
+
     /// Whether some value is chosen, and the first one of a span is not above the last.
     pub(crate) fn is_some(self) -> bool
         ensures { result ≡ is_choice (choice_of self) }
@@ -97,6 +98,8 @@ impl Choice {
 }
 
 impl Block {
+    ghost use Rattle.brief_text.specs.Standing.{block_of};
+
     // Its last bits are open.
     fn bits(self) -> Pattern
         ensures { result ≡ block_bits (block_of self) }
