@@ -2,6 +2,7 @@
 -- are told to be in no message.
 use Rattle.std.specs.Prelude.{◌≡◌, ℕ, ◌+◌, ◌-◌, ◌^◌, min, Bool, true, false, List, [], ◌∷◌, ◌++◌, Option, Some, None, All, map, sum_by, slice_get, string_bytes, Vec}
 use Rattle.std.specs.Borrow.{Bor}
+use Rattle.std.specs.declared.alloc.Global.{Global}
 use Rattle.brief_text.specs.Briefs.{Means, AllMean}
 use Rattle.plan_core.specs.Contents.{Contents}
 use Rattle.run_parts.specs.declared.runs.Status.TheVariants.{Good}
