@@ -174,8 +174,7 @@ hint: line 2 of the brief "second.brief":
 hint:   message m write eeprm ;
 hint:                   ^^^^^
 hint: no device before this place has this name; the nearest names of devices:
-hint:   eeprom
-hint:   sensor'
+hint:   eeprom'
 compare "hints on a refusal in the second file"
 # They know what the files before have, also where these are a pipe.
 lines h3.brief "brief 1" "controller host get ;" "never bmc/sett host ;"
@@ -463,6 +462,64 @@ lines ten.brief "brief 1" "device low 0x78 ;  device high 0x7B ;  device open 0b
     "controller x m n ;  controller y o p ;"
 want 0 "safe: 4 pairs" "hint: ten.brief:2: the address of device 'next' is reserved (UM10204, 3.1.12)"
 run "addresses of ten bits" check ten.brief --hints always
+# Bytes of addresses, headers alone and nevers, by the rules of PLANS.
+lines odd.brief "brief 2" \
+    "device bmc 0x10 ; device blade 0x41 ; device fan 0x50 ; device low 0x02 ; device wide 0b00101xx ;" \
+    "message ask write blade 0x18 sum 0x20 any sum ;" "message told write 0x08 0xA0 0x20 any ;" \
+    "message back write fan 0x01 rd(bmc) 0x20 ;" "message same write fan 0x02 0x21 0x20 ;" \
+    "message late write fan 0x03 else (write blade 0x18 sum 0x20) 0b00100001 ;" \
+    "message reg write bmc 0x20 any*2 0x20 sum 0x04 read low 1 ;" \
+    "message odd write blade 0x18 sum 0x28 read wide 1 ;" \
+    "message twice write fan 0x20*2 0x20 write fan 0x20*1 0x20 ;" \
+    "controller a ask told back same late reg odd twice ;"
+want 0 "safe: 0 pairs" "hint: odd.brief:2: the address of device 'low' is reserved (UM10204, 3.1.12)
+hint: odd.brief:3: this byte is the header of a write to device 'bmc': is
+hint: wr(bmc) meant?
+hint: odd.brief:4: this byte is the header of a write to device 'fan': is
+hint: wr(fan) meant?
+hint: odd.brief:6: this byte is the header of a read of device 'bmc': is rd(bmc)
+hint: meant?
+hint: odd.brief:7: this byte is the header of a read of device 'bmc': is rd(bmc)
+hint: meant?
+hint: odd.brief:10: this byte is the header of a write to device 'bmc': is
+hint: wr(bmc) meant?
+hint: the plan has no two participants that may start together: no pair was
+hint: looked at"
+run "bytes of addresses" check odd.brief --hints always
+lines odd.brief "brief 1" "device bmc 0x10 ; device fan 0x50 ;" "message told write 0x08 0xA0 0x20 any ;" \
+    "message reg write bmc 0x20 read fan 1 ;" "controller a told reg ;"
+want 0 "safe: 0 pairs" "hint: the plan has no two participants that may start together: no pair was
+hint: looked at"
+run "the same bytes in a brief of the first version" check odd.brief --hints always
+lines odd.brief "brief 1" "device mux 0x70 ;" "message probe write mux ;" "message set write mux any ;" \
+    "message ask read mux 1 ;" "controller a probe ask ;" "controller b set ;"
+want 1 "pair 0 a/probe b/set: stop against data after 11100000l
+unsafe: 1 of 2 pairs" "hint: odd.brief:3: message 'probe' is a header alone, and another controller
+hint: goes on after that header: no bit parts the two; where the device can be
+hint: read, a read of one byte asks the same, and its R/W bit parts it from
+hint: writes"
+run "a header alone" check odd.brief --hints always
+lines odd.brief "brief 1" "device mux 0x70 ;" "message probe write mux ;" "message set write mux any ;" \
+    "message ask read mux 1 ;" "controller a probe ask ;" "controller b set ;" "never a/probe b ;"
+want 0 "safe: 1 pairs" "hint: the 'never' items leave out pairs: 1"
+run "a header alone that is kept apart" check odd.brief --hints always
+lines odd.brief "brief 1" "device mux 0x70 ;" "message probe write mux ;" "message ask read mux 1 ;" \
+    "controller a probe ask ;" "controller b probe ask ;"
+want 0 "safe: 4 pairs" ""
+run "a header alone beside reads and itself" check odd.brief --hints always
+lines odd.brief "brief 1" "message get read 0x48 1 ;" "message set write 0x48 any ;" \
+    "message page write 0x50 any*1..2 ;" "message any_page write 0b10100xx any*2 ;" "controller a get page ;" \
+    "controller b set any_page ;" "controller c ;" "never a/get b ;" "never a/page b/set ;" \
+    "never a/page_1 b/any_page ;" "never c b ;"
+want 0 "safe: 1 pairs" "hint: odd.brief:8: controller 'c' lists no message
+hint: odd.brief:9: this 'never' mends nothing: each two messages that it keeps
+hint: apart part in their first byte, and their pairs are not checked
+hint: odd.brief:10: this 'never' mends nothing: each two messages that it keeps
+hint: apart part in their first byte, and their pairs are not checked
+hint: odd.brief:12: this 'never' keeps nothing apart: one of its sides sends no
+hint: message
+hint: the 'never' items leave out pairs: 5"
+run "nevers that mend nothing" check odd.brief --hints always
 # Of many unsafe pairs of two files hints name both.
 lines writes.brief "brief 1" "message page write 0x50 any*1..6 ;" "controller bmc page ;"
 lines "more writes.brief" "brief 1" "controller host page ;"

@@ -327,7 +327,7 @@ want 2 "" "refused P3 line 2
 hint: line 2 of the brief:
 hint:   message m write 0x91 0x05 ;
 hint:                   ^^^^
-hint: an address has seven bits; without the direction bit this is 0x48
+hint: an address has seven bits: 0x91 is 0x48 with its direction bit
 hint: expected here: an address ('0x' and two digits, at most 0x7F, or '0b' and
 hint: seven of '0', '1' and 'x') or the name of a device"
 run "an address of eight bits in a brief" expand eight.brief --hints always
@@ -336,7 +336,7 @@ want 2 "" "refused P3 line 2
 hint: line 2 of the brief:
 hint:   message m write 0b10100010 0x05 ;
 hint:                   ^^^^^^^^^^
-hint: an address has seven bits; without the direction bit this is 0b1010001
+hint: an address has seven bits: 0b10100010 is 0b1010001 with its direction bit
 hint: expected here: an address ('0x' and two digits, at most 0x7F, or '0b' and
 hint: seven of '0', '1' and 'x') or the name of a device"
 run "an address of eight bits in a brief, in bits" expand bits.brief --hints always
@@ -481,17 +481,38 @@ call check unused.brief --hints always
 held "a device that 'rd' names is used" out err
 
 for word in with group extend but wr rd pec sum; do
-    lines this.brief "brief 2" "controller" "$word ;"
-    want 2 "" "refused P3 line 3
-hint: line 3 of the brief:
-hint:   $word ;
-hint:   ${word//?/^}
+    lines this.brief "brief 2" "controller $word ;"
+    want 2 "" "refused P3 line 2
+hint: line 2 of the brief:
+hint:   controller $word ;
+hint:              ${word//?/^}
 hint: '$word' is a word of every 'brief 2', and cannot be a name there
 hint: expected here: a name (a letter, then letters, digits and '_', 32 at most)"
     run "a name that is the word $word" check this.brief --hints always
     want_plan "in a brief 1 the name $word" "plan 1
 controller $word ;" "controller $word ;"
 done
+
+# hinted ITEM WORDS: why hints say that an item on line 3 is refused.
+hinted() {
+    lines this.brief "brief 2" "device a 0x21 ;" "$1"
+    call expand this.brief --hints always
+    [[ $status == 2 ]] && grep -qF "hint: $2" err
+    held "hints on: $1" err
+}
+
+second="a message has one choice or one range, and this would be its second"
+but="'but' follows 'any' alone, and a message has one choice or one range"
+hinted "message m write a 0x02..0x01 ;" "a span has the smaller byte first, and 'any but' leaves a byte"
+hinted "message m write a any but 0x00..0xFF ;" "a span has the smaller byte first, and 'any but' leaves a byte"
+hinted "message m write a 0x01..0x02 0x03..0x04 ;" "$second"
+hinted "message m write a any*1..2 0x03..0x04 ;" "$second"
+hinted "message m write a 0x01..0x02 any but 0x01 ;" "$but"
+hinted "message m write a 0x01 but 0x02 ;" "$but"
+hinted "message m write a 0x1..0x2 ;" "a span is two bytes in hex, as 0x02..0x0F"
+hinted "message m write a any but 1..2 ;" "a span is two bytes in hex, as 0x02..0x0F"
+hinted "message m write a any but 0x0X ;" "after 'any but' stands a byte without open bits, or a span of bytes"
+hinted "byte b 0x01..0x02 ;" "a name stands for one byte: spans stand in messages"
 
 # ---- Help.
 

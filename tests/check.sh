@@ -307,7 +307,7 @@ want 2 "" "refused P3 line 2
 hint: line 2 of the plan:
 hint:   message m write 10010000 00000001 stop else stop else stop ;
 hint:                   ^^^^^^^^
-hint: an address has seven bits; without the direction bit this is 1001000
+hint: an address has seven bits: 10010000 is 1001000 with its direction bit
 hint: expected here: an address (seven of '0', '1' and 'x')"
 run "an address of eight bits" check eight.plan --hints always
 want 2 "" "refused P3 line 2

@@ -89,8 +89,8 @@ same "the family in the table" "32" "$({ cat devices && grep -o '`message pages 
 twire expand all.brief -o all.plan
 same "all lines of the table together" "$(printf '%s\n' 'a/get10 b/put10:' 'a/page b/random:' 'a/put10 b/get10:' 'a/random b/page:')" \
     "$(twire check all.plan | awk '/^pair/ { print $3, $4 }' | sort)"
-same "how many pairs they have" "unsafe: 4 of 324 pairs" "$(twire check all.plan | tail -n 1)"
-same "the text says so" 1 "$(tr '\n' ' ' <"$top/docs/GUIDE.md" | grep -c 'four of 324 pairs are unsafe')"
+same "how many pairs they have" "unsafe: 4 of 361 pairs" "$(twire check all.plan | tail -n 1)"
+same "the text says so" 1 "$(tr '\n' ' ' <"$top/docs/GUIDE.md" | grep -c 'four of 361 pairs are unsafe')"
 
 # ---- links
 

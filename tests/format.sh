@@ -118,7 +118,7 @@ laid "columns in a plan" 'plan 1\nmessage a  write 1001000 stop else stop ;\nmes
 
 laid "comments of any bytes" '# 85 \0302\0260C\nbrief 2# \0377\0200 \t\ndevice a 0x48 ;#\0302\0265s' \
     '# 85 \0302\0260C\nbrief 2          # \0377\0200\ndevice a 0x48 ;  #\0302\0265s\n'
-laid "strings" 'brief 2\nwith   "a # ; b"; with"c"#"\n"" "~"' 'brief 2\nwith "a # ; b" ; with "c"  #"\n  "" "~"\n'
+laid "strings" 'brief 2\nx ;with   "a # ; b"; with"c"#"\n"" "~"' 'brief 2\nx ; with "a # ; b" ; with "c"  #"\n  "" "~"\n'
 laid "groups, and what adds to controllers" 'brief 2\ngroup psu  a b ;\ngroup fan c;\ngroup long d ;\nextend bmc  m ;\nextend a n ;' \
     'brief 2\ngroup psu  a b ;\ngroup fan  c ;\ngroup long d ;\nextend bmc m ;\nextend a   n ;\n'
 laid "headers as data bytes" 'brief 2\nmessage m write 0x48 wr ( a ) rd(a)any  but 0x01 0x02..0x04 pec sum ;' \
@@ -180,7 +180,7 @@ unparsed() {
 unparsed "in place and --check" "the argument '--in-place' cannot be used with '--check'" --in-place --check text
 unparsed "standard input in place" "'--in-place' wants a file, and standard input is none" --in-place -
 unparsed "standard input in place by its path" "'--in-place' wants a file, and standard input is none" /dev/stdin --in-place
-unparsed "two files" "unexpected argument 'text' found" text text
+unparsed "two files" "several files go with '--check' alone" text text
 unparsed "no file" "the following required arguments were not provided:"
 same "the help" 0 "$("$twire" format --help >found; echo $?)"
 same_file "the help" "$top/docs/help/format.txt" found
@@ -277,6 +277,31 @@ for file in "$examples"/*.brief; do
     "$twire" format --check written.brief
     same "the brief of $name" 0 $?
 done
+# ---- several files, and those of a board
+
+mkdir board
+lines board/board.brief "brief 2" 'with "parts.brief" ;' 'with "sub/other.brief" ;' "controller a m ;"
+mkdir board/sub
+lines board/parts.brief "brief 2" "device  d 0x10 ;"
+lines board/sub/other.brief "brief 2" 'with "../parts.brief" ;' "message m write d ;"
+lines loose.plan "plan  1" "controller a ;"
+lines loose.brief "brief 1" " controller a ;"
+would="'twire format --in-place' would change it from here on"
+expect "a whole board" 1 "board/parts.brief:2: $would" "" format --check board/board.brief
+expect "files that are given and are of a board" 1 "loose.plan:1: $would
+loose.brief:2: $would
+board/sub/../parts.brief:2: $would" "" format --check board/sub/other.brief loose.plan board/board.brief loose.brief
+lines board/parts.brief "brief 2" "device @ ;"
+expect "a file that a head names is refused" 2 "" "refused P3 line 2 of board/parts.brief" format --check board/board.brief
+rm board/parts.brief
+expect "a file that a head names is not there" 2 "" "refused read" format --check loose.plan board/board.brief
+expect "one without --check looks at itself alone" 0 "$(cat board/board.brief)" "" format board/board.brief
+lines loose.brief "brief 1" "device @ ;"
+expect "the second of several is refused" 2 "" "refused P3 line 2 of loose.brief" format --check loose.plan loose.brief
+unparsed "several files in place" "several files go with '--check' alone" --in-place loose.plan loose.brief
+unparsed "standard input twice" "standard input can be one of the files, and not two" --check - -
+expect "the shelf is laid out" 0 "" "" format --check "$examples/shelf/board.brief"
+
 "$twire" learn "$examples/arbitration.vcd" --scl scl --sda sda >learned 2>/dev/null
 "$twire" format --check learned
 same "what is learned" 0 $?

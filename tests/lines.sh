@@ -352,6 +352,33 @@ message write_48_r0f write sensor 0x0f ;
 controller a_2 write_48_r0f ;
 
 controller b high ;' "" learn lesson "${both[@]}" --names known.brief
+sed 's/brief 1/brief 2/' known.brief >board.brief
+expect "a controller of a brief 2 is given more" 0 'brief 2
+# seen: 2 transactions, 1 messages
+# 1 transactions are those of messages in board.brief
+
+# 1 times, first at 5: S 48 Wr A 0f A P
+# never seen: 48 Wr NA, 0x0f NA
+message write_48_r0f write sensor 0x0f ;
+
+extend a write_48_r0f ;
+
+controller b high ;' "" learn lesson "${both[@]}" --names board.brief
+"$twire" learn lesson "${both[@]}" --names board.brief >learned.brief
+expect "both together explain the dump" 0 "a/high 0 alone, 1 with others
+a/write_48_r0f 1 alone, 0 with others
+b/high 0 alone, 1 with others
+unexplained 0
+cut 0
+unfinished 0
+2 transactions, 0 unexplained" "" \
+    capture board.brief --with learned.brief lesson --summary
+for more in 'controller c ; never c a ;' 'controller c high ; never a/high c ;'; do
+    { cat board.brief && echo "$more"; } >kept.brief
+    "$twire" learn lesson "${both[@]}" --names kept.brief >learned.brief
+    same "a controller that a never names is given nothing: $more" "brief 1 controller a_2" \
+        "$(head -n 1 learned.brief) $(grep -o '^controller a_2' learned.brief)"
+done
 
 # ---- refusals
 

@@ -46,14 +46,22 @@ printf 'brief 1\nbyte R 0x01 ; device temp 0x49 ;\n' >second
 told "where it stands already, in another file" 2 "" "second:2:22: error: 'temp': an earlier device has this name, on line 2 of \"first\" [P7]
 first:2:8: note: it stands here already" check first --with second
 printf 'brief 1\nmessage get read 0x48 1 ;\nmessage set write 0x48 any ;\ncontroller c gets ;\n' >text
-told "the nearest names on one line" 2 "" \
-    "text:4:14: error: 'gets': no message before this place has this name; the nearest names of messages: get, set [P8]" check text
+told "near names on one line" 2 "" \
+    "text:4:14: error: 'gets': no message before this place has this name; the nearest names of messages: get [P8]" check text
+printf 'brief 1\nmessage get_1 read 0x48 1 ;\nmessage set_1 write 0x48 any ;\nmessage gett read 0x48 1 ;\ncontroller c get1s ;\n' >text
+told "several near names, and no others" 2 "" \
+    "text:5:14: error: 'get1s': no message before this place has this name; the nearest names of messages: get_1 [P8]" check text
+printf 'brief 1\ndevice temp_a 0x48 ;\ndevice temp_b 0x49 ;\ndevice fan 0x4A ;\nmessage m write temp any ;\n' >text
+told "near names on one line, in their order" 2 "" \
+    "text:5:17: error: 'temp': no device before this place has this name; the nearest names of devices: temp_a, temp_b [P8]" check text
 printf 'brief 1\nmessage a write 0x48 ;\ncontroller main b ;\nmessage b write 0x48 ;\nnever 1st/a main ;\n' >text
 told "the label of what is no controller belongs to no name before it" 2 "" \
-    "text:3:17: error: 'b': the message stands below, on line 4: messages come before what names them [P8]" check text
+    "text:3:17: error: 'b': the message stands below, on line 4: messages come before what names them [P8]
+text:5:7: error: expected here: the name of a controller or a label (a controller, '/' and its message) [P3]" check text
 printf 'brief 1\nmessage a write 0x48 ;\ncontroller main fan ;\nmessage 2nd write fan ;\n' >text
 told "what a message names is not its name" 2 "" \
-    "text:3:17: error: 'fan': no message before this place has this name; the nearest names of messages: a [P8]" check text
+    "text:3:17: error: 'fan': no message before this place has this name [P8]
+text:4:9: error: expected here: a name (a letter, then letters, digits and '_', 32 at most) [P3]" check text
 
 # shown PLACE REASON TEXT: the first line of the messages on a 'brief 2' with this line.
 shown() {
@@ -65,6 +73,83 @@ shown() {
 shown 2:30 "expected here: '(' [P3]" "message m write 0x10 0x11 wr 0x12 ;"
 shown 2:34 "expected here: ')' [P3]" "message m write 0x10 0x11 wr(0x12*2 ;"
 shown 2:9 "a brief is ASCII, but for the comments of a 'brief 2' [P1]" "message °"
+
+# ---- several refusals: the answer first, and what does not follow from others
+
+# several NAME TEXT PLACE..: the text is refused at these places, each with its code, as in '2:13 P3'.
+several() {
+    printf '%b' "$2" >text
+    call check text --format gcc
+    same "several refusals: $1" "$(printf '%s\n' "${@:3}")" \
+        "$(sed -n 's/^text:\([0-9]*:[0-9]*\): error: .* \[\(P[1-8]\)\]$/\1 \2/p' err)"
+}
+
+several "items that are half typed" "brief 1\ndevice temp ;\nmessage get write tmp read temp 1 ;
+message set write temp 0x100 ;\ncontroller bmc get set gte ;\ncontroller pch get_7 ;\nnever bmc/set pch ;\nnever bmc fan ;\n" \
+    "2:13 P3" "3:19 P8" "4:24 P3" "5:24 P8" "8:11 P8"
+several "an item that only begins" "brief 1\ndevice temp 0x48 ;\nmessage\nmessage get read temp 0 ;\ncontroller c get ;\n" "4:1 P3" "4:23 P4"
+several "a semicolon is missing" "brief 1\ndevice a 0x10\ndevice b 0x11 device c 0x12 ;\nmessage m write a b c ;\nmessage n write b any*0 ;\n" \
+    "2:14 P3" "3:14 P3" "4:19 P8" "5:23 P4"
+several "the word of an item in the place of a name" "brief 1\nmessage device 0x10 ;\ncontroller c x ;\n" "2:9 P3" "3:14 P8"
+several "the same at the beginning of a line" "brief 1\nmessage\ndevice 0x10 ;\n" "3:1 P3" "3:8 P3"
+several "a misspelt word of an item" "brief 1\ndevise d 0x10 ;\nmesage m write d ;\ncontroller c m d e ;\ncontroller e f ;\n" "2:1 P3" "3:1 P3" "5:14 P8"
+several "bytes and characters that end nothing" \
+    "brief 1 # \xc2\xb0\n@\ndevice a 0x48 ; # \xc2\xb0C \xc2\xb0F ; device\nbyte b \xc2\xb0\xc2\xb0 ;\n\xff\xff\n; = device c 0x10 ;\nmessage m write a b c ;\n" \
+    "1:11 P1" "2:1 P3" "3:19 P1" "4:8 P1" "5:1 P1" "6:1 P3" "6:3 P3" "7:21 P8"
+several "what stands twice, and what only would" "brief 1\ndevice a 0x48 ;\ndevice a 0x49 ;\ndevice b ;\ndevice b 0x4A ;\ndevice a 0x4B ;\n
+message m_2 read a 1 ;\nmessage m write a any*1..3 ;\nmessage n_1 read 1 ;\nmessage n write a any*1..3 ;\ncontroller c m_3 n_2 x ;\n" \
+    "3:8 P7" "4:10 P3" "6:8 P7" "9:23 P7" "10:18 P3"
+several "parts of labels" "brief 1\nmessage m read 0x10 1 ;\ncontroller a m ;\ncontroller b m ;\nnever a/m b m ;\ncontroller a_m m ;\nnever a/m a_m ;\n" \
+    "5:13 P3" "7:7 P7"
+several "an interrupt of a device that was refused" "brief 1\ndevice a ;\ninterrupt i a ;\ninterrupt i a ;\n" "2:10 P3" "4:11 P7"
+{ echo "brief 1"; for k in {1..35}; do echo "controller c$k ;"; done; echo "never c1 c35 ;"; echo "device ;"; } >text
+call check text --format gcc
+same "several refusals: a limit is told once" "text:34:12: error: a plan has at most 32 controllers [P6]
+text:38:8: error: expected here: a name (a letter, then letters, digits and '_', 32 at most) [P3]" "$(cat err)"
+{ echo "brief 1"; for k in {1..30}; do echo "device ;"; done; } >text
+call check text --format gcc
+same "several refusals: twenty" "20 21:8" "$(wc -l <err) $(sed -n '$s/^text:\([0-9:]*\):.*/\1/p' err)"
+several "none after the refusal of a plan" "plan 2\nmessage m ;\nmessage ;\n" "2:11 P3"
+several "none after one without a head" "device ;\nmessage ;\n" "1:1 P2"
+printf 'brief 1\ndevice a ;\nmessage m read a 1 ;\ncontroller c m ;\n' >first
+address="an address ('0x' and two digits, at most 0x7F, or '0b' and seven of '0', '1' and 'x')"
+byte="a data byte ('0x' and two digits, or '0b' and eight of '0', '1' and 'x')"
+printf 'brief 2\n# \xc2\xb0\nmessage n write a pec*2 ;\ndevice a 0x10 ;\ncontroller d n m x ;\n' >second
+told "several refusals: of several files" 2 "" "first:2:10: error: expected here: $address [P3]
+second:3:22: error: expected here: $byte, the name of one, 'any', a span as '0x02..0x0F', 'wr', 'rd', 'pec', 'sum', 'else', 'write', 'read' or ';' [P3]
+second:5:18: error: 'x': no message before this place has this name [P8]" check first --with second
+printf 'brief 1\ncontroller d none ;\nbyte b ;\n' >third
+printf 'plan 1\ncontroller x ;\n' >second
+told "several refusals: no name of a file that is no brief is known" 2 "" "first:2:10: error: expected here: $address [P3]
+second:1:1: error: a brief begins with 'brief 1' or 'brief 2'; this is a plan, and none of several files may be one [P2]
+third:3:8: error: expected here: $byte [P3]" check first --with second --with third
+told "several refusals: a later file that cannot be read" 2 "" "first:2:10: error: expected here: $address [P3]" \
+    check first --with .
+printf 'brief 1\ndevice temp ;\nmessage get write tmp read temp 1\ncontroller bmc gte ;\n' >first
+expect "several refusals: hints are short after the first" 2 "" "refused P3 line 2
+hint: line 2 of the brief:
+hint:   device temp ;
+hint:               ^
+hint: expected here: an address ('0x' and two digits, at most 0x7F, or '0b' and
+hint: seven of '0', '1' and 'x')
+hint: also line 3 of the brief:
+hint:   message get write tmp read temp 1
+hint:                     ^^^
+hint: no device before this place has this name; the nearest names of devices:
+hint:   temp
+hint: also line 4 of the brief:
+hint:   controller bmc gte ;
+hint:                  ^^^
+hint: no message before this place has this name; the nearest names of messages:
+hint:   get" check first --hints always
+expect "several refusals: objects say which one is the answer" 2 "" \
+    '{"kind":"refusal","code":"P3","line":2,"byte":20,"column":13,"expected":"address","reason":"expected here: '"$address"'"}
+{"kind":"refusal","code":"P8","line":3,"byte":40,"column":19,"expected":"target","further":true,"reason":"'"'tmp'"': no device before this place has this name; the nearest names of devices: temp"}
+{"kind":"refusal","code":"P8","line":4,"byte":71,"column":16,"expected":"sending","further":true,"reason":"'"'gte'"': no message before this place has this name; the nearest names of messages: get"}' check first --format json
+expect "several refusals: the exact form has the answer alone" 2 "" "refused P3 line 2" check first
+printf 'brief 1\ndevice temp 0x48 ;\n' >first
+printf 'brief 1\nbyte R 0x01 ; device temp 0x49 ;\n' >second
+printf 'brief 2\nmessage \xc2\xb0\n' >text
 
 # ---- refusals without a place in such a text
 
@@ -166,6 +251,38 @@ told "the same strictly" 1 "unlisted:2:9: error: no controller lists message 'n'
 sed -i '/controller b/d' unlisted
 told "a plan without pairs, strictly" 1 "unlisted:1:1: error: no two participants may start together, so nothing was checked [no pair]
 unlisted:2:9: error: no controller lists message 'n', which was not looked at [unsent message]" "" check unlisted --strict
+cat >odd <<'BRIEF'
+brief 2
+device bmc 0x10 ;  device blade 0x41 ;
+device mux 0x70 ;
+message ask write blade 0x18 sum 0x20 any sum ;
+message answer write bmc 0x1C sum
+  0x83 any sum ;
+message probe write mux ;
+message set write mux 0b0000xxxx ;
+message turn write mux any*2 ;
+controller a ask answer probe ;
+controller b set ;
+controller c ;
+never
+  a/ask b/set ;
+never a/answer c ;
+never a/probe b ;
+BRIEF
+told "bytes of addresses, and nevers that mend nothing" 0 \
+    "odd:9:9: warning: no controller lists message 'turn', which was not looked at [unsent message]
+odd:4:34: warning: this byte is the header of a write to device 'bmc': is wr(bmc) meant? [address byte]
+odd:2:8: note: the device with this address
+odd:6:3: warning: this byte is the header of a read of device 'blade': is rd(blade) meant? [address byte]
+odd:2:27: note: the device with this address
+odd:12:12: warning: controller 'c' lists no message [idle controller]
+odd:14:3: warning: this 'never' mends nothing: each two messages that it keeps apart part in their first byte, and their pairs are not checked [idle never]
+odd:15:7: warning: this 'never' keeps nothing apart: one of its sides sends no message [idle never]" "" check odd
+printf 'brief 1\ndevice mux 0x70 ;\nmessage probe write mux ;\nmessage set write mux any ;\ncontroller a probe ;\ncontroller b probe set ;\n' >odd
+told "a header alone" 1 \
+    "odd:3:9: error: a/probe sends STOP where b/set sends a data bit, after S 70 Wr A: lengths differ [unsafe]
+odd:4:9: note: b/set sends a data bit there
+odd:3:9: warning: message 'probe' is a header alone, and another controller goes on after that header: no bit parts the two; where the device can be read, a read of one byte asks the same, and its R/W bit parts it from writes [bare header]" "" check odd
 printf 'brief 1\n# one\r two\n' >odd
 told "a carriage return stands on its line" 0 "odd:1:1: warning: this brief has no items [empty brief]
 odd:2:1: warning: a carriage return (CR) does not end a comment: what follows it in the comment is not read, up to a line feed [carriage return]" "" check odd

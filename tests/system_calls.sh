@@ -1,7 +1,8 @@
 #!/usr/bin/env bash
 # Which calls a command makes of the system in its plain form, where the contracts of its run speak of calls: each file is read
-# to the call that gives no bytes, in the order of the words, and no further; one after what is refused is not read; a report is
-# written once all is read, and after a call that fails there is no other. Without strace there are no cases.
+# to the call that gives no bytes, in the order of the words, and no further; the texts that give a plan are all read before the
+# first is judged, and no certificate or dump after what is refused; a report is written once all is read, and after a call that
+# fails there is no other. Without strace there are no cases.
 source "$(dirname -- "$(readlink -f -- "${BASH_SOURCE[0]}")")/suite.bash" || exit 1
 
 strace -o log -e trace=read true 2>/dev/null || {
@@ -90,7 +91,7 @@ done
 calls "verify of a plan that is refused" 2 "$(whole refused)"$'\n'"$bad_name" verify refused cert
 calls "bench of a plan that is refused" 2 "$(whole refused)"$'\n'"$bad_name" bench refused cert a/m,b/n
 calls "capture of a plan that is refused" 2 "$(whole refused)"$'\n'"$bad_name" capture refused vcd
-calls "a brief that is refused, with another one" 2 "$(whole empty)"$'\n'"err $(printf 'refused P2 line 1 of empty\n' | wc -c)" \
+calls "a brief that is refused, with another one" 2 "$(whole empty further)"$'\n'"err $(printf 'refused P2 line 1 of empty\n' | wc -c)" \
     check empty --with further
 calls "a brief whose further one is refused" 2 "$(whole brief empty)"$'\n'"err $(printf 'refused P2 line 1 of empty\n' | wc -c)" \
     verify brief --with empty cert

@@ -43,8 +43,8 @@ block gitattributes >.gitattributes
 printf 'brief 1\ndevice eeprom 0x50 ;  device sensor 0x48 ;\nbyte settings 0x01 ;\n' >devices.brief
 printf 'brief 1\nmessage set write sensor settings any ;\ncontroller bmc set ;\n' >bmc.brief
 printf 'brief 1\nmessage load write eeprom any read eeprom 16 ;\ncontroller pch load ;\n' >pch.brief
-briefs="devices.brief bmc.brief pch.brief"
-expand="twire expand $briefs -o bus.plan"
+printf 'brief 2\nwith "devices.brief" ;\nwith "bmc.brief" ;\nwith "pch.brief" ;\n' >board.brief
+expand="twire expand board.brief -o bus.plan"
 certify="twire certify bus.plan -o bus.cert"
 
 # checks NAME STATUS LINE: what the script ends with: its status, and its last line, or its first one where all is well.
@@ -116,7 +116,7 @@ again
 # both start alike, and then one repeats START while the other sends data
 printf 'message get write sensor settings read sensor 1 ;\ncontroller host get ;\n' >>bmc.brief
 rewritten
-checks "an unsafe plan" 1 "checks: the plan is not safe, and this says what mends it: twire check devices.brief --with bmc.brief --with pch.brief --explain"
+checks "an unsafe plan" 1 "checks: the plan is not safe, and this says what mends it: twire check board.brief --explain"
 same "what its line says" "    see bmc.brief:2 and bmc.brief:4
 unsafe: 1 of 3 pairs" "$(bash -c "$(advice)" | grep -E '^    see|^unsafe')"
 again
@@ -134,17 +134,24 @@ same "pairs that never keeps apart" "    not checked: 1 of 3 pairs, which 'never
 again
 
 printf 'brief 1\n' >fan.brief
-checks "a brief that the script does not name" 1 "checks: checks.sh does not name fan.brief: put it among its briefs, or into another folder"
+checks "a brief that no head names" 1 "checks: no brief names fan.brief: name it in board.brief, or put it into another folder"
+echo 'with "fan.brief" ;' >>board.brief
+checks "a brief that the board names" 0 "accepted safe"
 again
 
-refused="checks: the briefs are refused: mend the place shown above, or their order in checks.sh (what a file uses stands before it)"
-sed -i 's/^briefs=.*/briefs="bmc.brief devices.brief pch.brief"/' checks.sh
+refused="checks: the briefs are refused: mend the place shown above"
+printf 'brief 2\nwith "bmc.brief" ;\nwith "devices.brief" ;\nwith "pch.brief" ;\n' >board.brief
 checks "the wrong order" 1 "$refused"
-same "the refusal above it" "refused P8 line 2" "$(sh checks.sh 2>&1 | grep -o '^refused P8 line 2')"
+same "the refusal above it" "refused P8 line 2 of bmc.brief" "$(sh checks.sh 2>&1 | grep -o '^refused P8 line 2.*')"
 again
 
-sed -i 's/^briefs=.*/briefs="devices.brief bcm.brief pch.brief"/' checks.sh
-checks "a name that is mistyped" 1 "checks: there is no bcm.brief: put it there, or mend its name in checks.sh"
+sed -i 's/^board=.*/board=bord.brief/' checks.sh
+checks "a name that is mistyped" 1 "checks: there is no bord.brief: put it there, or mend its name in checks.sh"
+again
+
+printf 'brief 2\nwith "devices.brief" ;\nwith "bmc.brief" ;\nwith "phc.brief" ;\n#with "pch.brief"\n' >board.brief
+checks "a file whose name is mistyped" 1 "$refused"
+same "the line above it" "refused read" "$(sh checks.sh 2>&1 | grep -o '^refused read.*')"
 again
 
 sed -i 's/sensor 0x48/sensor 0x4G/' devices.brief

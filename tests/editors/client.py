@@ -282,6 +282,13 @@ REFUSED = [
 for code, text, span in REFUSED:
     want(f'{code} at {span}', [[code, 1, *span]], places(server.change(BRIEF, text)))
 want('mended', [], server.change(BRIEF, SAFE))
+want('all that is refused, and nothing that follows from it',
+     [['P3', 1, 7, 13, 7, 14], ['P8', 1, 8, 18, 8, 22], ['P1', 1, 9, 4, 9, 5], ['P4', 1, 10, 24, 10, 25]],
+     places(server.change(BRIEF, SAFE + 'device other ;\nmessage bad write none other ;\n#  \t\u00e9 \u00e9\n'
+                          'message less read other 0 ;\ncontroller last bad less ;\n')))
+want('after an item that is being typed', [['P3', 1, 2, 0, 2, 4], ['P7', 1, 7, 5, 7, 9]],
+     places(server.change(BRIEF, SAFE.replace('byte', 'message\nbyte').replace('device', '').replace('eeprom 0x50 ;\n', '')
+                          .replace('eeprom', '0x50') + 'byte page 0x11 ;\n')))
 told = server.change(BRIEF, SAFE + 'byte page 0x11 ;\n')
 want('where a name stands already', [[BRIEF, [2, 5, 2, 9]]],
      [[other['location']['uri'], spot(other['location']['range'])] for other in told[0]['relatedInformation']])
@@ -332,6 +339,21 @@ want('mended again', [], server.change(BRIEF, UNSAFE + 'never main guard ;\n'))
 
 want('what is likely a mistake', [['unused device', 2, 1, 7, 1, 10]],
      places(server.change(BRIEF, SAFE.replace('device eeprom', 'device fan 0x2F ; device eeprom'))))
+ODD = '''brief 2
+device bmc 0x10 ;  device blade 0x41 ;
+message ask write blade 0x18 sum 0x20 any sum ;
+message probe write bmc ;
+message set write bmc any ;
+controller a ask probe ;
+controller b set ;
+never a/ask b ;
+'''
+told = server.change(BRIEF, ODD)
+want('a byte of an address, a header alone, a never that mends nothing',
+     [['unsafe', 1, 3, 8, 3, 13], ['unsafe', 1, 4, 8, 4, 11], ['bare header', 2, 3, 8, 3, 13],
+      ['address byte', 2, 2, 33, 2, 37], ['idle never', 2, 7, 6, 7, 13]], places(told))
+want('the device with that address', [BRIEF, [1, 7, 1, 10]],
+     [[one['location']['uri'], spot(one['location']['range'])] for one in told[3]['relatedInformation']][0])
 many = SAFE + ''.join(f'byte b{k} 0x00 ;\n' for k in range(250))
 told = server.change(BRIEF, many)
 want('so many, and how many more', [201, 'there are 50 more', 3], [len(told), told[-1]['message'], told[-1]['severity']])
@@ -375,6 +397,9 @@ def here(*span):
 
 want('a device after write', here(1, 7, 1, 13), defined(3, 20))
 want('a device after read', here(1, 7, 1, 13), defined(3, 36))
+server.change(BRIEF, BOARD.replace('brief 1', 'brief 2').replace('page read eeprom 2 ;', 'page wr(eeprom) rd( eeprom ) ;'))
+want('a device of a header that is sent as a byte', [here(1, 7, 1, 13)] * 2, [defined(3, 35), defined(3, 47)])
+server.change(BRIEF, BOARD)
 want('a device of an interrupt', here(1, 7, 1, 13), defined(7, 17))
 want('a device after else', here(1, 7, 1, 13), defined(4, 54))
 want('a byte', here(2, 5, 2, 9), defined(3, 26))
@@ -481,6 +506,10 @@ server.notify('textDocument/didChange', {'textDocument': {'uri': SECOND, 'versio
                                          'contentChanges': [{'text': OTHER.replace('get ;', 'put ;')}]})
 want('a refusal of the second alone', [], server.told(FIRST))
 want('at its place', [['P8', 1, 2, 15, 2, 18]], places(server.told(SECOND)))
+server.notify('textDocument/didChange', {'textDocument': {'uri': FIRST, 'version': 2},
+                                         'contentChanges': [{'text': SHARED.replace(' 0x50', '')}]})
+want('a refusal of the first', [['P3', 1, 1, 14, 1, 15]], places(server.told(FIRST)))
+want('and what else is refused, in the second', [['P8', 1, 2, 15, 2, 18]], places(server.told(SECOND)))
 want('the end of two files', [0, []], server.stop())
 
 server = Server('--with', '../board/./pch one.brief', folder='board').begin()
@@ -501,7 +530,8 @@ want('the device of the file is that of its first one', [FIRST, 1],
 server.notify('textDocument/didClose', {'textDocument': {'uri': FIRST}})
 want('without it', [], server.told(FIRST))
 want('the other first one', [['P8', 1, 1, 17, 1, 20]], places(server.told(THIRD)))
-want('to whose plan the file belongs then', [], server.told(SECOND))
+want('to whose plan the file belongs then, and what else is refused there', [['P8', 1, 1, 18, 1, 24]],
+     places(server.told(SECOND)))
 want('the first one again', [], [one for one in server.open(FIRST, SHARED) if one['code'] != 'unsafe'])
 server.notify('textDocument/didClose', {'textDocument': {'uri': THIRD}})
 want('without the other one', [], server.told(THIRD))
@@ -596,6 +626,64 @@ want('nothing by the link', [], server.told(LINKED))
 want('the first one of no link', [['unsafe', 1, 2, 8, 2, 11]], places(server.told(FIRST)))
 want('all by its own name', [['unsafe', 1, 1, 8, 1, 11]], places(server.told(SECOND)))
 want('the end of links', [0, []], server.stop())
+
+# boards: what heads name stands before the text that names it
+os.mkdir('shelf')
+DEVICES = 'brief 1\ndevice eeprom 0x50 ;\n'
+BMC = 'brief 2\nwith "devices.brief" ;\nmessage set write eeprom any ;\ncontroller bmc set ;\n'
+PCH = 'brief 1\nmessage get write eeprom any*2 ;\ncontroller pch get ;\n'
+BOARD = 'brief 2\nwith "bmc.brief" ;\nwith "./pch.brief" ;\n'
+for name, text in [('devices', DEVICES), ('bmc', BMC), ('pch', PCH), ('board', BOARD)]:
+    with open(f'shelf/{name}.brief', 'w', encoding='ascii') as file:
+        file.write(text)
+ON_SHELF = {name: f'file://{os.path.realpath(".")}/shelf/{name}.brief' for name in ('devices', 'bmc', 'pch', 'board', 'none')}
+
+
+def each_told(server, *names):
+    return {name: places(server.told(ON_SHELF[name])) for name in names}
+
+
+server = Server(folder='shelf').begin()
+server.notify('textDocument/didOpen', {'textDocument': {'uri': ON_SHELF['board'], 'text': BOARD}})
+UNSAFE = {'devices': [], 'bmc': [['unsafe', 1, 2, 8, 2, 11]], 'pch': [['unsafe', 1, 1, 8, 1, 11]], 'board': []}
+ALL = ('devices', 'bmc', 'pch', 'board')
+want('a board tells of each file, in its order', UNSAFE, each_told(server, *ALL))
+server.notify('textDocument/didOpen', {'textDocument': {'uri': ON_SHELF['pch'], 'text': PCH}})
+want('a file of a board that names nothing itself', UNSAFE, each_told(server, *ALL))
+found = server.at('definition', ON_SHELF['pch'], 1, 20)
+want('a device of a file that is not open', [ON_SHELF['devices'], [1, 7, 1, 13]], [found['uri'], spot(found['range'])])
+want('its address', True, '0x50' in server.at('hover', ON_SHELF['pch'], 1, 20)['contents']['value'])
+server.notify('textDocument/didChange', {'textDocument': {'uri': ON_SHELF['pch'], 'version': 2},
+                                         'contentChanges': [{'text': PCH.replace('any*2', 'any')}]})
+want('what is typed mends the other file', {name: [] for name in ALL}, each_told(server, *ALL))
+server.notify('textDocument/didChange', {'textDocument': {'uri': ON_SHELF['board'], 'version': 2},
+                                         'contentChanges': [{'text': BOARD.replace('with "bmc.brief" ;', '#')}]})
+want('a device that no file of the board has', {'pch': [['P8', 1, 1, 18, 1, 24]], 'board': []}, each_told(server, 'pch', 'board'))
+want('nothing is wrong with files that are no part any more', {'devices': [], 'bmc': []}, each_told(server, 'devices', 'bmc'))
+server.notify('textDocument/didChange', {'textDocument': {'uri': ON_SHELF['board'], 'version': 3},
+                                         'contentChanges': [{'text': BOARD + 'with "none.brief" ;\n'}]})
+want('a file that is not there, where it is named', {'devices': [], 'bmc': [], 'pch': [], 'board': [['read', 1, 3, 0, 3, 19]]},
+     each_told(server, *ALL))
+server.notify('textDocument/didOpen', {'textDocument': {'uri': ON_SHELF['none'], 'text': 'brief 2 ;'}})
+want('until it is open in the editor', {'devices': [], 'bmc': [], 'pch': [], 'none': [['P3', 1, 0, 8, 0, 9]], 'board': []},
+     each_told(server, 'devices', 'bmc', 'pch', 'none', 'board'))
+server.notify('textDocument/didClose', {'textDocument': {'uri': ON_SHELF['none']}})
+want('it is closed', [], server.told(ON_SHELF['none']))
+want('and is not there again', [['read', 1, 3, 0, 3, 19]], each_told(server, *ALL)['board'])
+server.notify('textDocument/didClose', {'textDocument': {'uri': ON_SHELF['board']}})
+want('the board is closed', [], server.told(ON_SHELF['board']))
+want('its file is alone', {'pch': [['P8', 1, 1, 18, 1, 24]]}, each_told(server, 'pch'))
+want('nothing is wrong with the others', {'devices': [], 'bmc': []}, each_told(server, 'devices', 'bmc'))
+want('the end of a board', [0, []], server.stop())
+
+# two that name each other are told of with the one that was opened first
+server = Server(folder='shelf').begin()
+ONE = 'brief 2\nwith "none.brief" ;\ndevice one 0x10 ;\n'
+NONE = 'brief 2\nwith "bmc.brief" ;\nmessage m read one 1 ;\n'
+want('one that names a file that is not there', [['read', 1, 1, 0, 1, 19]], places(server.open(ON_SHELF['bmc'], ONE)))
+server.notify('textDocument/didOpen', {'textDocument': {'uri': ON_SHELF['none'], 'text': NONE}})
+want('two in a circle', {'none': [['P8', 1, 2, 15, 2, 18]], 'bmc': []}, each_told(server, 'none', 'bmc'))
+want('the end of a circle', [0, []], server.stop())
 
 # files that cannot be read
 server = Server('--with', 'none.brief', folder='board').begin()

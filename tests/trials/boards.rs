@@ -31,9 +31,24 @@ const BYTES: [&str; 16] = [
     "0x01",
 ];
 
-// A range, and the number of one of its messages.
-const NUMBERS: [(&str, &str); 7] =
-    [("any*0..2", "0"), ("0x01*2..3", "3"), ("p * 0..1", "1"), ("q*007..8", "7"), ("", ""), ("", ""), ("", "")];
+// A range or a choice, and the number of one of its messages.
+const NUMBERS: [(&str, &str); 12] = [
+    ("any*0..2", "0"),
+    ("0x01*2..3", "3"),
+    ("p * 0..1", "1"),
+    ("q*007..8", "7"),
+    ("0x02..0xFF", "7"),
+    ("any but 0x01", "1"),
+    ("any but 0x10..0x7f", "2"),
+    ("0x5A..0x5a", "1"),
+    ("0x03..0x08", "3"),
+    ("", ""),
+    ("", ""),
+    ("", ""),
+];
+
+// What begins the items that a brief of the first version may have as well.
+const OF_FIRST: [&str; 3] = ["controller", "interrupt", "never"];
 
 // Heads that are none.
 const HEADS: [&str; 6] = ["brief 3", "brief 2.", "brief", "", "brief \"2\"", "# \u{b0}C\nbrief 1"];
@@ -58,14 +73,62 @@ pub fn made_up_board(dice: &mut Dice) -> Board {
         controllers.push((name, lists));
     }
     items.push(dice.pick(&["interrupt t a ;", "interrupt t 0x0C ;", ""], "").to_owned());
+    for _ in 0..dice.index(3) {
+        items.push(extension(&mut controllers, &messages, dice));
+    }
     for _ in 0..dice.index(4) {
         items.push(never(&controllers, &messages, dice));
+    }
+    if dice.index(8) == 0 {
+        items.push(extension(&mut controllers, &messages, dice));
     }
     let slip = (dice.index(2) == 0).then(|| dice.index(SLIPS.len()));
     if let Some((_, item)) = slip.and_then(|slip| SLIPS.get(slip)) {
         items.insert(1 + dice.index(items.len()), (*item).to_owned());
     }
-    Board { briefs: briefs_of(&items, dice), slip }
+    let mut briefs = briefs_of(&items, dice);
+    if dice.index(4) == 0 {
+        name_files(&mut briefs, dice);
+    }
+    Board { briefs, slip }
+}
+
+// What the files of a board are called, and how heads may name them.
+const NAMES: [&str; 3] = ["plan", "brief2", "brief3"];
+
+// Heads name files of the board: most often those before, so that these stand there already.
+fn name_files(briefs: &mut [Vec<u8>], dice: &mut Dice) {
+    let count = briefs.len();
+    for (k, brief) in briefs.iter_mut().enumerate() {
+        let Some(head) = brief.windows(8).position(|bytes| bytes == b"brief 2\n") else {
+            continue;
+        };
+        let mut named = String::new();
+        for _ in 0..dice.index(4) {
+            let before = if k > 0 && dice.index(8) > 0 { k } else { count };
+            let name = NAMES[dice.index(before)];
+            let folder = if dice.index(3) == 0 { "./" } else { "" };
+            named += &match dice.index(40) {
+                0 => "with \"none\" oops\n".to_owned(),
+                1 => format!("with \"{name}\"\n"),
+                2 => format!("with {name} ;\n"),
+                _ => format!("with \"{folder}{name}\" ; # \"\n"),
+            };
+        }
+        brief.splice(head + 8..head + 8, named.into_bytes());
+    }
+}
+
+// What adds to a controller: mostly messages that it does not list.
+fn extension(controllers: &mut [(&str, Vec<String>)], messages: &[Vec<String>], dice: &mut Dice) -> String {
+    let (name, lists) = &mut controllers[dice.index(controllers.len())];
+    let is_listed = |names: &[String]| names.iter().any(|name| lists.contains(name));
+    let further: Vec<Vec<String>> =
+        messages.iter().filter(|names| !is_listed(names) || dice.index(40) == 0).cloned().collect();
+    let further = listed(&further, dice);
+    let item = format!("extend {name}{} ;", words(&further));
+    lists.extend(further);
+    item
 }
 
 // Two controllers, each with a label as often as not: of what it lists, or of what belongs to that.
@@ -101,7 +164,7 @@ fn briefs_of(items: &[String], dice: &mut Dice) -> Vec<Vec<u8>> {
     for left in (0..=dice.index(3)).rev() {
         let count = if left == 0 { rest.len() } else { 1 + dice.index(rest.len()) };
         let (first, others) = rest.split_at(count.min(rest.len()));
-        let is_plain = first.iter().all(|item| !item.starts_with("message") && !item.starts_with("device"));
+        let is_plain = first.iter().all(|item| OF_FIRST.iter().any(|word| item.starts_with(word)) || item.is_empty());
         let is_first = is_plain && dice.index(3) > 0;
         let head = if is_first { "brief 1" } else { "brief 2" };
         let head = if dice.index(40) == 0 { dice.pick(&HEADS, "") } else { head };

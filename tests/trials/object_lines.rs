@@ -111,9 +111,15 @@ fn refusal(fields: &mut Fields) -> Result<String, String> {
     let signal = fields.maybe("signal", Value::into_text)?.map(|signal| format!(" {signal}"));
     let place = place(fields, &code)?;
     after_and_earlier(fields, &code)?;
+    let is_further = fields.has("further");
+    only_if(!is_further || fields.take("further")? == Value::Bool(true), "a further refusal is one")?;
     // (without memory there are no words)
     let reason = fields.maybe("reason", Value::into_text)?;
     only_if(code == "memory" || reason.is_some_and(|words| !words.is_empty()), "a refusal has its reason in words")?;
+    // (it is another one that is the answer, and has the line)
+    if is_further {
+        return Ok(String::new());
+    }
     let [line, file, signal] = [line, file, signal].map(Option::unwrap_or_default);
     Ok(format!("refused {code}{line}{file}{signal}{place}"))
 }

@@ -15,15 +15,14 @@ use Rattle.plan_text.proofs.ValueLemmas.{count_found}
 use Rattle.brief_tokens.specs.declared.symbols.Keyword.TheVariants as keywords
 use Rattle.brief_text.specs.declared.syntax.Lengths.{Lengths}
 use Rattle.brief_text.specs.Drafts.{Draft, how_often}
-use Rattle.brief_text.specs.Fitting.{knows_made, often_ranges, range_count, IsAllowed}
-use Rattle.brief_text.specs.Frames.{Around, Opening, opens_header, opens_code, opens_checksum, opening_in, made_at, ends_in, count_at, counted, often_from, often_at, repetition_in, begins_data, begins_made}
-use Rattle.brief_text.specs.Grammar.{one, SpellsName, SpellsTo, SpellsData, SpellsMade, SpellsCount, SpellsOften}
+use Rattle.brief_text.specs.Fitting.{often_ranges, range_count, IsAllowed}
+use Rattle.brief_text.specs.Frames.{Around, ends_in, count_at, counted, often_from, often_at, repetition_in, begins_data}
+use Rattle.brief_text.specs.Grammar.{one, SpellsName, SpellsTo, SpellsData, SpellsCount, SpellsOften}
 use Rattle.brief_text.specs.Judging.{range_refusal}
-use Rattle.brief_text.specs.Places.{Place, Reads, first_as, token_as, open_in, close_in, past, name_in, name_at, is_known, to_in, to_at, data_in, data_at}
+use Rattle.brief_text.specs.Places.{Place, Reads, first_as, token_as, past, name_in, name_at, is_known, to_in, to_at, data_in, data_at}
 use Rattle.brief_text.specs.Standing.{node_at}
-use Rattle.brief_tokens.specs.declared.symbols.Sign.TheVariants as signs
-use Rattle.brief_tokens.specs.Tokens.{Token, keyword, word, sign, Tokens}
-use Rattle.brief_text.specs.Trees.{Said, spelled, named, Times, times, ranged, Made, header, packet_code, checksum}
+use Rattle.brief_tokens.specs.Tokens.{Token, keyword, word, Tokens}
+use Rattle.brief_text.specs.Trees.{Said, spelled, named, Times, times, ranged}
 use Rattle.brief_text.specs.Words.{so_often, from_to}
 use Rattle.brief_text.proofs.FollowLemmas.{begins_star, often_stays}
 use Rattle.brief_text.proofs.PartLemmas.{most_often, Agrees, countable, some_times}
@@ -69,62 +68,6 @@ module _ (nodes : ℕ) (p : Option Lengths) where
   pub node_again : (room copies line : ℕ) (from : Tokens) → 0 < room → nodes + copies ≤ MOST_NODES → node_at room copies line (spot from nodes p) ≡ Ok (room - 1, spot from (nodes + copies) p)
   node_again room copies line from some fits = rw (lt-ltb 0 room some, counted_again copies line from fits) refl
 
--- the address of `wr` and `rd`
-address_rest : (nodes : ℕ) (p : Option Lengths) (draft : Draft) (is_read : Bool) (target : Said Address) (from mid end to : Tokens) → one (sign signs.Open) from mid → SpellsTo target mid end → one (sign signs.Close) end to → is_known draft.devices target ≡ true
-    → made_at draft (opens_header is_read) (spot from nodes p) ≡ Ok (header is_read target, spot to nodes p)
-address_rest nodes p draft is_read target from mid end to opened said shut known =
-    let t = to_again nodes p draft target mid end said known in
-    rw (past_again nodes p open_in (sign signs.Open) from mid opened refl, t.1, past_again nodes p close_in (sign signs.Close) end to shut refl) refl
-
-module _ (nodes : ℕ) (p : Option Lengths) where
-  -- a byte that follows from others, whatever the nodes before what follows its first token
-  pub record MadeAgain (draft : Draft) (made : Made) (from to : Tokens) : Type 0 where
-    pub opening : Opening
-    pub mid : Tokens
-    pub line : ℕ
-    pub first : token_as opening_in (spot from nodes p) ≡ Ok (opening, line, spot mid nodes p)
-    pub rest : (k : ℕ) → made_at draft opening (spot mid k p) ≡ Ok (made, spot to k p)
-    pub no_data : begins_data from ≡ false
-    pub begins : begins_made from ≡ true
-
-  pub made_again : (draft : Draft) (made : Made) (from to : Tokens) → SpellsMade made from to → knows_made draft made ≡ true → MadeAgain draft made from to
-  made_again draft (header false target) from to s known = record {
-    opening = opens_header false;
-    mid = s.0;
-    line = s.1.0;
-    first = token_again nodes p opening_in (keyword keywords.Wr) (opens_header false) from s.0 s.1 refl;
-    rest = λ k. address_rest k p draft false target s.0 s.2.0 s.2.2.0 to s.2.1 s.2.2.1 s.2.2.2 known;
-    no_data = ap begins_data s.1.1;
-    begins = ap begins_made s.1.1;
-  }
-  made_again draft (header true target) from to s known = record {
-    opening = opens_header true;
-    mid = s.0;
-    line = s.1.0;
-    first = token_again nodes p opening_in (keyword keywords.Rd) (opens_header true) from s.0 s.1 refl;
-    rest = λ k. address_rest k p draft true target s.0 s.2.0 s.2.2.0 to s.2.1 s.2.2.1 s.2.2.2 known;
-    no_data = ap begins_data s.1.1;
-    begins = ap begins_made s.1.1;
-  }
-  made_again draft packet_code from to s known = record {
-    opening = opens_code;
-    mid = to;
-    line = s.0;
-    first = token_again nodes p opening_in (keyword keywords.Pec) opens_code from to s refl;
-    rest = λ k. refl;
-    no_data = ap begins_data s.1;
-    begins = ap begins_made s.1;
-  }
-  made_again draft checksum from to s known = record {
-    opening = opens_checksum;
-    mid = to;
-    line = s.0;
-    first = token_again nodes p opening_in (keyword keywords.Sum) opens_checksum from to s refl;
-    rest = λ k. refl;
-    no_data = ap begins_data s.1;
-    begins = ap begins_made s.1;
-  }
-
 pub data_begins : (bits : Said Pattern) (from rest : Tokens) → SpellsData bits from rest → begins_data from ≡ true
 data_begins (spelled bits) from rest (inl s) = ap begins_data s.1.1
 data_begins (spelled bits) from rest (inr s) = ap begins_data s.0.1
@@ -132,11 +75,11 @@ data_begins (named name) from rest s = ap begins_data s.0.0.1
 
 -- ---- repetitions
 
-none_left : (p : Option Lengths) → range_count p + 1 ≤ 1 → p ≡ None
+pub none_left : (p : Option Lengths) → range_count p + 1 ≤ 1 → p ≡ None
 none_left None h = refl
 none_left (Some range) h = absurd (omega arith)
 
-range_again : {A : Type 0} (draft : Draft) (name : List ℕ) (range : Lengths) (line : ℕ) (x : A) → IsAllowed draft name (Some range) → range_refusal draft name range line x ≡ Ok x
+pub range_again : {A : Type 0} (draft : Draft) (name : List ℕ) (range : Lengths) (line : ℕ) (x : A) → IsAllowed draft name (Some range) → range_refusal draft name range line x ≡ Ok x
 range_again {A} draft name range line x allowed = by_tests _ _ _ allowed
   where
     by_tests : (a b c : Bool) → (if a then Err (Unexpected 0) else if b then Err (errors.Twice 0) else if c then Err (errors.TooMany 0) else Ok range) ≡ done range

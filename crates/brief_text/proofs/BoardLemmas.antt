@@ -32,7 +32,7 @@ use Rattle.plan_text.specs.Values.{address_of}
 use Rattle.plan_text.proofs.ValueLemmas.{address_found}
 use Rattle.std.specs.Prelude.{codes, map}
 use Rattle.brief_text.specs.Drafts.{Draft, any_address, value_or, member_name, members, stands_for, same_side, is_new_label}
-use Rattle.brief_text.specs.Judging.{is_family, is_message, message_refusal_of, range_refusal, have_one_of, sendings, listing_refusal, is_taken, are_sides, lists_one, is_side, part_refusal, first_refusal, second_refusal, controller_refusal_of}
+use Rattle.brief_text.specs.Judging.{is_family, is_message, message_refusal_of, range_refusal, have_one_of, sendings, listing_refusal, is_labelled, is_side_of, extend_refusal_of, is_taken, are_sides, lists_one, is_side, part_refusal, first_refusal, second_refusal, controller_refusal_of}
 use Rattle.brief_text.specs.Meanings.{is_twice}
 use Rattle.brief_text.specs.Trees.{named}
 
@@ -101,12 +101,20 @@ sums n (it ∷ controllers) =
 pub sendings_of : (controllers : List Listing) → sum_by (λ c. length c.1) (map listing controllers) ≡ sum_by (λ (it : Listing). length it.messages.items) controllers
 sendings_of controllers = sums 0 controllers
 
-module _ (draft : Draft) (listed : List (List ℕ)) (name : List ℕ) where
-  pub listing_judged : (known twice many : Bool) → is_message draft name ≡ known → have_one_of listed (stands_for draft name) ≡ twice → nat_lt MOST_SENDINGS (sendings draft + length listed + length (stands_for draft name)) ≡ many
-      → listing_refusal draft listed name ≡ (if not known then Some Unknown else if twice then Some Twice else if many then Some TooMany else None)
+module _ (draft : Draft) (has listed : List (List ℕ)) (name : List ℕ) where
+  pub listing_judged : (known twice many : Bool) → is_message draft name ≡ known → (have_one_of has (stands_for draft name) || have_one_of listed (stands_for draft name)) ≡ twice
+      → nat_lt MOST_SENDINGS (sendings draft + length listed + length (stands_for draft name)) ≡ many
+      → listing_refusal draft has listed name ≡ (if not known then Some Unknown else if twice then Some Twice else if many then Some TooMany else None)
   unfolding listing_refusal
   listing_judged known twice many is_known is_twice are_many =
       λ i. if not (is_known i) then Some Unknown else if is_twice i then Some Twice else if are_many i then Some TooMany else None
+
+-- ---- what adds to a controller
+
+pub extend_judged : (draft : Draft) (name : List ℕ) (known apart : Bool) → is_some (lookup (bytes_eq name) draft.controllers) ≡ known → (is_labelled draft name || list_any (is_side_of name) draft.nevers) ≡ apart
+    → extend_refusal_of draft name ≡ (if not known then Some Unknown else if apart then Some Twice else None)
+unfolding extend_refusal_of
+extend_judged draft name known apart is_known is_apart = λ i. if not (is_known i) then Some Unknown else if is_apart i then Some Twice else None
 
 -- ---- names of controllers and of parts
 

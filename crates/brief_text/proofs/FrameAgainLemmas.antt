@@ -19,11 +19,13 @@ use Rattle.brief_text.specs.Places.{close_in}
 use Rattle.brief_text.specs.Standing.{refused_at, next_at, payload_at}
 use Rattle.brief_tokens.specs.Tokens.{keyword, sign, Tokens}
 use Rattle.brief_text.specs.Trees.{Said, Times, BriefFrame, write_to, read_from, BriefBytes, data_byte, made_byte, no_more, BriefTail, stop_here, go_on, Made}
-use Rattle.brief_text.proofs.AgainLemmas.{spot, token_again, past_again, to_again, data_again, data_begins, made_again, count_again, node_again, often_some, Again, often_again}
-use Rattle.brief_text.proofs.FollowLemmas.{closes, closed, begins_else, next_stays, refused_stays, next_apart, bytes_apart, refused_apart}
+use Rattle.brief_text.proofs.AgainLemmas.{spot, token_again, past_again, to_again, data_again, data_begins, count_again, node_again, often_some, Again, often_again}
+use Rattle.brief_text.proofs.FollowLemmas.{closes, closed, begins_else, next_stays, refused_stays, next_apart, bytes_apart, refused_apart, data_is_no_choice}
 use Rattle.brief_text.proofs.PartLemmas.{most_often, repeated_nodes, repeated_bytes, Agrees}
 use Rattle.brief_text.proofs.TakesLemmas.{done}
-use Rattle.brief_text.proofs.StepLemmas.{write_in_is, read_in_is, payload_data, payload_made, payload_last}
+use Rattle.brief_text.proofs.MadeAgainLemmas.{made_again}
+use Rattle.brief_text.proofs.StepLemmas.{write_in_is, read_in_is}
+use Rattle.brief_text.proofs.FrontLemmas.{payload_made, payload_data, payload_last}
 
 module _ (g : Around) (R : Option Lengths) (allowed : IsAllowed g.draft g.name R) where
   abbrev n : ℕ
@@ -131,29 +133,29 @@ module _ (g : Around) (R : Option Lengths) (allowed : IsAllowed g.draft g.name R
           let a = acked_too (room - 1 - more) copies (nodes + copies + copies * more + copies * suc more * tail_nodes (tail_meant g.draft n refused)) r.range s.2.2.0 to s.2.2.2 e known.2 (omega (arith, longest)) most r.agrees (omega (arith, once, o.count, r.count)) in
           record {
             range = a.range;
-            is = payload_data g room copies (spot from nodes p) (data_begins bits from s.0 s.1) ∙ rw (d.1, node, o.is, r.is, a.is) (ap (λ k. done (data_byte bits often refused acked, spot to k a.range)) total);
+            is = payload_data g room copies (spot from nodes p) (data_is_no_choice R bits often refused from s.0 s.2.0 s.2.2.0 s.1 s.2.1 s.2.2.1 apart.no_but) (data_begins bits from s.0 s.1) ∙ rw (d.1, node, o.is, r.is, a.is) (ap (λ k. done (data_byte bits often refused acked, spot to k a.range)) total);
             agrees = a.agrees;
             count = omega (arith, o.count, r.count, a.count);
           }
 
   made_byte_again : (made : Made) (refused : BriefTail) (acked : BriefBytes) → RefusedAgain refused → BytesAgain acked → BytesAgain (made_byte made refused acked)
   made_byte_again made refused acked refused_too acked_too room copies nodes p from to s e known path limit agrees once =
-      let m = made_again nodes p g.draft made from s.0 s.1 known.0 in
-      let node = node_again nodes p room copies m.line m.mid (omega arith) (omega arith) in
-      let r = refused_too (room - 1) copies (nodes + copies) p s.0 s.2.0 s.2.1 (bytes_apart R acked s.2.0 to s.2.2 e).no_else known.1 (omega arith) (omega arith) agrees (omega arith) in
-      let a = acked_too (room - 1) copies (nodes + copies + copies * tail_nodes (tail_meant g.draft n refused)) r.range s.2.0 to s.2.2 e known.2 (omega arith) (omega arith) r.agrees (omega (arith, r.count)) in
+      let m = made_again g R allowed nodes p agrees made from s.0 s.1 known.0 (omega (arith, once)) in
+      let node = node_again nodes m.before room copies m.line m.mid (omega arith) (omega arith) in
+      let r = refused_too (room - 1) copies (nodes + copies) m.after s.0 s.2.0 s.2.1 (bytes_apart R acked s.2.0 to s.2.2 e).no_else known.1 (omega arith) (omega arith) m.ranged.agrees (omega (arith, once, m.ranged.count)) in
+      let a = acked_too (room - 1) copies (nodes + copies + copies * tail_nodes (tail_meant g.draft n refused)) r.range s.2.0 to s.2.2 e known.2 (omega arith) (omega arith) r.agrees (omega (arith, once, m.ranged.count, r.count)) in
       let sum : nodes + copies + copies * tail_nodes (tail_meant g.draft n refused) + copies * payload_nodes (bytes_meant g.draft n acked) ≡ nodes + copies * (payload_nodes (bytes_meant g.draft n acked) + tail_nodes (tail_meant g.draft n refused) + 1) = omega arith in
       record {
         range = a.range;
-        is = payload_made g room copies (spot from nodes p) m.no_data m.begins ∙ rw (m.first, node, m.rest (nodes + copies), r.is, a.is, sum) refl;
+        is = payload_made g room copies (spot from nodes p) m.begins ∙ rw (m.first, node, m.rest (nodes + copies), r.is, a.is, sum) refl;
         agrees = a.agrees;
-        count = omega (arith, r.count, a.count);
+        count = omega (arith, m.ranged.count, r.count, a.count);
       }
 
   bytes_last : (t : BriefTail) → NextAgain t → BytesAgain (no_more t)
   bytes_last t next room copies nodes p from to s e known path limit agrees once =
       let h = next room copies nodes p from to s e known path limit agrees once in
-      record { range = h.range; is = payload_last g room copies (spot from nodes p) (next_apart R t from to s e).1 (next_apart R t from to s e).2 ∙ rw h.is refl; agrees = h.agrees; count = h.count }
+      record { range = h.range; is = payload_last g room copies (spot from nodes p) (next_apart R t from to s e).2 (next_apart R t from to s e).1 ∙ rw h.is refl; agrees = h.agrees; count = h.count }
 
   mutual
     pub frame_again : (f : BriefFrame) → FrameAgain f

@@ -12,16 +12,18 @@ use Rattle.brief_tokens.specs.declared.symbols.Keyword.TheVariants as keywords
 use Rattle.brief_tokens.specs.declared.symbols.Sign.TheVariants as signs
 use Rattle.brief_text.specs.declared.syntax.Lengths.{Lengths}
 use Rattle.brief_text.specs.Drafts.{frame_meant, bytes_meant, tail_meant, bits_said, repeated}
-use Rattle.brief_text.specs.Fitting.{knows_made, KnowsFrame, KnowsBytes, KnowsTail, frame_ranges, bytes_ranges, tail_ranges}
-use Rattle.brief_text.specs.Frames.{Around, Opening, opens_header, opens_code, opens_checksum, opening_in, made_at, count_at, often_at, form_in, next_from, Ends, stops, opens, ends_with, else_by, refused_from, begins_data, begins_made, frame_in, frames_at}
-use Rattle.brief_text.specs.Grammar.{Phrase, one, nothing, ◌▸◌, SpellsTo, SpellsMade, SpellsFrame, SpellsBytes, SpellsNext, SpellsRefused}
-use Rattle.brief_text.specs.Places.{Place, token_as, open_in, close_in, past, is_known, to_at, data_at}
+use Rattle.brief_text.specs.Fitting.{KnowsFrame, KnowsBytes, KnowsTail, frame_ranges, bytes_ranges, tail_ranges}
+use Rattle.brief_text.specs.Frames.{Around, Opening, opening_at, made_at, count_at, often_at, form_in, next_from, Ends, stops, opens, ends_with, else_by, refused_from, begins_data, begins_made, frame_in, frames_at}
+use Rattle.brief_text.specs.Grammar.{Phrase, one, nothing, SpellsTo, SpellsMade, SpellsFrame, SpellsBytes, SpellsNext, SpellsRefused}
+use Rattle.brief_text.specs.Places.{Place, token_as, close_in, past, is_known, to_at, data_at}
 use Rattle.brief_text.specs.Standing.{node_at, refused_at, next_at, payload_at, bytes_at, mades_at}
 use Rattle.brief_tokens.specs.Tokens.{Token, keyword, sign, Tokens, next}
-use Rattle.brief_text.specs.Trees.{Said, Times, BriefFrame, write_to, read_from, BriefBytes, data_byte, made_byte, no_more, BriefTail, stop_here, go_on, Made, header, packet_code, checksum}
+use Rattle.brief_text.specs.Trees.{Said, Times, BriefFrame, write_to, read_from, BriefBytes, data_byte, made_byte, no_more, BriefTail, stop_here, go_on, Made}
 use Rattle.brief_text.proofs.PartLemmas.{most_often, repeated_nodes, repeated_bytes, Agrees, agrees_self, agrees_then, Part, passing, joined, noded, recounted, often_takes}
-use Rattle.brief_text.proofs.StepLemmas.{write_in_is, read_in_is, payload_data, payload_made, payload_last}
-use Rattle.brief_text.proofs.TakesLemmas.{Passed, done, spelled_takes, past_takes, open_only, close_only, to_takes, data_takes, SpellsRest, opening_takes, made_spelled, count_takes, node_takes}
+use Rattle.brief_text.proofs.StepLemmas.{write_in_is, read_in_is}
+use Rattle.brief_text.proofs.FrontLemmas.{payload_made, payload_data, payload_last}
+use Rattle.brief_text.proofs.MadeTakesLemmas.{made_spelled, same_ranges, rephrased, still, opening_takes, made_takes}
+use Rattle.brief_text.proofs.TakesLemmas.{Passed, done, spelled_takes, past_takes, close_only, to_takes, data_takes, count_takes, node_takes}
 use Rattle.brief_text.proofs.ValueLemmas.{size}
 
 -- ---- tokens
@@ -78,30 +80,6 @@ module _ (g : Around) (R : Option Lengths) where
   abbrev BytesTake : ℕ → Type 0
   BytesTake most = (room copies : ℕ) → room < most → (at : Place) (x : BriefBytes × Place) → payload_at g room copies at ≡ Ok x → Agrees x.1.range R → BytesTaken room copies at x
 
-  -- the same spelled otherwise
-  rephrased : {P Q : Phrase} {r m : ℕ} {at after : Place} → (P at.tokens after.tokens → Q at.tokens after.tokens) → Part g P r m at after → Part g Q r m at after
-  rephrased f p = record { spelled = f p.spelled; agrees = p.agrees; found = p.found; allowed = p.allowed; count = p.count; limit = p.limit; fewer = p.fewer }
-
-  made_takes : (opening : Opening) (at : Place) (x : Made × Place) → made_at g.draft opening at ≡ Ok x → Part g (SpellsRest opening x.0) 0 0 at x.1 × (knows_made g.draft x.0 ≡ true)
-  made_takes opens_code at x e =
-      subst (λ (y : Made × Place). Part g (SpellsRest opens_code y.0) 0 0 at y.1 × (knows_made g.draft y.0 ≡ true)) (ok_is (packet_code, at) x e)
-      (record { spelled = (refl, refl); agrees = agrees_self at.range; found = omega arith; allowed = λ a. a; count = omega arith; limit = λ l. l; fewer = omega arith }, refl)
-  made_takes opens_checksum at x e =
-      subst (λ (y : Made × Place). Part g (SpellsRest opens_checksum y.0) 0 0 at y.1 × (knows_made g.draft y.0 ≡ true)) (ok_is (checksum, at) x e)
-      (record { spelled = (refl, refl); agrees = agrees_self at.range; found = omega arith; allowed = λ a. a; count = omega arith; limit = λ l. l; fewer = omega arith }, refl)
-  made_takes (opens_header is_read) at x e =
-      let opened = bind_ok (past open_in at) (λ opened. to_at g.draft opened >>= λ to. past close_in to.2 >>= λ closed. Ok (header is_read to.0, closed)) x e in
-      let to = bind_ok (to_at g.draft opened.0) (λ to. past close_in to.2 >>= λ closed. Ok (header is_read to.0, closed)) x opened.2 in
-      let shut = bind_ok (past close_in to.0.2) (λ closed. Ok (header is_read to.0.0, closed)) x to.2 in
-      let first = past_takes open_in (sign signs.Open) open_only at opened.0 opened.1 in
-      let second = to_takes g.draft opened.0 to.0 to.1 in
-      let third = past_takes close_in (sign signs.Close) close_only to.0.2 shut.0 shut.1 in
-      subst (λ (y : Made × Place). Part g (SpellsRest (opens_header is_read) y.0) 0 0 at y.1 × (knows_made g.draft y.0 ≡ true)) (ok_is (header is_read to.0.0, shut.0) x shut.2)
-      (rephrased (λ s. (s, refl)) (joined g (passing g first) (joined g (passing g second.0) (passing g third))), second.1)
-
-  still : (at : Place) → Part g nothing 0 0 at at
-  still at = record { spelled = refl; agrees = agrees_self at.range; found = omega arith; allowed = λ a. a; count = omega arith; limit = λ l. l; fewer = omega arith }
-
   module _ (most : ℕ) (frames : FramesTake most) where
     next_takes : (room copies : ℕ) → room < most → (at : Place) (x : BriefTail × Place) → next_at g room copies at ≡ Ok x → Agrees x.1.range R → TailTaken (SpellsNext R) room copies at x
     next_takes room copies less at x e agrees = by_tokens at.tokens e
@@ -114,7 +92,7 @@ module _ (g : Around) (R : Option Lengths) where
             subst (TailTaken (SpellsNext R) room copies at) same (record { part = f.part; path = f.path; known = f.known })
 
         none : done (stop_here, at) ≡ Ok x → TailTaken (SpellsNext R) room copies at x
-        none h = subst (TailTaken (SpellsNext R) room copies at) (ok_is (stop_here, at) x h) (record { part = recounted g refl (omega arith) (still at); path = omega arith; known = tt })
+        none h = subst (TailTaken (SpellsNext R) room copies at) (ok_is (stop_here, at) x h) (record { part = recounted g refl (omega arith) (still g {P = nothing} at refl); path = omega arith; known = tt })
 
         by_tokens : (from : Tokens) → next_from g.draft (frame_in g room 0 copies) from at ≡ Ok x → TailTaken (SpellsNext R) room copies at x
         by_tokens (next (keyword keywords.Write) line rest) h = more h
@@ -222,29 +200,39 @@ module _ (g : Around) (R : Option Lengths) where
                       let refused = bind_ok (refused_at g (below - more) (copies * suc more) p3) (λ refused. payload_at g (below - more) copies refused.1 >>= λ acked. Ok (data_byte bits often refused.0 acked.0, acked.1)) x j in
                       by_acked bits line p1 d below p2 nd often more p3 o refused.0.0 refused.0.1 refused.1 refused.2
 
-      -- bytes that follow from others
+      -- a byte that follows from others or is a choice stands first
+      module _ (room copies : ℕ) (less : room < suc most) (at p1 p2 p3 p4 p5 : Place) (opening : Opening) (line below : ℕ) (made : Made) (refused : BriefTail) (acked : BriefBytes) where
+        mades_made : opening_at g at ≡ Ok (opening, line, p1) → node_at room copies line p1 ≡ Ok (below, p2) → made_at g opening p2 ≡ Ok (made, p3) → refused_at g below copies p3 ≡ Ok (refused, p4)
+            → payload_at g below copies p4 ≡ Ok (acked, p5) → Agrees p5.range R → BytesTaken room copies at (made_byte made refused acked, p5)
+        mades_made found node rest not_acked others agrees =
+            let c = node_takes room copies line p1 (below, p2) node in
+            let fits : below < most = omega (arith, c.1, c.2) in
+            let a = bytes below copies fits p4 (acked, p5) others agrees in
+            let before : Agrees p4.range R = agrees_then p4.range p5.range R a.part.agrees agrees in
+            let r = refused_takes below copies fits p3 (refused, p4) not_acked before in
+            let there : Agrees p3.range R = agrees_then p3.range p4.range R r.part.agrees before in
+            let m = made_takes g R opening p2 (made, p3) rest there in
+            let counted : Agrees p2.range R = agrees_then p2.range p3.range R m.0.agrees there in
+            let o = opening_takes g R at (opening, line, p1) found (subst (λ (p : Option Lengths). Agrees p R) c.0.range counted) in
+            let whole = rephrased g {Q = SpellsMade R made} (λ s. made_spelled R opening made at.tokens s.0 p3.tokens s.1 s.2) (joined g o (noded g c.0 m.0)) in
+            let ranges = same_ranges R opening made p2.tokens p3.tokens m.0.spelled in
+            record {
+              part = recounted g (ap (λ k. k + (tail_ranges refused + bytes_ranges acked)) ranges ∙ omega arith) (omega arith) (joined g whole (joined g r.part a.part));
+              path = omega (arith, c.1, c.2, r.path, a.path);
+              known = (m.1, r.known, a.known);
+            }
+
       mades_take : (room copies : ℕ) → room < suc most → (at : Place) (x : BriefBytes × Place) → mades_at g room copies at ≡ Ok x → Agrees x.1.range R → BytesTaken room copies at x
       mades_take room copies less at x e agrees =
-          let found = bind_ok (token_as opening_in at) (λ found. node_at room copies found.1 found.2 >>= λ node. made_at g.draft found.0 node.1 >>= λ made. refused_at g node.0 copies made.1 >>= λ refused. payload_at g node.0 copies refused.1 >>= λ acked. Ok (made_byte made.0 refused.0 acked.0, acked.1)) x e in
-          let node = bind_ok (node_at room copies found.0.1 found.0.2) (λ node. made_at g.draft found.0.0 node.1 >>= λ made. refused_at g node.0 copies made.1 >>= λ refused. payload_at g node.0 copies refused.1 >>= λ acked. Ok (made_byte made.0 refused.0 acked.0, acked.1)) x found.2 in
-          let made = bind_ok (made_at g.draft found.0.0 node.0.1) (λ made. refused_at g node.0.0 copies made.1 >>= λ refused. payload_at g node.0.0 copies refused.1 >>= λ acked. Ok (made_byte made.0 refused.0 acked.0, acked.1)) x node.2 in
+          let found = bind_ok (opening_at g at) (λ found. node_at room copies found.1 found.2 >>= λ node. made_at g found.0 node.1 >>= λ made. refused_at g node.0 copies made.1 >>= λ refused. payload_at g node.0 copies refused.1 >>= λ acked. Ok (made_byte made.0 refused.0 acked.0, acked.1)) x e in
+          let node = bind_ok (node_at room copies found.0.1 found.0.2) (λ node. made_at g found.0.0 node.1 >>= λ made. refused_at g node.0 copies made.1 >>= λ refused. payload_at g node.0 copies refused.1 >>= λ acked. Ok (made_byte made.0 refused.0 acked.0, acked.1)) x found.2 in
+          let made = bind_ok (made_at g found.0.0 node.0.1) (λ made. refused_at g node.0.0 copies made.1 >>= λ refused. payload_at g node.0.0 copies refused.1 >>= λ acked. Ok (made_byte made.0 refused.0 acked.0, acked.1)) x node.2 in
           let refused = bind_ok (refused_at g node.0.0 copies made.0.1) (λ refused. payload_at g node.0.0 copies refused.1 >>= λ acked. Ok (made_byte made.0.0 refused.0 acked.0, acked.1)) x made.2 in
           let acked = bind_ok (payload_at g node.0.0 copies refused.0.1) (λ acked. Ok (made_byte made.0.0 refused.0.0 acked.0, acked.1)) x refused.2 in
           let same = ok_is (made_byte made.0.0 refused.0.0 acked.0.0, acked.0.1) x acked.2 in
-          let last : Agrees acked.0.1.range R = subst (λ (y : BriefBytes × Place). Agrees y.1.range R) (sym same) agrees in
-          let o = opening_takes at found.0 found.1 in
-          let c = node_takes room copies found.0.1 found.0.2 node.0 node.1 in
-          let below : node.0.0 < most = omega (arith, c.1, c.2) in
-          let m = made_takes found.0.0 node.0.1 made.0 made.1 in
-          let a = bytes node.0.0 copies below refused.0.1 acked.0 acked.1 last in
-          let r = refused_takes node.0.0 copies below made.0.1 refused.0 refused.1 (agrees_then refused.0.1.range acked.0.1.range R a.part.agrees last) in
-          let whole = rephrased {Q = SpellsMade made.0.0} (λ s. made_spelled found.0.0 made.0.0 at.tokens s.0 made.0.1.tokens s.1 s.2) (joined g (passing g o) (noded g c.0 m.0)) in
           subst (BytesTaken room copies at) same
-          record {
-            part = recounted g (omega arith) (omega arith) (joined g whole (joined g r.part a.part));
-            path = omega (arith, c.1, c.2, r.path, a.path);
-            known = (m.1, r.known, a.known);
-          }
+          (mades_made room copies less at found.0.2 node.0.1 made.0.1 refused.0.1 acked.0.1 found.0.0 found.0.1 node.0.0 made.0.0 refused.0.0 acked.0.0 found.1 node.1 made.1 refused.1 acked.1
+          (subst (λ (y : BriefBytes × Place). Agrees y.1.range R) (sym same) agrees))
 
       frames_step : FramesTake (suc most)
       frames_step room copies less at x e agrees =
@@ -288,7 +276,7 @@ module _ (g : Around) (R : Option Lengths) where
               }
 
   payload_step : (most : ℕ) → FramesTake most → BytesTake most → FramesTake (suc most) → BytesTake (suc most)
-  payload_step most below bytes frames room copies less at x e agrees = by_front (begins_data at.tokens) (begins_made at.tokens) refl refl
+  payload_step most below bytes frames room copies less at x e agrees = by_front (begins_made at.tokens) (begins_data at.tokens) refl refl
     where
       rest_takes : (next_at g room copies at >>= λ tail. Ok (no_more tail.0, tail.1)) ≡ Ok x → BytesTaken room copies at x
       rest_takes h =
@@ -297,9 +285,9 @@ module _ (g : Around) (R : Option Lengths) where
           let t = next_takes (suc most) frames room copies less at tail.0 tail.1 (subst (λ (y : BriefBytes × Place). Agrees y.1.range R) (sym same) agrees) in
           subst (BytesTaken room copies at) same (record { part = t.part; path = t.path; known = t.known })
 
-      by_front : (t u : Bool) → begins_data at.tokens ≡ t → begins_made at.tokens ≡ u → BytesTaken room copies at x
-      by_front true u is also = bytes_takes most below bytes room copies less at x (sym (payload_data g room copies at is) ∙ e) agrees
-      by_front false true is also = mades_take most below bytes room copies less at x (sym (payload_made g room copies at is also) ∙ e) agrees
+      by_front : (t u : Bool) → begins_made at.tokens ≡ t → begins_data at.tokens ≡ u → BytesTaken room copies at x
+      by_front true u is also = mades_take most below bytes room copies less at x (sym (payload_made g room copies at is) ∙ e) agrees
+      by_front false true is also = bytes_takes most below bytes room copies less at x (sym (payload_data g room copies at is also) ∙ e) agrees
       by_front false false is also = rest_takes (sym (payload_last g room copies at is also) ∙ e)
 
   both_take : (most : ℕ) → FramesTake most × BytesTake most

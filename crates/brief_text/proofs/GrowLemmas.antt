@@ -13,11 +13,12 @@ use Rattle.plan_core.proofs.BuildingLemmas.{size_allowed, size_fits}
 use Rattle.brief_text.specs.declared.syntax.Lengths.{Lengths}
 use Rattle.brief_text.specs.Codes.{at_start}
 use Rattle.brief_text.specs.Drafts.{Draft, frame_meant, frame_on, bytes_meant, tail_meant, bits_said, how_often, repeated, member_meant, messages_meant}
-use Rattle.brief_text.specs.Fitting.{frame_ranges, bytes_ranges, tail_ranges, often_ranges, range_count, IsWithin}
-use Rattle.brief_text.specs.Grammar.{SpellsFrame, SpellsBytes, SpellsNext, SpellsRefused, SpellsOften}
+use Rattle.brief_text.specs.Fitting.{frame_ranges, bytes_ranges, tail_ranges, often_ranges, made_ranges, range_count, IsWithin}
+use Rattle.brief_text.specs.Grammar.{SpellsFrame, SpellsBytes, SpellsNext, SpellsRefused, SpellsOften, SpellsMade}
 use Rattle.brief_tokens.specs.Tokens.{Tokens}
-use Rattle.brief_text.specs.Trees.{Times, times, ranged, BriefFrame, write_to, read_from, BriefBytes, data_byte, made_byte, no_more, BriefTail, stop_here, go_on}
+use Rattle.brief_text.specs.Trees.{Times, times, ranged, BriefFrame, write_to, read_from, BriefBytes, data_byte, made_byte, no_more, BriefTail, stop_here, go_on, Made, header, packet_code, checksum, chosen}
 use Rattle.brief_text.specs.Words.{is_range, is_countable}
+use Rattle.brief_text.proofs.BlockLemmas.{choice_range}
 use Rattle.brief_text.proofs.PartLemmas.{repeated_nodes, repeated_bytes, most_often}
 use Rattle.brief_text.proofs.PathLemmas.{on_outline, outline_of}
 use Rattle.brief_text.proofs.TakesLemmas.{le_from}
@@ -111,6 +112,12 @@ module _ (range : Lengths) where
   often_range (times n) from to s some = absurd (omega arith)
   often_range ranged from to s some = s.1
 
+  made_range : (made : Made) (from to : Tokens) → SpellsMade R made from to → 1 ≤ made_ranges made → IsRange
+  made_range (chosen choice) from to s some = choice_range choice range s.1 s.2
+  made_range (header reads target) from to s some = absurd (omega arith)
+  made_range packet_code from to s some = absurd (omega arith)
+  made_range checksum from to s some = absurd (omega arith)
+
   mutual
     frame_range : (f : BriefFrame) (from to : Tokens) → SpellsFrame R f from to → 1 ≤ frame_ranges f → IsRange
     frame_range (write_to target refused acked) from to s some = in_either (tail_ranges refused) (bytes_ranges acked) some (refused_range refused s.2.0 s.2.2.0 s.2.2.1) (bytes_range acked s.2.2.0 to s.2.2.2)
@@ -121,7 +128,10 @@ module _ (range : Lengths) where
         in_either (often_ranges often + tail_ranges refused) (bytes_ranges acked) some
         (λ h. in_either (often_ranges often) (tail_ranges refused) h (often_range often s.0 s.2.0 s.2.1) (refused_range refused s.2.0 s.2.2.0 s.2.2.1))
         (bytes_range acked s.2.2.0 to s.2.2.2)
-    bytes_range (made_byte made refused acked) from to s some = in_either (tail_ranges refused) (bytes_ranges acked) some (refused_range refused s.0 s.2.0 s.2.1) (bytes_range acked s.2.0 to s.2.2)
+    bytes_range (made_byte made refused acked) from to s some =
+        in_either (made_ranges made + tail_ranges refused) (bytes_ranges acked) some
+        (λ h. in_either (made_ranges made) (tail_ranges refused) h (made_range made from s.0 s.1) (refused_range refused s.0 s.2.0 s.2.1))
+        (bytes_range acked s.2.0 to s.2.2)
     bytes_range (no_more tail) from to s some = next_range tail from to s some
 
     next_range : (t : BriefTail) (from to : Tokens) → SpellsNext R t from to → 1 ≤ tail_ranges t → IsRange

@@ -15,11 +15,11 @@ use Rattle.brief_text.specs.Drafts.{Draft, address_said, frame_meant}
 use Rattle.brief_text.specs.Fitting.{Fits, ListFits, MessageFits, range_count, frame_ranges}
 use Rattle.brief_text.specs.Frames.{Around, frames_at}
 use Rattle.brief_text.specs.Grammar.{one, SpellsNames, SpellsItem}
-use Rattle.brief_text.specs.Items.{address_in, pattern_in, device_at, byte_at, message_at, listed_from, controller_at, interrupt_at, side_in, never_at, item_in, item_at}
-use Rattle.brief_text.specs.Judging.{named_refusal, message_refusal_of, controller_refusal_of}
+use Rattle.brief_text.specs.Items.{address_in, pattern_in, device_at, byte_at, message_at, listed_from, controller_at, extend_at, interrupt_at, side_in, never_at, item_in, item_at}
+use Rattle.brief_text.specs.Judging.{named_refusal, message_refusal_of, controller_refusal_of, extend_refusal_of, listed_by}
 use Rattle.brief_text.specs.Places.{Reads, end_in, past}
 use Rattle.brief_tokens.specs.Tokens.{keyword, word, sign, Tokens}
-use Rattle.brief_text.specs.Trees.{BriefFrame, BriefItem, device, byte, message, controller, interrupt, never_both}
+use Rattle.brief_text.specs.Trees.{BriefFrame, BriefItem, device, byte, message, controller, extend, interrupt, never_both}
 use Rattle.brief_text.specs.Words.{known_number}
 use Rattle.brief_text.proofs.AgainLemmas.{spot, token_again, past_again, name_again, to_again}
 use Rattle.brief_text.proofs.FollowLemmas.{closes}
@@ -30,10 +30,10 @@ use Rattle.brief_text.proofs.TakesLemmas.{done}
 
 -- ---- what a controller lists
 
-names_again : (names : List (List ℕ)) (draft : Draft) (before : List (List ℕ)) (nodes : ℕ) (p : Option Lengths) (from between to : Tokens) → ListFits draft before names → SpellsNames names from between → one (sign signs.Semicolon) between to → listed_from draft before from (spot from nodes p) ≡ Ok (before ++ names, spot to nodes p)
-names_again [] draft before nodes p from between to fits s e = rw (sym s ∙ e.1, append-nil before) refl
-names_again (n ∷ names) draft before nodes p from between to fits s e =
-    rw (s.1.0.1, s.1.1, fits.0) (names_again names draft (before ++ n ∷ []) nodes p s.0 between to fits.1 s.2 e ∙ ap (λ (ns : List (List ℕ)). Ok (ns, spot to nodes p)) (append_assoc before (n ∷ []) names))
+names_again : (names : List (List ℕ)) (draft : Draft) (has before : List (List ℕ)) (nodes : ℕ) (p : Option Lengths) (from between to : Tokens) → ListFits draft has before names → SpellsNames names from between → one (sign signs.Semicolon) between to → listed_from draft has before from (spot from nodes p) ≡ Ok (before ++ names, spot to nodes p)
+names_again [] draft has before nodes p from between to fits s e = rw (sym s ∙ e.1, append-nil before) refl
+names_again (n ∷ names) draft has before nodes p from between to fits s e =
+    rw (s.1.0.1, s.1.1, fits.0) (names_again names draft has (before ++ n ∷ []) nodes p s.0 between to fits.1 s.2 e ∙ ap (λ (ns : List (List ℕ)). Ok (ns, spot to nodes p)) (append_assoc before (n ∷ []) names))
 
 -- ---- messages
 
@@ -82,7 +82,7 @@ module _ (l : Letters) (draft : Draft) (nodes : ℕ) (p : Option Lengths) (from 
       ended q k is same = rw (is, past_again k q end_in (sign signs.Semicolon) s.2.2.0 to s.2.2.2 refl) (ap (λ (r : Option Lengths). done (message name r f, spot to k q)) same)
 
   pub item_again : (item : BriefItem) → Fits draft item → SpellsItem l item from to → ItemAgain l draft item nodes p from to
-  unfolding item_at device_at byte_at controller_at interrupt_at never_at
+  unfolding item_at device_at byte_at controller_at extend_at interrupt_at never_at
   item_again (device name address) fits s =
       let start = token_again nodes p (item_in l) (keyword keywords.Device) device_at from s.0 s.1 refl in
       let named = name_again nodes p (named_refusal draft.devices) name s.0 s.2.0 s.2.1 fits in
@@ -97,7 +97,11 @@ module _ (l : Letters) (draft : Draft) (nodes : ℕ) (p : Option Lengths) (from 
   item_again (controller name names) fits s =
       let start = token_again nodes p (item_in l) (keyword keywords.Controller) controller_at from s.0 s.1 refl in
       let named = name_again nodes p (controller_refusal_of draft) name s.0 s.2.0 s.2.1 fits.0 in
-      record { later = nodes; range = p; is = rw (start, named, names_again names draft [] nodes p s.2.0 s.2.2.0 to fits.1 s.2.2.1 s.2.2.2) refl }
+      record { later = nodes; range = p; is = rw (start, named, names_again names draft [] [] nodes p s.2.0 s.2.2.0 to fits.1 s.2.2.1 s.2.2.2) refl }
+  item_again (extend name names) fits s =
+      let start = token_again nodes p (item_in l) (keyword keywords.Extend) extend_at from s.0 s.1 refl in
+      let named = name_again nodes p (extend_refusal_of draft) name s.0 s.2.0 s.2.1 fits.0 in
+      record { later = nodes; range = p; is = rw (start, named, names_again names draft (listed_by draft name) [] nodes p s.2.0 s.2.2.0 to fits.1 s.2.2.1 s.2.2.2) refl }
   item_again (interrupt name target) fits s =
       let start = token_again nodes p (item_in l) (keyword keywords.Interrupt) interrupt_at from s.0 s.1 refl in
       let named = name_again nodes p (interrupt_refusal draft.plan) name s.0 s.2.0 s.2.1 fits.0 in

@@ -19,12 +19,12 @@ use Rattle.brief_text.specs.Drafts.{Draft, address_said, frame_meant, with_label
 use Rattle.brief_text.specs.Fitting.{Fits, ListFits}
 use Rattle.brief_text.specs.Frames.{Around, frames_at}
 use Rattle.brief_text.specs.Grammar.{one, SpellsName, SpellsNames, SpellsAs, SpellsItem}
-use Rattle.brief_text.specs.Items.{address_in, pattern_in, device_at, byte_at, message_at, listed_from, controller_at, interrupt_at, side_in, never_at, item_in, item_at}
-use Rattle.brief_text.specs.Judging.{named_refusal, message_refusal_of, controller_refusal_of, listing_refusal, all_of, first_refusal, second_refusal}
+use Rattle.brief_text.specs.Items.{address_in, pattern_in, device_at, byte_at, message_at, listed_from, controller_at, extend_at, interrupt_at, side_in, never_at, item_in, item_at}
+use Rattle.brief_text.specs.Judging.{named_refusal, message_refusal_of, controller_refusal_of, extend_refusal_of, listed_by, listing_refusal, all_of, first_refusal, second_refusal}
 use Rattle.brief_text.specs.Places.{Place, Reads, token_as, end_in, past, name_in, name_at, to_at}
 use Rattle.brief_tokens.specs.Tokens.{Token, keyword, word, sign, Tokens, next}
 use Rattle.brief_tokens.specs.Tokens as tokens
-use Rattle.brief_text.specs.Trees.{Side, BriefItem, device, byte, message, controller, interrupt, never_both}
+use Rattle.brief_text.specs.Trees.{Side, BriefItem, device, byte, message, controller, extend, interrupt, never_both}
 use Rattle.brief_text.specs.Words.{address_by, data_by, known_number, side_by}
 use Rattle.brief_text.proofs.FrameLemmas.{frames_take}
 use Rattle.brief_text.proofs.GrowLemmas.{each_within}
@@ -52,38 +52,39 @@ end_takes = past_takes end_in (sign signs.Semicolon) end_only
 -- ---- what a controller lists
 
 -- names after these, up to `;`
-record Listed (draft : Draft) (before : List (List ℕ)) (from : Tokens) (x : List (List ℕ) × Place) : Type 0 where
+record Listed (draft : Draft) (has before : List (List ℕ)) (from : Tokens) (x : List (List ℕ) × Place) : Type 0 where
   names : List (List ℕ)
   between : Tokens
   all : x.0 ≡ before ++ names
   spelled : SpellsNames names from between
   end : one (sign signs.Semicolon) between x.1.tokens
-  fits : ListFits draft before names
+  fits : ListFits draft has before names
   fewer : size x.1.tokens < size from
 
-names_take : (from : Tokens) (draft : Draft) (before : List (List ℕ)) (at : Place) (x : List (List ℕ) × Place) → listed_from draft before from at ≡ Ok x → Listed draft before from x
-names_take (next (sign signs.Semicolon) line rest) draft before at x e =
-    subst (Listed draft before (next (sign signs.Semicolon) line rest)) (ok_is (before, record at { tokens = rest }) x e)
+names_take : (from : Tokens) (draft : Draft) (has before : List (List ℕ)) (at : Place) (x : List (List ℕ) × Place) → listed_from draft has before from at ≡ Ok x → Listed draft has before from x
+names_take (next (sign signs.Semicolon) line rest) draft has before at x e =
+    subst (Listed draft has before (next (sign signs.Semicolon) line rest)) (ok_is (before, record at { tokens = rest }) x e)
     record { names = []; between = next (sign signs.Semicolon) line rest; all = sym (append-nil before); spelled = refl; end = (line, refl); fits = tt; fewer = omega arith }
-names_take (next (word bytes) line rest) draft before at x e =
-    let name = bind_ok (or_refused (name_in (word bytes)) (Unexpected line)) (λ name. unless_refused (listing_refusal draft (all_of draft before) name) line name >>= λ allowed. listed_from draft (before ++ allowed ∷ []) rest (record at { tokens = rest })) x e in
-    let allowed = bind_ok (unless_refused (listing_refusal draft (all_of draft before) name.0) line name.0) (λ allowed. listed_from draft (before ++ allowed ∷ []) rest (record at { tokens = rest })) x name.2 in
-    let free = unless_ok (listing_refusal draft (all_of draft before) name.0) line name.0 allowed.0 allowed.1 in
+names_take (next (word bytes) line rest) draft has before at x e =
+    let name = bind_ok (or_refused (name_in (word bytes)) (Unexpected line)) (λ name. unless_refused (listing_refusal draft has (all_of draft before) name) line name >>= λ allowed. listed_from draft has (before ++ allowed ∷ []) rest (record at { tokens = rest })) x e in
+    let allowed = bind_ok (unless_refused (listing_refusal draft has (all_of draft before) name.0) line name.0) (λ allowed. listed_from draft has (before ++ allowed ∷ []) rest (record at { tokens = rest })) x name.2 in
+    let free = unless_ok (listing_refusal draft has (all_of draft before) name.0) line name.0 allowed.0 allowed.1 in
     let spelled = name_only (word bytes) name.0 line rest (or_ok (name_in (word bytes)) (Unexpected line) name.0 name.1) in
-    let more = names_take rest draft (before ++ allowed.0 ∷ []) (record at { tokens = rest }) x allowed.2 in
+    let more = names_take rest draft has (before ++ allowed.0 ∷ []) (record at { tokens = rest }) x allowed.2 in
     record {
       names = allowed.0 ∷ more.names;
       between = more.between;
       all = more.all ∙ append_assoc before (allowed.0 ∷ []) more.names;
       spelled = (rest, subst (λ (n : List ℕ). SpellsName n (next (word bytes) line rest) rest) free.1 spelled, more.spelled);
       end = more.end;
-      fits = (subst (λ (n : List ℕ). listing_refusal draft (all_of draft before) n ≡ None) free.1 free.0, more.fits);
+      fits = (subst (λ (n : List ℕ). listing_refusal draft has (all_of draft before) n ≡ None) free.1 free.0, more.fits);
       fewer = omega (arith, more.fewer);
     }
-names_take (next (keyword k) line rest) draft before at x e = absurd cc
-names_take (next (sign s) line rest) draft before at x e = absurd cc
-names_take (next (tokens.quoted q) line rest) draft before at x e = absurd cc
-names_take (tokens.last ending line) draft before at x e = absurd cc
+names_take (next (keyword k) line rest) draft has before at x e = absurd cc
+names_take (next (sign s) line rest) draft has before at x e = absurd cc
+names_take (next (tokens.quoted q) line rest) draft has before at x e = absurd cc
+names_take (next (tokens.span l u) line rest) draft has before at x e = absurd cc
+names_take (tokens.last ending line) draft has before at x e = absurd cc
 
 -- ---- items
 
@@ -163,11 +164,25 @@ module _ (l : Letters) (draft : Draft) (from at : Place) (x : BriefItem × Place
   controller_takes : Starts keywords.Controller → controller_at draft at ≡ Ok x → ItemTaken l draft from x
   unfolding controller_at
   controller_takes start e =
-      let name = bind_ok (name_at (controller_refusal_of draft) at) (λ name. listed_from draft [] name.1.tokens name.1 >>= λ messages. Ok (controller name.0 messages.0, messages.1)) x e in
-      let list = bind_ok (listed_from draft [] name.0.1.tokens name.0.1) (λ messages. Ok (controller name.0.0 messages.0, messages.1)) x name.2 in
+      let name = bind_ok (name_at (controller_refusal_of draft) at) (λ name. listed_from draft [] [] name.1.tokens name.1 >>= λ messages. Ok (controller name.0 messages.0, messages.1)) x e in
+      let list = bind_ok (listed_from draft [] [] name.0.1.tokens name.0.1) (λ messages. Ok (controller name.0.0 messages.0, messages.1)) x name.2 in
       let n = name_takes (controller_refusal_of draft) at name.0 name.1 in
-      let m = names_take name.0.1.tokens draft [] name.0.1 list.0 list.1 in
+      let m = names_take name.0.1.tokens draft [] [] name.0.1 list.0 list.1 in
       subst (ItemTaken l draft from) (ap (λ (names : List (List ℕ)). (controller name.0.0 names, list.0.1)) (sym m.all) ∙ ok_is (controller name.0.0 list.0.0, list.0.1) x list.2)
+      record {
+        fits = (n.1, m.fits);
+        spelled = (at.tokens, start.spelled, (name.0.1.tokens, n.0.spelled, (m.between, m.spelled, m.end)));
+        fewer = omega (arith, start.fewer, n.0.fewer, m.fewer);
+      }
+
+  extend_takes : Starts keywords.Extend → extend_at draft at ≡ Ok x → ItemTaken l draft from x
+  unfolding extend_at
+  extend_takes start e =
+      let name = bind_ok (name_at (extend_refusal_of draft) at) (λ name. listed_from draft (listed_by draft name.0) [] name.1.tokens name.1 >>= λ messages. Ok (extend name.0 messages.0, messages.1)) x e in
+      let list = bind_ok (listed_from draft (listed_by draft name.0.0) [] name.0.1.tokens name.0.1) (λ messages. Ok (extend name.0.0 messages.0, messages.1)) x name.2 in
+      let n = name_takes (extend_refusal_of draft) at name.0 name.1 in
+      let m = names_take name.0.1.tokens draft (listed_by draft name.0.0) [] name.0.1 list.0 list.1 in
+      subst (ItemTaken l draft from) (ap (λ (names : List (List ℕ)). (extend name.0.0 names, list.0.1)) (sym m.all) ∙ ok_is (extend name.0.0 list.0.0, list.0.1) x list.2)
       record {
         fits = (n.1, m.fits);
         spelled = (at.tokens, start.spelled, (name.0.1.tokens, n.0.spelled, (m.between, m.spelled, m.end)));
@@ -231,6 +246,7 @@ item_takes l draft at x e =
     by_token (keyword keywords.Byte) rule line mid is start h = byte_takes l draft at mid x start (same_rule draft byte_at rule mid is ∙ h)
     by_token (keyword keywords.Message) rule line mid is start h = message_takes l draft at mid x start (same_rule draft message_at rule mid is ∙ h)
     by_token (keyword keywords.Controller) rule line mid is start h = controller_takes l draft at mid x start (same_rule draft controller_at rule mid is ∙ h)
+    by_token (keyword keywords.Extend) rule line mid is start h = extend_takes l draft at mid x start (same_rule draft extend_at rule mid is ∙ h)
     by_token (keyword keywords.Interrupt) rule line mid is start h = interrupt_takes l draft at mid x start (same_rule draft interrupt_at rule mid is ∙ h)
     by_token (keyword keywords.Never) rule line mid is start h = never_takes l draft at mid x start (same_rule draft (never_at l) rule mid is ∙ h)
     by_token token rule line mid is start h = absurd cc

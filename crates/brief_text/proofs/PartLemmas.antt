@@ -116,7 +116,7 @@ module _ (g : Around) where
   }
 
   -- the range, once
-  then_ranged : {P : Phrase} {m : ℕ} {at mid : Place} (range : Lengths) → Part P 0 m at mid → mid.range ≡ None → IsAllowed g.draft g.name (Some range) → Part P 1 m at (record mid { range = Some range })
+  pub then_ranged : {P : Phrase} {m : ℕ} {at mid : Place} (range : Lengths) → Part P 0 m at mid → mid.range ≡ None → IsAllowed g.draft g.name (Some range) → Part P 1 m at (record mid { range = Some range })
   then_ranged {P} {m} {at = at} {mid = mid} range p none allowed = record {
     spelled = p.spelled;
     agrees = agrees_then at.range mid.range (Some range) p.agrees (subst (λ (o : Option Lengths). Agrees o (Some range)) (sym none) tt);
@@ -135,7 +135,7 @@ further_takes room copies more line at after e =
     (counted_takes (copies * more) line at after t.1, le_from more room t.0)
 
 -- no name of the family is refused
-range_takes : {A : Type 0} (draft : Draft) (name : List ℕ) (range : Lengths) (line : ℕ) (x y : A) → range_refusal draft name range line x ≡ Ok y → (x ≡ y) × IsAllowed draft name (Some range)
+pub range_takes : {A : Type 0} (draft : Draft) (name : List ℕ) (range : Lengths) (line : ℕ) (x y : A) → range_refusal draft name range line x ≡ Ok y → (x ≡ y) × IsAllowed draft name (Some range)
 range_takes {A} draft name range line x y e = by_tests _ _ _ e
   where
     by_tests : (a b c : Bool) → (if a then Err (Unexpected line) else if b then Err (errors.Twice line) else if c then Err (errors.TooMany line) else Ok x) ≡ Ok y

@@ -1,4 +1,4 @@
--- A message has the size of its outline, whatever the bytes that follow from others.
+-- A message has the size of its outline, whatever the bytes that follow from others or are choices.
 use Rattle.std.proofs.Common.{◌≡◌, ℕ, zero, suc, ◌+◌, ◌-◌, ◌<◌, true, false, refl, ap, sym, ◌∙◌, arith, None, add-one}
 use Rattle.message_tree.specs.Sizes.{frame_bytes, payload_bytes, tail_bytes, frame_nodes, payload_nodes, tail_nodes}
 use Rattle.message_tree.specs.Trees.{PayloadTree, TailTree, byte}
@@ -6,7 +6,7 @@ use Rattle.message_tree.specs.declared.bits.Pattern.{Pattern}
 use Rattle.plan_core.specs.Building.{size_refusal}
 use Rattle.plan_core.proofs.BuildingLemmas.{size_allowed, size_fits}
 use Rattle.brief_text.specs.Codes.{at_start, unknown, after_bits, times_after}
-use Rattle.brief_text.specs.Drafts.{Draft, frame_meant, bytes_meant, tail_meant, frame_on, bytes_on, tail_on, bits_said, how_often, repeated, repeated_on, after_header, after_made}
+use Rattle.brief_text.specs.Drafts.{Draft, frame_meant, bytes_meant, tail_meant, frame_on, bytes_on, tail_on, bits_said, how_often, repeated, repeated_on, made_bits, after_header, after_made}
 use Rattle.brief_text.specs.Trees.{BriefFrame, write_to, read_from, BriefBytes, data_byte, made_byte, no_more, BriefTail, stop_here, go_on}
 use Rattle.brief_text.specs.declared.codes.Path.{Path}
 
@@ -40,8 +40,8 @@ module _ (draft : Draft) (n : ℕ) where
     bytes_same (data_byte bits often refused acked) p =
         repeated_same (how_often n often) (bits_said draft bits) (bytes_on draft n acked) (tail_on draft n refused) (bytes_meant draft n acked) (tail_meant draft n refused) (bytes_same acked) (tail_same refused) p
     bytes_same (made_byte made refused acked) p =
-        let a = bytes_same acked (after_made draft made p) in
-        let r = tail_same refused (after_made draft made p) in
+        let a = bytes_same acked (after_made made p (made_bits draft n made p)) in
+        let r = tail_same refused (after_made made p (made_bits draft n made p)) in
         (omega (arith, a.0, r.0), omega (arith, a.1, r.1))
     bytes_same (no_more tail) p = tail_same tail p
 

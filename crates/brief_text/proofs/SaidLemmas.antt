@@ -6,7 +6,6 @@ use Rattle.lexer.specs.Lexemes.{text_end}
 use Rattle.plan_text.proofs.TakesLemmas.{bind_ok, ok_is}
 use Rattle.brief_text.specs.declared.syntax.Lengths.{Lengths}
 use Rattle.lexer.specs.declared.lexemes.Letters.{Letters}
-use Rattle.brief_tokens.specs.Heads.{opened}
 use Rattle.brief_text.specs.Briefs.{is_end, items_in, text_read, brief_read, Means}
 use Rattle.brief_text.specs.Drafts.{Draft, no_items, with_item}
 use Rattle.brief_text.specs.Fitting.{MakeUp, Says}
@@ -14,7 +13,7 @@ use Rattle.brief_text.specs.Grammar.{SpellsItem, SpellsItems}
 use Rattle.brief_text.specs.Splitting.{plan_meant}
 use Rattle.brief_tokens.specs.Tokens.{Tokens}
 use Rattle.brief_tokens.specs.Tokens as tokens
-use Rattle.brief_text.specs.Trees.{BriefItem, device, byte, message, controller, interrupt, never_both}
+use Rattle.brief_text.specs.Trees.{BriefItem, device, byte, message, controller, extend, interrupt, never_both}
 use Rattle.brief_text.proofs.AgainLemmas.{spot}
 use Rattle.brief_text.proofs.ItemAgainLemmas.{item_again}
 use Rattle.brief_text.proofs.ItemTakesLemmas.{item_takes}
@@ -27,6 +26,7 @@ not_end l (device name address) from to s = ap is_end s.1.1
 not_end l (byte name bits) from to s = ap is_end s.1.1
 not_end l (message name range frame) from to s = ap is_end s.1.1
 not_end l (controller name messages) from to s = ap is_end s.1.1
+not_end l (extend name messages) from to s = ap is_end s.1.1
 not_end l (interrupt name target) from to s = ap is_end s.1.1
 not_end l (never_both first second) from to s = ap is_end s.1.1
 

@@ -1,26 +1,21 @@
 -- A text that is read says items that fit.
-use Rattle.std.proofs.Common.{◌≡◌, ℕ, zero, suc, Bool, true, false, List, [], ◌∷◌, None, length, codes, refl, ap, sym, ◌∙◌}
+use Rattle.std.proofs.Common.{◌≡◌, ℕ, zero, suc, Bool, true, false, List, [], ◌∷◌, None, length, refl, sym}
 use Rattle.std.specs.Prelude.{Ok, if◌then◌else◌}
-use Rattle.std.specs.Str.{bytes_eq}
-use Rattle.plan_core.proofs.BuildingLemmas.{same-bytes_eq}
 use Rattle.plan_text.specs.Reader.{◌>>=◌}
 use Rattle.lexer.specs.Lexemes.{text_end}
-use Rattle.plan_text.specs.declared.errors.PlanError.TheVariants.{Version}
 use Rattle.plan_text.proofs.TakesLemmas.{bind_ok, ok_is}
-use Rattle.brief_tokens.specs.declared.symbols.Keyword.TheVariants as keywords
 use Rattle.lexer.specs.declared.lexemes.Letters.{Letters}
 use Rattle.brief_tokens.specs.Heads.{opened}
 use Rattle.brief_text.specs.Briefs.{is_end, items_in, text_read}
 use Rattle.brief_text.specs.Drafts.{Draft, with_item}
 use Rattle.brief_text.specs.Fitting.{MakeUp, Says}
-use Rattle.brief_text.specs.Grammar.{one, ◌▸◌, SpellsItems}
+use Rattle.brief_text.specs.Grammar.{SpellsItems}
 use Rattle.brief_text.specs.Items.{item_at}
 use Rattle.brief_text.specs.Places.{Place}
 use Rattle.brief_tokens.specs.Tokens.{keyword, word, Tokens, next, tokens_of}
 use Rattle.brief_tokens.specs.Tokens as tokens
 use Rattle.brief_text.specs.Trees.{BriefItem}
 use Rattle.brief_text.proofs.ItemTakesLemmas.{item_takes}
-use Rattle.brief_text.proofs.TakesLemmas.{test_then}
 
 -- items from a place up to the end
 record Items (l : Letters) (draft : Draft) (from : Tokens) (after : Draft) : Type 0 where

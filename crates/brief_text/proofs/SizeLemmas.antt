@@ -7,10 +7,11 @@ use Rattle.lexer.specs.declared.lexemes.Letters.TheVariants.{Brief, Board}
 use Rattle.lexer.specs.Lexemes.{Alphabet, Lexeme, Lexemes, next, last, word, briefs, boards, letters, later, Class, line_feed, blank, number_sign, sign_byte, word_part, quote, foreign_byte, stray_byte, is_string_part, has_any_comment, class_of, put_before, begins_with_part, raw_lexemes, in_comment, in_string, lexemes_of}
 use Rattle.lexer.proofs.LexemeLemmas.{lexemes_at, comment_at, foreign_at, string_by, part_at}
 use Rattle.plan_text.specs.declared.errors.PlanError.{PlanError}
-use Rattle.plan_text.specs.declared.errors.PlanError.TheVariants.{Version}
+use Rattle.plan_text.specs.declared.errors.PlanError.TheVariants.{Version, Unexpected}
 use Rattle.plan_text.proofs.TakesLemmas.{ok_is}
 use Rattle.brief_tokens.specs.declared.symbols.Keyword.TheVariants as keywords
-use Rattle.brief_tokens.specs.Heads.{after_version, after_head, after_second_version, after_second_head, opened_by, opened}
+use Rattle.brief_tokens.specs.declared.symbols.Sign.TheVariants as signs
+use Rattle.brief_tokens.specs.Heads.{after_version, after_head, after_second_version, after_second_head, begun_by, begun, past_files, with_board, is_file_name, after_files, after_with, after_string, opened}
 use Rattle.brief_tokens.specs.Tokens.{Token, keyword, told, board_told, Tokens, tokens_by, tokens_of, board_tokens_of}
 use Rattle.brief_tokens.specs.Tokens as tokens
 use Rattle.brief_text.proofs.TakesLemmas.{test_then}
@@ -102,11 +103,11 @@ second_small (tokens.next (keyword keywords.Brief) line more) rest e = let h = a
 second_small (tokens.next token line more) rest e = absurd cc
 second_small (tokens.last ending line) rest e = absurd cc
 
-pub opened_small : (text : List ℕ) (head : Letters × Tokens) → opened text ≡ Ok head → size head.1 < length text
-unfolding opened
-opened_small text head e = by_results (after_head (tokens_of 1 text)) (after_second_head (board_tokens_of 1 text)) refl refl e
+begun_small : (text : List ℕ) (head : Letters × Tokens) → begun text ≡ Ok head → size head.1 < length text
+unfolding begun
+begun_small text head e = by_results (after_head (tokens_of 1 text)) (after_second_head (board_tokens_of 1 text)) refl refl e
   where
-    by_results : (one : Result Tokens PlanError) (two : Option Tokens) → after_head (tokens_of 1 text) ≡ one → after_second_head (board_tokens_of 1 text) ≡ two → opened_by one two ≡ Ok head → size head.1 < length text
+    by_results : (one : Result Tokens PlanError) (two : Option Tokens) → after_head (tokens_of 1 text) ≡ one → after_second_head (board_tokens_of 1 text) ≡ two → begun_by one two ≡ Ok head → size head.1 < length text
     by_results (Ok rest) two is also h =
         let all = tokens_small 1 text in let less = first_small (tokens_of 1 text) rest is in let same = ap (λ (x : Letters × Tokens). size x.1) (ok_is (Brief, rest) head h) in
         omega (arith, all, less, same)
@@ -114,3 +115,40 @@ opened_small text head e = by_results (after_head (tokens_of 1 text)) (after_sec
         let all = board_small 1 text in let less = second_small (board_tokens_of 1 text) rest also in let same = ap (λ (x : Letters × Tokens). size x.1) (ok_is (Board, rest) head h) in
         omega (arith, all, less, same)
     by_results (Err f) None is also h = absurd cc
+
+-- the files that a head names are not left either
+mutual
+  files_small : (from rest : Tokens) → after_files from ≡ Ok rest → size rest ≤ size from
+  files_small (tokens.next (keyword keywords.With) line more) rest e = let h = with_small more rest e in omega (arith, h)
+  files_small from rest e = let same = ap size (ok_is from rest e) in omega (arith, same)
+
+  with_small : (from rest : Tokens) → after_with from ≡ Ok rest → size rest ≤ size from
+  with_small (tokens.next (tokens.quoted bytes) line more) rest e =
+      let t = test_then (is_file_name bytes) (after_string more) rest (Unexpected line) e in let h = string_small more rest t.1 in omega (arith, h)
+  with_small (tokens.next token line more) rest e = absurd cc
+  with_small (tokens.last ending line) rest e = absurd cc
+
+  string_small : (from rest : Tokens) → after_string from ≡ Ok rest → size rest ≤ size from
+  string_small (tokens.next (tokens.sign signs.Semicolon) line more) rest e = let h = files_small more rest e in omega (arith, h)
+  string_small (tokens.next token line more) rest e = absurd cc
+  string_small (tokens.last ending line) rest e = absurd cc
+
+pub opened_small : (text : List ℕ) (head : Letters × Tokens) → opened text ≡ Ok head → size head.1 < length text
+unfolding opened
+opened_small text head e = by_begun (begun text) refl e
+  where
+    by_board : (from : Tokens) (after : Result Tokens PlanError) → size from < length text → after_files from ≡ after → with_board after ≡ Ok head → size head.1 < length text
+    by_board from (Ok rest) less is h =
+        let n = files_small from rest is in let same = ap (λ (x : Letters × Tokens). size x.1) (ok_is (Board, rest) head h) in
+        omega (arith, less, n, same)
+    by_board from (Err f) less is h = absurd cc
+
+    by_letters : (l : Letters) (from : Tokens) → begun text ≡ Ok (l, from) → past_files (Ok (l, from)) ≡ Ok head → size head.1 < length text
+    by_letters Board from is h = by_board from (after_files from) (begun_small text (Board, from) is) refl h
+    by_letters l from is h =
+        let less = begun_small text (l, from) is in let same = ap (λ (x : Letters × Tokens). size x.1) (ok_is (l, from) head h) in
+        omega (arith, less, same)
+
+    by_begun : (b : Result (Letters × Tokens) PlanError) → begun text ≡ b → past_files b ≡ Ok head → size head.1 < length text
+    by_begun (Ok pair) is h = by_letters pair.0 pair.1 is h
+    by_begun (Err f) is h = absurd cc

@@ -1,5 +1,5 @@
 -- What is read of a message in one step, where a path has so much room.
-use Rattle.std.proofs.Common.{◌≡◌, ◌≢◌, ℕ, zero, suc, List, Option, Some, None, Bor, ◌-◌, ◌*◌, ◌<◌, ◌≤◌, Bool, true, false, ◌⊎◌, inl, inr, refl, ap, sym, ◌∙◌, subst, arith}
+use Rattle.std.proofs.Common.{◌≡◌, ℕ, zero, suc, List, Option, Some, None, Bor, ◌-◌, ◌*◌, ◌<◌, ◌≤◌, Bool, true, false, refl, ap, sym, ◌∙◌, subst, arith}
 use Rattle.std.specs.Prelude.{Result, Ok, Err, nat_lt, nat_le, if◌then◌else◌}
 use Rattle.std.proofs.lemmas.Bool.{lt-leb}
 use Rattle.message_tree.specs.declared.bits.Address.{Address}
@@ -17,14 +17,13 @@ use Rattle.brief_tokens.specs.declared.symbols.Sign.TheVariants as signs
 use Rattle.brief_tokens.specs.declared.symbols.Symbol.{Symbol}
 use Rattle.brief_tokens.specs.declared.symbols.Symbol.TheVariants as symbols
 use Rattle.brief_tokens.specs.declared.symbols.Token as seen
-use Rattle.brief_text.specs.Drafts.{Draft}
-use Rattle.brief_text.specs.Frames.{Around, Frames, Bytes, Mades, Opening, counted, ends_in, count_at, repetition_in, often_by, often_from, often_at, frames_by, next_from, next_by, ends_with, else_by, refused_from, refused_by, begins_data, begins_made, opening_in, made_at, last_by, payload_by, frame_in, byte_in, made_in, frames_at}
-use Rattle.brief_text.specs.Places.{Place, Reads, Finds, token_as, to_at, data_at}
+use Rattle.brief_text.specs.Frames.{Around, Frames, Bytes, Mades, Opening, counted, ends_in, count_at, repetition_in, often_by, often_at, next_by, ends_with, else_by, refused_by, made_at, payload_by, frame_in, byte_in, made_in, frames_at}
+use Rattle.brief_text.specs.Places.{Place, Reads, Finds, token_as, to_at}
 use Rattle.brief_text.specs.Words.{Repetition, repetition_by}
-use Rattle.brief_text.specs.Trees.{Said, Times, times, BriefFrame, write_to, read_from, BriefBytes, data_byte, made_byte, Made, BriefTail, stop_here, go_on}
-use Rattle.brief_text.specs.Standing.{before, node_at, refused_at, next_at, payload_at, write_at, read_at, bytes_at, mades_at}
+use Rattle.brief_text.specs.Trees.{Said, Times, BriefFrame, write_to, read_from, BriefBytes, data_byte, made_byte, Made, BriefTail}
+use Rattle.brief_text.specs.Standing.{before, node_at, refused_at, next_at, payload_at, write_at, read_at, byte_after, made_after}
 use Rattle.brief_tokens.specs.Reading.{with_symbol, unexpected_symbol, unexpected_at}
-use Rattle.brief_tokens.specs.Tokens.{Token, word, Tokens}
+use Rattle.brief_tokens.specs.Tokens.{Token, word}
 
 node_is : {B : Type 0} (room copies line : ℕ) (at : Place) (f : ℕ × Place → Result B PlanError) → (counted copies line at >>= λ node. f (room, node)) ≡ (node_at (suc room) copies line at >>= f)
 node_is {B} room copies line at f = by_test (nat_lt 0 (suc room)) (suc room - 1) (grind arith) (omega arith)
@@ -89,17 +88,17 @@ unfolding byte_in
 byte_in_is g zero copies line bits at = refl
 byte_in_is g (suc room) copies line bits at =
     same_after (counted copies line at) _ _ (λ node. same_after (often_at g room copies node) _ _ (λ often.
-    ap (λ (frames : Frames). refused_by g.draft frames often.1 >>= λ refused. payload_by g.draft (frame_in g room often.0.1 copies) (byte_in g room often.0.1 copies) (made_in g room often.0.1 copies) refused.1 >>= λ acked. Ok (data_byte bits often.0.0 refused.0 acked.0, acked.1)) (used_up g room often.0.1 (copies * suc often.0.1))
+    ap (λ (frames : Frames). refused_by g.draft frames often.1 >>= λ refused. payload_by g (frame_in g room often.0.1 copies) (byte_in g room often.0.1 copies) (made_in g room often.0.1 copies) refused.1 >>= λ acked. Ok (data_byte bits often.0.0 refused.0 acked.0, acked.1)) (used_up g room often.0.1 (copies * suc often.0.1))
     ∙ same_after (refused_at g (room - often.0.1) (copies * suc often.0.1) often.1) _ _ (λ refused.
-    ap (λ (frames : Frames). payload_by g.draft frames (byte_in g room often.0.1 copies) (made_in g room often.0.1 copies) refused.1 >>= λ acked. Ok (data_byte bits often.0.0 refused.0 acked.0, acked.1)) (used_up g room often.0.1 copies)
-    ∙ ap (λ (bytes : Bytes). payload_by g.draft (frame_in g (room - often.0.1) 0 copies) bytes (made_in g room often.0.1 copies) refused.1 >>= λ acked. Ok (data_byte bits often.0.0 refused.0 acked.0, acked.1)) (bytes_used_up g room often.0.1 copies)
-    ∙ ap (λ (mades : Mades). payload_by g.draft (frame_in g (room - often.0.1) 0 copies) (byte_in g (room - often.0.1) 0 copies) mades refused.1 >>= λ acked. Ok (data_byte bits often.0.0 refused.0 acked.0, acked.1)) (mades_used_up g room often.0.1 copies))))
+    ap (λ (frames : Frames). payload_by g frames (byte_in g room often.0.1 copies) (made_in g room often.0.1 copies) refused.1 >>= λ acked. Ok (data_byte bits often.0.0 refused.0 acked.0, acked.1)) (used_up g room often.0.1 copies)
+    ∙ ap (λ (bytes : Bytes). payload_by g (frame_in g (room - often.0.1) 0 copies) bytes (made_in g room often.0.1 copies) refused.1 >>= λ acked. Ok (data_byte bits often.0.0 refused.0 acked.0, acked.1)) (bytes_used_up g room often.0.1 copies)
+    ∙ ap (λ (mades : Mades). payload_by g (frame_in g (room - often.0.1) 0 copies) (byte_in g (room - often.0.1) 0 copies) mades refused.1 >>= λ acked. Ok (data_byte bits often.0.0 refused.0 acked.0, acked.1)) (mades_used_up g room often.0.1 copies))))
     ∙ node_is room copies line at (byte_rest g copies bits)
 
--- the rest of a payload after the first token of a byte that follows from others
+-- the rest of a payload after the first token of a byte that follows from others or is a choice
 abbrev made_rest : Around → ℕ → Opening → ℕ × Place → Reads BriefBytes
 made_rest g copies opening node =
-    made_at g.draft opening node.1 >>= λ made. refused_at g node.0 copies made.1 >>= λ refused. payload_at g node.0 copies refused.1 >>= λ acked.
+    made_at g opening node.1 >>= λ made. refused_at g node.0 copies made.1 >>= λ refused. payload_at g node.0 copies refused.1 >>= λ acked.
     Ok (made_byte made.0 refused.0 acked.0, acked.1)
 
 pub made_in_is : (g : Around) (room copies line : ℕ) (opening : Opening) (at : Place) → made_in g room 0 copies opening line at ≡ (node_at room copies line at >>= made_rest g copies opening)
@@ -107,32 +106,30 @@ unfolding made_in
 made_in_is g zero copies line opening at = refl
 made_in_is g (suc room) copies line opening at = node_is room copies line at (made_rest g copies opening)
 
--- such bytes, once all but what follows the first of them is read
-pub mades_steps : (g : Around) (room copies : ℕ) (at p1 p2 p3 p4 : Place) (opening : Opening) (line below : ℕ) (made : Made) (refused : BriefTail) → token_as opening_in at ≡ Ok (opening, line, p1) → node_at room copies line p1 ≡ Ok (below, p2)
-    → made_at g.draft opening p2 ≡ Ok (made, p3) → (others : ℕ) → others ≡ copies → refused_at g below others p3 ≡ Ok (refused, p4)
-    → mades_at g room copies at ≡ (payload_at g below others p4 >>= λ acked. Ok (made_byte made refused acked.0, acked.1))
-mades_steps g room copies at p1 p2 p3 p4 opening line below made refused o n m others same r =
-    ap (λ (x : Finds Opening). x >>= λ found. node_at room copies found.1 found.2 >>= made_rest g copies found.0) o
-    ∙ ap (λ (x : Reads ℕ). x >>= made_rest g copies opening) n
+-- such a byte, once all but what follows it is read
+pub made_steps : (g : Around) (room copies : ℕ) (p1 p2 p3 p4 : Place) (opening : Opening) (line below : ℕ) (made : Made) (refused : BriefTail) → node_at room copies line p1 ≡ Ok (below, p2) → made_at g opening p2 ≡ Ok (made, p3)
+    → (others : ℕ) → others ≡ copies → refused_at g below others p3 ≡ Ok (refused, p4)
+    → made_after g room copies opening line p1 ≡ (payload_at g below others p4 >>= λ acked. Ok (made_byte made refused acked.0, acked.1))
+made_steps g room copies p1 p2 p3 p4 opening line below made refused n m others same r =
+    ap (λ (x : Reads ℕ). x >>= made_rest g copies opening) n
     ∙ ap (λ (x : Reads Made). x >>= λ made. refused_at g below copies made.1 >>= λ refused. payload_at g below copies refused.1 >>= λ acked. Ok (made_byte made.0 refused.0 acked.0, acked.1)) m
     ∙ ap (λ (x : Reads BriefTail). x >>= λ refused. payload_at g below copies refused.1 >>= λ acked. Ok (made_byte made refused.0 acked.0, acked.1)) (subst (λ k. refused_at g below k p3 ≡ Ok (refused, p4)) same r)
     ∙ ap (λ k. payload_at g below k p4 >>= λ acked. Ok (made_byte made refused acked.0, acked.1)) (sym same)
 
--- data bytes, once all but what follows the last of them is read
-module _ (g : Around) (room copies more : ℕ) (often : Times) (at p1 p2 p3 p4 : Place) (bits : Said Pattern) (line first : ℕ) (refused : BriefTail) (d : data_at g.draft at ≡ Ok (bits, line, p1)) (n : node_at room copies line p1 ≡ Ok (first, p2)) where
-  bytes_rest : often_at g first copies p2 ≡ Ok ((often, more), p3) → refused_at g (first - more) (copies * suc more) p3 ≡ Ok (refused, p4)
-      → bytes_at g room copies at ≡ (payload_at g (first - more) copies p4 >>= λ acked. Ok (data_byte bits often refused acked.0, acked.1))
-  bytes_rest m r =
-      ap (λ (x : Finds (Said Pattern)). x >>= λ found. node_at room copies found.1 found.2 >>= byte_rest g copies found.0) d
-      ∙ ap (λ (x : Reads ℕ). x >>= byte_rest g copies bits) n
+-- a data byte, once all but what follows it is read
+module _ (g : Around) (room copies more : ℕ) (often : Times) (p1 p2 p3 p4 : Place) (bits : Said Pattern) (line first : ℕ) (refused : BriefTail) (n : node_at room copies line p1 ≡ Ok (first, p2)) where
+  rest_is : often_at g first copies p2 ≡ Ok ((often, more), p3) → refused_at g (first - more) (copies * suc more) p3 ≡ Ok (refused, p4)
+      → byte_after g room copies bits line p1 ≡ (payload_at g (first - more) copies p4 >>= λ acked. Ok (data_byte bits often refused acked.0, acked.1))
+  rest_is m r =
+      ap (λ (x : Reads ℕ). x >>= byte_rest g copies bits) n
       ∙ ap (λ (x : Reads (Times × ℕ)). x >>= λ often. refused_at g (first - often.0.1) (copies * suc often.0.1) often.1 >>= λ refused. payload_at g (first - often.0.1) copies refused.1 >>= λ acked. Ok (data_byte bits often.0.0 refused.0 acked.0, acked.1)) m
       ∙ ap (λ (x : Reads BriefTail). x >>= λ refused. payload_at g (first - more) copies refused.1 >>= λ acked. Ok (data_byte bits often refused.0 acked.0, acked.1)) r
 
   -- the same where the copies are counted by equal numbers
-  pub bytes_steps : (others count : ℕ) → others ≡ copies → count ≡ suc more → often_at g first others p2 ≡ Ok ((often, more), p3) → refused_at g (first - more) (others * count) p3 ≡ Ok (refused, p4)
-      → bytes_at g room copies at ≡ (payload_at g (first - more) others p4 >>= λ acked. Ok (data_byte bits often refused acked.0, acked.1))
-  bytes_steps others count same counts m r =
-      bytes_rest (subst (λ k. often_at g first k p2 ≡ Ok ((often, more), p3)) same m) (subst (λ k. refused_at g (first - more) k p3 ≡ Ok (refused, p4)) (ap (λ k. k * count) same ∙ ap (λ t. copies * t) counts) r)
+  pub byte_steps : (others count : ℕ) → others ≡ copies → count ≡ suc more → often_at g first others p2 ≡ Ok ((often, more), p3) → refused_at g (first - more) (others * count) p3 ≡ Ok (refused, p4)
+      → byte_after g room copies bits line p1 ≡ (payload_at g (first - more) others p4 >>= λ acked. Ok (data_byte bits often refused acked.0, acked.1))
+  byte_steps others count same counts m r =
+      rest_is (subst (λ k. often_at g first k p2 ≡ Ok ((often, more), p3)) same m) (subst (λ k. refused_at g (first - more) k p3 ≡ Ok (refused, p4)) (ap (λ k. k * count) same ∙ ap (λ t. copies * t) counts) r)
       ∙ ap (λ k. payload_at g (first - more) k p4 >>= λ acked. Ok (data_byte bits often refused acked.0, acked.1)) (sym same)
 
 -- ---- by the symbol of the first token, which stands before these tokens
@@ -186,91 +183,3 @@ pub often_word : (g : Around) (room copies : ℕ) (star token : seen.Token) (at 
 often_word g room copies star token at middle after first is second w spelled_so said e =
     often_star star at middle first g room copies is
     ∙ ap (λ (r : Finds Repetition). r >>= λ found. often_by g room copies found.0 found.1 found.2) (word_found token middle after second w spelled_so repetition_in said e)
-
--- ---- by the symbol that stands first, where it stays
-
-module _ (g : Draft) (frames : Frames) (line : ℕ) (rest : Tokens) (at : Place) where
-  pub no_frame : (s : Symbol) → s ≢ symbols.Keyword keywords.Write → s ≢ symbols.Keyword keywords.Read → next_from g frames (with_symbol s line rest) at ≡ Ok (stop_here, at)
-  no_frame (symbols.Keyword keywords.Write) a b = absurd (a refl)
-  no_frame (symbols.Keyword keywords.Read) a b = absurd (b refl)
-  no_frame (symbols.Keyword k) a b = refl
-  no_frame (symbols.Word w) a b = refl
-  no_frame (symbols.Sign s) a b = refl
-  no_frame (symbols.Quoted q) a b = refl
-  no_frame symbols.Stray a b = refl
-  no_frame symbols.Foreign a b = refl
-  no_frame symbols.End a b = refl
-
-  pub further_frame : (s : Symbol) → (s ≡ symbols.Keyword keywords.Write) ⊎ (s ≡ symbols.Keyword keywords.Read) → next_from g frames (with_symbol s line rest) at ≡ (frames_by g frames at >>= λ frame. Ok (go_on frame.0, frame.1))
-  further_frame s (inl e) = ap (λ (k : Symbol). next_from g frames (with_symbol k line rest) at) e
-  further_frame s (inr e) = ap (λ (k : Symbol). next_from g frames (with_symbol k line rest) at) e
-
-  pub no_else : (s : Symbol) → s ≢ symbols.Keyword keywords.Else → refused_from g frames (with_symbol s line rest) at ≡ Ok (stop_here, at)
-  no_else (symbols.Keyword keywords.Else) a = absurd (a refl)
-  no_else (symbols.Keyword k) a = refl
-  no_else (symbols.Word w) a = refl
-  no_else (symbols.Sign s) a = refl
-  no_else (symbols.Quoted q) a = refl
-  no_else symbols.Stray a = refl
-  no_else symbols.Foreign a = refl
-  no_else symbols.End a = refl
-
-pub no_star : (g : Around) (room copies line : ℕ) (rest : Tokens) (at : Place) (s : Symbol) → s ≢ symbols.Sign signs.Star → often_from g room copies (with_symbol s line rest) at ≡ Ok ((times 1, 0), at)
-no_star g room copies line rest at (symbols.Sign signs.Star) a = absurd (a refl)
-no_star g room copies line rest at (symbols.Sign s) a = refl
-no_star g room copies line rest at (symbols.Keyword k) a = refl
-no_star g room copies line rest at (symbols.Word w) a = refl
-no_star g room copies line rest at (symbols.Quoted q) a = refl
-no_star g room copies line rest at symbols.Stray a = refl
-no_star g room copies line rest at symbols.Foreign a = refl
-no_star g room copies line rest at symbols.End a = refl
-
-pub data_first : (line : ℕ) (rest : Tokens) (s : Symbol) → ((w : Bor (List ℕ)) × (s ≡ symbols.Word w)) ⊎ (s ≡ symbols.Keyword keywords.Any) → begins_data (with_symbol s line rest) ≡ true
-data_first line rest s (inl e) = ap (λ (k : Symbol). begins_data (with_symbol k line rest)) e.1
-data_first line rest s (inr e) = ap (λ (k : Symbol). begins_data (with_symbol k line rest)) e
-
-pub no_data_first : (line : ℕ) (rest : Tokens) (s : Symbol) → ((w : Bor (List ℕ)) → s ≢ symbols.Word w) → s ≢ symbols.Keyword keywords.Any → begins_data (with_symbol s line rest) ≡ false
-no_data_first line rest (symbols.Keyword keywords.Any) a b = absurd (b refl)
-no_data_first line rest (symbols.Keyword k) a b = refl
-no_data_first line rest (symbols.Word w) a b = absurd (a w refl)
-no_data_first line rest (symbols.Sign s) a b = refl
-no_data_first line rest (symbols.Quoted q) a b = refl
-no_data_first line rest symbols.Stray a b = refl
-no_data_first line rest symbols.Foreign a b = refl
-no_data_first line rest symbols.End a b = refl
-
--- a payload begins with data, or it is what follows the last of them
-pub payload_data : (g : Around) (room copies : ℕ) (at : Place) → begins_data at.tokens ≡ true → payload_at g room copies at ≡ bytes_at g room copies at
-payload_data g room copies at e = rw e (same_after (data_at g.draft at) _ _ (λ found. byte_in_is g room copies found.1 found.0 found.2))
-
-pub payload_made : (g : Around) (room copies : ℕ) (at : Place) → begins_data at.tokens ≡ false → begins_made at.tokens ≡ true → payload_at g room copies at ≡ mades_at g room copies at
-payload_made g room copies at e f = rw (e, f) (same_after (token_as opening_in at) _ _ (λ found. made_in_is g room copies found.1 found.0 found.2))
-
-pub payload_last : (g : Around) (room copies : ℕ) (at : Place) → begins_data at.tokens ≡ false → begins_made at.tokens ≡ false → payload_at g room copies at ≡ last_by g.draft (frame_in g room 0 copies) at
-payload_last g room copies at e f = rw (e, f) refl
-
--- `wr`, `rd`, `pec` and `sum`
-pub data Makes (s : Symbol) : Type 0 where
-  is_wr : s ≡ symbols.Keyword keywords.Wr → Makes s
-  is_rd : s ≡ symbols.Keyword keywords.Rd → Makes s
-  is_pec : s ≡ symbols.Keyword keywords.Pec → Makes s
-  is_sum : s ≡ symbols.Keyword keywords.Sum → Makes s
-
-pub made_first : (line : ℕ) (rest : Tokens) (s : Symbol) → Makes s → (begins_data (with_symbol s line rest) ≡ false) × (begins_made (with_symbol s line rest) ≡ true)
-made_first line rest s (is_wr e) = (ap (λ (k : Symbol). begins_data (with_symbol k line rest)) e, ap (λ (k : Symbol). begins_made (with_symbol k line rest)) e)
-made_first line rest s (is_rd e) = (ap (λ (k : Symbol). begins_data (with_symbol k line rest)) e, ap (λ (k : Symbol). begins_made (with_symbol k line rest)) e)
-made_first line rest s (is_pec e) = (ap (λ (k : Symbol). begins_data (with_symbol k line rest)) e, ap (λ (k : Symbol). begins_made (with_symbol k line rest)) e)
-made_first line rest s (is_sum e) = (ap (λ (k : Symbol). begins_data (with_symbol k line rest)) e, ap (λ (k : Symbol). begins_made (with_symbol k line rest)) e)
-
-pub no_made_first : (line : ℕ) (rest : Tokens) (s : Symbol) → s ≢ symbols.Keyword keywords.Wr → s ≢ symbols.Keyword keywords.Rd → s ≢ symbols.Keyword keywords.Pec → s ≢ symbols.Keyword keywords.Sum → begins_made (with_symbol s line rest) ≡ false
-no_made_first line rest (symbols.Keyword keywords.Wr) a b c d = absurd (a refl)
-no_made_first line rest (symbols.Keyword keywords.Rd) a b c d = absurd (b refl)
-no_made_first line rest (symbols.Keyword keywords.Pec) a b c d = absurd (c refl)
-no_made_first line rest (symbols.Keyword keywords.Sum) a b c d = absurd (d refl)
-no_made_first line rest (symbols.Keyword k) a b c d = refl
-no_made_first line rest (symbols.Word w) a b c d = refl
-no_made_first line rest (symbols.Sign s) a b c d = refl
-no_made_first line rest (symbols.Quoted q) a b c d = refl
-no_made_first line rest symbols.Stray a b c d = refl
-no_made_first line rest symbols.Foreign a b c d = refl
-no_made_first line rest symbols.End a b c d = refl

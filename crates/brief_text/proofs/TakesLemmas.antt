@@ -19,13 +19,13 @@ use Rattle.plan_text.proofs.ValueLemmas.{count_is}
 use Rattle.brief_tokens.specs.declared.symbols.Keyword.TheVariants as keywords
 use Rattle.brief_tokens.specs.declared.symbols.Sign.TheVariants as signs
 use Rattle.brief_text.specs.Drafts.{Draft}
-use Rattle.brief_text.specs.Frames.{Opening, opens_header, opens_code, opens_checksum, opening_in, counted, ends_in, count_at}
-use Rattle.brief_text.specs.Grammar.{Phrase, one, nothing, ◌▸◌, SpellsName, SpellsTo, SpellsData, SpellsMade, SpellsCount}
+use Rattle.brief_text.specs.Frames.{counted, ends_in, count_at}
+use Rattle.brief_text.specs.Grammar.{Phrase, one, SpellsName, SpellsTo, SpellsData, SpellsCount}
 use Rattle.brief_text.specs.Places.{Place, first_as, token_as, end_in, open_in, close_in, past, name_in, name_at, or_name, is_known, value_as, to_in, to_at, data_in, data_at}
 use Rattle.brief_text.specs.Standing.{node_at}
 use Rattle.brief_tokens.specs.Tokens.{Token, keyword, word, sign, Tokens, next}
 use Rattle.brief_tokens.specs.Tokens as tokens
-use Rattle.brief_text.specs.Trees.{Said, spelled, named, Made, header, packet_code, checksum}
+use Rattle.brief_text.specs.Trees.{Said, spelled, named}
 use Rattle.brief_text.specs.Words.{address_by, data_by, any_byte}
 use Rattle.brief_text.proofs.ValueLemmas.{size}
 
@@ -119,7 +119,7 @@ name_takes refusal at x e =
 
 -- ---- values
 
-some_is : {A : Type 0} (x y : A) → Some x ≡ Some y → x ≡ y
+pub some_is : {A : Type 0} (x y : A) → Some x ≡ Some y → x ≡ y
 some_is x y e = cc
 
 to_only : (t : Token) (x : Said Address) (line : ℕ) (rest : Tokens) → to_in t ≡ Some x → SpellsTo x (next t line rest) rest
@@ -161,42 +161,6 @@ to_takes draft = value_takes to_in SpellsTo to_only draft.devices
 
 pub data_takes : (draft : Draft) (at : Place) (x : Said Pattern × ℕ × Place) → data_at draft at ≡ Ok x → Passed (SpellsData x.0) at x.2 × (is_known draft.bytes x.0 ≡ true)
 data_takes draft = value_takes data_in SpellsData data_only draft.bytes
-
--- ---- bytes that follow from others
-
-abbrev pub opening_token : Opening → Token
-opening_token (opens_header false) = keyword keywords.Wr
-opening_token (opens_header true) = keyword keywords.Rd
-opening_token opens_code = keyword keywords.Pec
-opening_token opens_checksum = keyword keywords.Sum
-
--- what a byte has after its first token
-abbrev pub SpellsRest : Opening → Made → Phrase
-SpellsRest (opens_header is_read) (header reads to) from to_end = (one (sign signs.Open) ▸ SpellsTo to ▸ one (sign signs.Close)) from to_end × (reads ≡ is_read)
-SpellsRest (opens_header is_read) made from to_end = ⊥
-SpellsRest opens_code made from to_end = nothing from to_end × (made ≡ packet_code)
-SpellsRest opens_checksum made from to_end = nothing from to_end × (made ≡ checksum)
-
-opening_only : (t : Token) (o : Opening) (line : ℕ) (rest : Tokens) → opening_in t ≡ Some o → one (opening_token o) (next t line rest) rest
-opening_only (keyword keywords.Wr) o line rest e = subst (λ (p : Opening). one (opening_token p) (next (keyword keywords.Wr) line rest) rest) (some_is (opens_header false) o e) (line, refl)
-opening_only (keyword keywords.Rd) o line rest e = subst (λ (p : Opening). one (opening_token p) (next (keyword keywords.Rd) line rest) rest) (some_is (opens_header true) o e) (line, refl)
-opening_only (keyword keywords.Pec) o line rest e = subst (λ (p : Opening). one (opening_token p) (next (keyword keywords.Pec) line rest) rest) (some_is opens_code o e) (line, refl)
-opening_only (keyword keywords.Sum) o line rest e = subst (λ (p : Opening). one (opening_token p) (next (keyword keywords.Sum) line rest) rest) (some_is opens_checksum o e) (line, refl)
-opening_only t o line rest e = absurd cc
-
-pub opening_takes : (at : Place) (x : Opening × ℕ × Place) → token_as opening_in at ≡ Ok x → Passed (one (opening_token x.0)) at x.2
-opening_takes = spelled_takes opening_in (λ o. one (opening_token o)) opening_only
-
--- both make the byte
-pub made_spelled : (o : Opening) (made : Made) (from mid to : Tokens) → one (opening_token o) from mid → SpellsRest o made mid to → SpellsMade made from to
-made_spelled (opens_header false) (header reads target) from mid to first rest = subst (λ (b : Bool). SpellsMade (header b target) from to) (sym rest.1) (mid, first, rest.0)
-made_spelled (opens_header true) (header reads target) from mid to first rest = subst (λ (b : Bool). SpellsMade (header b target) from to) (sym rest.1) (mid, first, rest.0)
-made_spelled (opens_header is_read) packet_code from mid to first rest = absurd rest
-made_spelled (opens_header is_read) checksum from mid to first rest = absurd rest
-made_spelled opens_code made from mid to first rest =
-    subst (λ (m : Made). SpellsMade m from to) (sym rest.1) (subst (one (keyword keywords.Pec) from) (sym rest.0) first)
-made_spelled opens_checksum made from mid to first rest =
-    subst (λ (m : Made). SpellsMade m from to) (sym rest.1) (subst (one (keyword keywords.Sum) from) (sym rest.0) first)
 
 -- ---- counts
 

@@ -60,6 +60,7 @@ unexpected_first token rest = by_symbol token.symbol
     by_symbol (symbols.Word w) = refl
     by_symbol (symbols.Sign s) = refl
     by_symbol (symbols.Quoted q) = refl
+    by_symbol (symbols.Span l u) = refl
     by_symbol symbols.Stray = refl
     by_symbol symbols.Foreign = refl
     by_symbol symbols.End = refl

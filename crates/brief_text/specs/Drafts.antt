@@ -14,11 +14,12 @@ use Rattle.plan_core.specs.Contents.{Contents, empty}
 use Rattle.plan_text.specs.Values.{address_by}
 use Rattle.brief_text.specs.declared.syntax.Lengths.{Lengths}
 use Rattle.brief_text.specs.Trees.{Said, spelled, named, Times, times, ranged, BriefFrame, write_to, read_from, BriefBytes}
-use Rattle.brief_text.specs.Trees.{data_byte, made_byte, no_more, BriefTail, stop_here, go_on, Made, header, packet_code, checksum}
-use Rattle.brief_text.specs.Trees.{Side, BriefItem, device, byte, message, controller, interrupt, never_both}
+use Rattle.brief_text.specs.Trees.{data_byte, made_byte, no_more, BriefTail, stop_here, go_on, Made, header, packet_code, checksum, chosen}
+use Rattle.brief_text.specs.Trees.{Side, BriefItem, device, byte, message, controller, extend, interrupt, never_both}
 use Rattle.brief_text.specs.Codes.{at_start, unknown, after_bits, header_bits, exactly, remaining}
 use Rattle.brief_text.specs.declared.codes.Path.{Path}
 use Rattle.std.specs.Option.{option_map}
+use Rattle.brief_text.specs.Choices.{chosen_bits}
 use Rattle.brief_text.specs.Words.{any_byte, known_number}
 
 pub record Draft : Type 0 where
@@ -76,8 +77,8 @@ members_or name None = name ∷ []
 abbrev pub stands_for : Draft → List ℕ → List (List ℕ)
 stands_for draft name = members_or name (lookup (bytes_eq name) draft.families)
 
--- ---- messages: names are looked up, repetitions are written out, and the byte of a range stands n times. Here bytes that follow
--- from others are open: it is the outline of a message, which has its size.
+-- ---- messages: names are looked up, repetitions are written out, and the byte of a range stands n times. Here bytes that
+-- follow from others or are choices are open: it is the outline of a message, which has its size.
 
 -- so many times the same byte, each with the same after it where it is not acknowledged
 abbrev pub repeated : ℕ → Pattern → PayloadTree → TailTree → PayloadTree
@@ -106,7 +107,7 @@ abbrev mutual
   tail_meant draft n stop_here = stop
   tail_meant draft n (go_on frame) = again (frame_meant draft n frame)
 
--- ---- the same with the bytes that follow from others, by the path up to them
+-- ---- the same with the bytes that follow from others, by the path up to them, and with block n of a choice
 
 -- each copy of what stands where the byte is not acknowledged is on a path of its own
 abbrev pub repeated_on : ℕ → Pattern → (Path → PayloadTree) → (Path → TailTree) → Path → PayloadTree
@@ -114,16 +115,16 @@ repeated_on zero bits acked refused path = acked path
 repeated_on (suc n) bits acked refused path =
     trees.byte bits (repeated_on n bits acked refused (after_bits path bits)) (refused (after_bits path bits))
 
-abbrev pub made_bits : Draft → Made → Path → Pattern
-made_bits draft (header reads to) path = header_bits reads (address_said draft to)
-made_bits draft packet_code path = exactly path.code
-made_bits draft checksum path = exactly (option_map remaining path.sum)
+abbrev pub made_bits : Draft → ℕ → Made → Path → Pattern
+made_bits draft n (header reads to) path = header_bits reads (address_said draft to)
+made_bits draft n packet_code path = exactly path.code
+made_bits draft n checksum path = exactly (option_map remaining path.sum)
+made_bits draft n (chosen choice) path = chosen_bits choice n
 
--- after a checksum the next one begins anew
-abbrev pub after_made : Draft → Made → Path → Path
-after_made draft (header reads to) path = after_bits path (header_bits reads (address_said draft to))
-after_made draft packet_code path = after_bits path (exactly path.code)
-after_made draft checksum path = record (after_bits path (exactly (option_map remaining path.sum))) { sum = Some 0 }
+-- after such a byte, of these bits: after a checksum the next one begins anew
+abbrev pub after_made : Made → Path → Pattern → Path
+after_made checksum path bits = record (after_bits path bits) { sum = Some 0 }
+after_made made path bits = after_bits path bits
 
 abbrev pub after_header : Draft → Bool → Said Address → Path → Path
 after_header draft reads to path = after_bits path (header_bits reads (address_said draft to))
@@ -139,7 +140,8 @@ abbrev mutual
   bytes_on draft n (data_byte bits often refused acked) path =
       repeated_on (how_often n often) (bits_said draft bits) (bytes_on draft n acked) (tail_on draft n refused) path
   bytes_on draft n (made_byte made refused acked) path =
-      trees.byte (made_bits draft made path) (bytes_on draft n acked (after_made draft made path)) (tail_on draft n refused (after_made draft made path))
+      trees.byte (made_bits draft n made path) (bytes_on draft n acked (after_made made path (made_bits draft n made path)))
+      (tail_on draft n refused (after_made made path (made_bits draft n made path)))
   bytes_on draft n (no_more tail) path = last (tail_on draft n tail path)
 
   pub tail_on : Draft → ℕ → BriefTail → Path → TailTree
@@ -186,6 +188,13 @@ with_label draft side = if is_new_label draft side then record draft { labels = 
 abbrev pub with_never_both : Draft → Side → Side → Draft
 with_never_both draft first second = record (with_label (with_label draft first) second) { nevers = draft.nevers ++ (first, second) ∷ [] }
 
+-- the controller of this name lists these messages as well, at the end
+abbrev pub extended : List ℕ → List (List ℕ) → List (List ℕ × List (List ℕ)) → List (List ℕ × List (List ℕ))
+extended name messages [] = []
+extended name messages (first ∷ controllers) =
+    if bytes_eq name first.0 then (first.0, first.1 ++ messages) ∷ controllers
+    else first ∷ extended name messages controllers
+
 -- the draft with an item
 unfoldable pub with_item : Draft → BriefItem → Draft
 with_item draft (device name address) = record draft { devices = draft.devices ++ (name, address) ∷ [] }
@@ -196,5 +205,7 @@ with_item draft (message name range frame) = record draft {
 }
 with_item draft (controller name messages) =
     record draft { controllers = draft.controllers ++ (name, flat_map (stands_for draft) messages) ∷ [] }
+with_item draft (extend name messages) =
+    record draft { controllers = extended name (flat_map (stands_for draft) messages) draft.controllers }
 with_item draft (interrupt name to) = record draft { plan = with_interrupt draft.plan name (number_said draft to) }
 with_item draft (never_both first second) = with_never_both draft first second

@@ -6,12 +6,12 @@ use Rattle.plan_core.specs.Building.{size_refusal, interrupt_refusal}
 use Rattle.brief_text.specs.declared.syntax.Lengths.{Lengths}
 use Rattle.brief_text.specs.Drafts.{Draft, address_said, messages_meant, with_label, with_item}
 use Rattle.brief_text.specs.Grammar.{Spells}
-use Rattle.brief_text.specs.Judging.{named_refusal, message_refusal_of, range_refusal, controller_refusal_of}
-use Rattle.brief_text.specs.Judging.{listing_refusal, all_of, first_refusal, second_refusal}
+use Rattle.brief_text.specs.Judging.{named_refusal, message_refusal_of, range_refusal, controller_refusal_of, extend_refusal_of}
+use Rattle.brief_text.specs.Judging.{listed_by, listing_refusal, all_of, first_refusal, second_refusal}
 use Rattle.brief_text.specs.Places.{is_known}
 use Rattle.brief_text.specs.Trees.{Times, times, ranged, BriefFrame, write_to, read_from, BriefBytes, data_byte, made_byte}
-use Rattle.brief_text.specs.Trees.{no_more, BriefTail, stop_here, go_on, Made, header, packet_code, checksum, BriefItem, device}
-use Rattle.brief_text.specs.Trees.{byte, message, controller, interrupt, never_both}
+use Rattle.brief_text.specs.Trees.{no_more, BriefTail, stop_here, go_on, Made, header, packet_code, checksum, chosen, BriefItem, device}
+use Rattle.brief_text.specs.Trees.{byte, message, controller, extend, interrupt, never_both}
 use Rattle.brief_text.specs.Words.{known_number}
 
 -- ---- messages
@@ -20,6 +20,7 @@ abbrev pub knows_made : Draft → Made → Bool
 knows_made draft (header reads to) = is_known draft.devices to
 knows_made draft packet_code = true
 knows_made draft checksum = true
+knows_made draft (chosen choice) = true
 
 -- each device and each byte that is named has been declared
 abbrev mutual
@@ -40,10 +41,14 @@ abbrev mutual
   KnowsTail draft stop_here = Unit {0}
   KnowsTail draft (go_on frame) = KnowsFrame draft frame
 
--- how many of its bytes stand LO to HI times
+-- how many of its bytes stand LO to HI times, or are choices
 abbrev pub often_ranges : Times → ℕ
 often_ranges (times n) = 0
 often_ranges ranged = 1
+
+abbrev pub made_ranges : Made → ℕ
+made_ranges (chosen choice) = 1
+made_ranges made = 0
 
 abbrev mutual
   pub frame_ranges : BriefFrame → ℕ
@@ -52,7 +57,7 @@ abbrev mutual
 
   pub bytes_ranges : BriefBytes → ℕ
   bytes_ranges (data_byte bits often refused acked) = often_ranges often + tail_ranges refused + bytes_ranges acked
-  bytes_ranges (made_byte made refused acked) = tail_ranges refused + bytes_ranges acked
+  bytes_ranges (made_byte made refused acked) = made_ranges made + tail_ranges refused + bytes_ranges acked
   bytes_ranges (no_more tail) = tail_ranges tail
 
   pub tail_ranges : BriefTail → ℕ
@@ -82,18 +87,19 @@ pub record MessageFits (draft : Draft) (name : List ℕ) (range : Option Lengths
 
 -- ---- items
 
--- each name may be listed after these
-abbrev pub ListFits : Draft → List (List ℕ) → List (List ℕ) → Type 0
-ListFits draft before [] = Unit {0}
-ListFits draft before (name ∷ names) =
-    (listing_refusal draft (all_of draft before) name ≡ None) × ListFits draft (before ++ name ∷ []) names
+-- each name may be listed after these, of a controller that has some messages already
+abbrev pub ListFits : Draft → List (List ℕ) → List (List ℕ) → List (List ℕ) → Type 0
+ListFits draft has before [] = Unit {0}
+ListFits draft has before (name ∷ names) =
+    (listing_refusal draft has (all_of draft before) name ≡ None) × ListFits draft has (before ++ name ∷ []) names
 
 -- the item's names are new or known as they must be, and there is room for it
 abbrev pub Fits : Draft → BriefItem → Type 0
 Fits draft (device name address) = named_refusal draft.devices name ≡ None
 Fits draft (byte name bits) = named_refusal draft.bytes name ≡ None
 Fits draft (message name range frame) = MessageFits draft name range frame
-Fits draft (controller name messages) = (controller_refusal_of draft name ≡ None) × ListFits draft [] messages
+Fits draft (controller name messages) = (controller_refusal_of draft name ≡ None) × ListFits draft [] [] messages
+Fits draft (extend name messages) = (extend_refusal_of draft name ≡ None) × ListFits draft (listed_by draft name) [] messages
 Fits draft (interrupt name to) =
     (interrupt_refusal draft.plan name ≡ None) × (is_known draft.devices to ≡ true)
     × (is_some (known_number 0 (address_bits (address_said draft to))) ≡ true)

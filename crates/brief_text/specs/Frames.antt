@@ -16,11 +16,13 @@ use Rattle.brief_tokens.specs.declared.symbols.Sign.TheVariants as signs
 use Rattle.brief_text.specs.declared.syntax.Lengths.{Lengths}
 use Rattle.brief_text.specs.Drafts.{Draft}
 use Rattle.brief_text.specs.Judging.{range_refusal}
-use Rattle.brief_text.specs.Places.{Place, Reads, token_as, open_in, close_in, past, to_at, data_at}
+use Rattle.brief_text.specs.Places.{Place, Reads, Finds, token_as, open_in, close_in, past, to_at, data_at}
 use Rattle.brief_tokens.specs.Tokens.{Token, keyword, word, sign, Tokens, next, last}
+use Rattle.brief_tokens.specs.Tokens as tokens
 use Rattle.brief_text.specs.Trees.{Said, Times, times, ranged, BriefFrame, write_to, read_from, BriefBytes, data_byte, made_byte}
-use Rattle.brief_text.specs.Trees.{no_more, BriefTail, stop_here, go_on, Made, header, packet_code, checksum}
-use Rattle.brief_text.specs.Words.{Repetition, so_often, from_to, repetition_by, is_countable, is_range}
+use Rattle.brief_text.specs.Trees.{no_more, BriefTail, stop_here, go_on, Made, header, packet_code, checksum, chosen, Choice, span, all_but}
+use Rattle.brief_text.specs.Choices.{is_choice, numbers}
+use Rattle.brief_text.specs.Words.{known_byte_by, Repetition, so_often, from_to, repetition_by, is_countable, is_range}
 
 -- ---- the limits. What stands after the `else` of `any*16` stands in the message 16 times: in 16 copies. Room is how many
 -- bytes a path may still have, where it is longest. A range counts as its HI.
@@ -95,11 +97,13 @@ Frames = Form → Said Address → ℕ → Place → Reads BriefFrame
 abbrev pub Bytes : Type 0
 Bytes = Said Pattern → ℕ → Place → Reads BriefBytes
 
--- the first token of a byte that follows from others, and how the rest of the data bytes is read after it
+-- the first token of a byte that follows from others or is a choice, and how the rest of the data bytes is read after it
 pub data Opening : Type 0 where
   opens_header : (is_read : Bool) → Opening
   opens_code : Opening
   opens_checksum : Opening
+  opens_span : (least greatest : ℕ) → Opening
+  opens_but : Opening
 
 abbrev pub Mades : Type 0
 Mades = Opening → ℕ → Place → Reads BriefBytes
@@ -166,30 +170,81 @@ bytes_by draft bytes at = do
   found ← data_at draft at
   bytes found.0 found.1 found.2
 
--- `wr` or `rd` and to whom in parentheses, `pec`, or `sum`
+-- `wr` or `rd` and to whom in parentheses, `pec`, `sum`, a span, or `any but` and what is not chosen
 abbrev pub opening_in : Token → Option Opening
 opening_in (keyword keywords.Wr) = Some (opens_header false)
 opening_in (keyword keywords.Rd) = Some (opens_header true)
 opening_in (keyword keywords.Pec) = Some opens_code
 opening_in (keyword keywords.Sum) = Some opens_checksum
+opening_in (tokens.span least greatest) = Some (opens_span least greatest)
+opening_in (keyword keywords.Any) = Some opens_but
 opening_in token = None
 
+abbrev pub begins_but : Tokens → Bool
+begins_but (next (keyword keywords.But) line rest) = true
+begins_but tokens = false
+
+-- `any` alone is a data byte
 abbrev pub begins_made : Tokens → Bool
+begins_made (next (keyword keywords.Any) line rest) = begins_but rest
 begins_made (next token line rest) = is_some (opening_in token)
 begins_made (last ending line) = false
 
-abbrev pub made_at : Draft → Opening → Place → Reads Made
-made_at draft opens_code at = Ok (packet_code, at)
-made_at draft opens_checksum at = Ok (checksum, at)
-made_at draft (opens_header is_read) at = do
+-- a message has one choice or one range
+abbrev pub only_choice : ℕ → Place → Result Place PlanError
+only_choice line at = if is_some at.range then Err (Unexpected line) else Ok at
+
+-- a choice whose last token stands on this line: the message is a family
+abbrev pub family_by : Around → Choice → ℕ → Place → Result Place PlanError
+family_by around choice line at =
+    if is_choice choice then range_refusal around.draft around.name (numbers choice) line (record at { range = Some (numbers choice) })
+    else Err (BadCount line)
+
+-- a choice of one token is judged before its byte is counted
+abbrev pub judged : Around → Opening → ℕ → Place → Result Place PlanError
+judged around (opens_span least greatest) line at = only_choice line at >>= family_by around (span least greatest) line
+judged around opening line at = Ok at
+
+abbrev pub opening_at : Around → Place → Finds Opening
+opening_at around at = do
+  found ← token_as opening_in at
+  after ← judged around found.0 found.1 found.2
+  Ok (found.0, found.1, after)
+
+abbrev pub but_in : Token → Option (Unit {0})
+but_in (keyword keywords.But) = Some tt
+but_in token = None
+
+-- what is not chosen
+abbrev pub value_excepted : Option ℕ → Option Choice
+value_excepted (Some value) = Some (all_but value value)
+value_excepted None = None
+
+abbrev pub excepted_in : Token → Option Choice
+excepted_in (tokens.span least greatest) = Some (all_but least greatest)
+excepted_in (word bytes) = value_excepted (known_byte_by bytes)
+excepted_in token = None
+
+-- the rest of such a byte
+abbrev pub made_at : Around → Opening → Place → Reads Made
+made_at around opens_code at = Ok (packet_code, at)
+made_at around opens_checksum at = Ok (checksum, at)
+made_at around (opens_header is_read) at = do
   opened ← past open_in at
-  to ← to_at draft opened
+  to ← to_at around.draft opened
   closed ← past close_in to.2
   Ok (header is_read to.0, closed)
+made_at around (opens_span least greatest) at = Ok (chosen (span least greatest), at)
+made_at around opens_but at = do
+  but ← token_as but_in at
+  alone ← only_choice but.1 but.2
+  excepted ← token_as excepted_in alone
+  after ← family_by around excepted.0 excepted.1 excepted.2
+  Ok (chosen excepted.0, after)
 
-abbrev pub mades_by : Mades → Place → Reads BriefBytes
-mades_by mades at = do
-  found ← token_as opening_in at
+abbrev pub mades_by : Around → Mades → Place → Reads BriefBytes
+mades_by around mades at = do
+  found ← opening_at around at
   mades found.0 found.1 found.2
 
 abbrev pub last_by : Draft → Frames → Place → Reads BriefBytes
@@ -197,11 +252,11 @@ last_by draft frames at = do
   tail ← next_by draft frames at
   Ok (no_more tail.0, tail.1)
 
-abbrev pub payload_by : Draft → Frames → Bytes → Mades → Place → Reads BriefBytes
-payload_by draft frames bytes mades at =
-    if begins_data at.tokens then bytes_by draft bytes at
-    else if begins_made at.tokens then mades_by mades at
-    else last_by draft frames at
+abbrev pub payload_by : Around → Frames → Bytes → Mades → Place → Reads BriefBytes
+payload_by around frames bytes mades at =
+    if begins_made at.tokens then mades_by around mades at
+    else if begins_data at.tokens then bytes_by around.draft bytes at
+    else last_by around.draft frames at
 
 -- The rest of a frame after its address on this line, and the rest of the data bytes after the first token, where what stands
 -- before them has used so many bytes of the room, and where they stand in so many copies.
@@ -212,7 +267,7 @@ unfoldable mutual
   frame_in around (suc room) zero copies writes to line at = do
     node ← counted copies line at
     refused ← refused_by around.draft (frame_in around room 0 copies) node
-    acked ← payload_by around.draft (frame_in around room 0 copies) (byte_in around room 0 copies) (made_in around room 0 copies) refused.1
+    acked ← payload_by around (frame_in around room 0 copies) (byte_in around room 0 copies) (made_in around room 0 copies) refused.1
     Ok (write_to to refused.0 acked.0, acked.1)
   frame_in around (suc room) zero copies reads to line at = do
     node ← counted copies line at
@@ -228,7 +283,7 @@ unfoldable mutual
     node ← counted copies line at
     often ← often_at around room copies node
     refused ← refused_by around.draft (frame_in around room often.0.1 (copies * suc often.0.1)) often.1
-    acked ← payload_by around.draft (frame_in around room often.0.1 copies) (byte_in around room often.0.1 copies) (made_in around room often.0.1 copies) refused.1
+    acked ← payload_by around (frame_in around room often.0.1 copies) (byte_in around room often.0.1 copies) (made_in around room often.0.1 copies) refused.1
     Ok (data_byte bits often.0.0 refused.0 acked.0, acked.1)
 
   pub made_in : Around → ℕ → ℕ → ℕ → Opening → ℕ → Place → Reads BriefBytes
@@ -236,9 +291,9 @@ unfoldable mutual
   made_in around (suc room) (suc used) copies opening line at = made_in around room used copies opening line at
   made_in around (suc room) zero copies opening line at = do
     node ← counted copies line at
-    made ← made_at around.draft opening node
+    made ← made_at around opening node
     refused ← refused_by around.draft (frame_in around room 0 copies) made.1
-    acked ← payload_by around.draft (frame_in around room 0 copies) (byte_in around room 0 copies) (made_in around room 0 copies) refused.1
+    acked ← payload_by around (frame_in around room 0 copies) (byte_in around room 0 copies) (made_in around room 0 copies) refused.1
     Ok (made_byte made.0 refused.0 acked.0, acked.1)
 
 -- the frames of a message, where a path has so much room and they stand in so many copies

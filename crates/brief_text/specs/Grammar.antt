@@ -14,9 +14,10 @@ use Rattle.brief_tokens.specs.Heads.{opened}
 use Rattle.brief_tokens.specs.Tokens.{Token, keyword, word, sign, Tokens}
 use Rattle.brief_tokens.specs.Tokens as tokens
 use Rattle.brief_text.specs.Trees.{Said, spelled, named, Times, times, ranged, BriefFrame, write_to, read_from, BriefBytes}
-use Rattle.brief_text.specs.Trees.{data_byte, made_byte, no_more, BriefTail, stop_here, go_on, Made, header, packet_code, checksum}
-use Rattle.brief_text.specs.Trees.{BriefItem, device, byte, message, controller, interrupt, never_both}
-use Rattle.brief_text.specs.Words.{address_by, data_by, any_byte, repetition_by, so_often, from_to, is_countable, is_range, side_by}
+use Rattle.brief_text.specs.Trees.{data_byte, made_byte, no_more, BriefTail, stop_here, go_on, Made, header, packet_code, checksum, chosen, Choice, span, all_but}
+use Rattle.brief_text.specs.Trees.{BriefItem, device, byte, message, controller, extend, interrupt, never_both}
+use Rattle.brief_text.specs.Choices.{is_choice, numbers}
+use Rattle.brief_text.specs.Words.{known_byte_by, address_by, data_by, any_byte, repetition_by, so_often, from_to, is_countable, is_range, side_by}
 
 -- tokens from one place of a text up to another
 abbrev pub Phrase : Type 1
@@ -59,12 +60,25 @@ SpellsData (named name) from to = SpellsName name from to × (data_by name ≡ N
 abbrev pub SpellsCount : Count → Phrase
 SpellsCount count from to = (bytes : List ℕ) × one (word bytes) from to × WritesCount bytes count
 
--- a byte that follows from others
-abbrev pub SpellsMade : Made → Phrase
-SpellsMade (header false to) = one (keyword keywords.Wr) ▸ one (sign signs.Open) ▸ SpellsTo to ▸ one (sign signs.Close)
-SpellsMade (header true to) = one (keyword keywords.Rd) ▸ one (sign signs.Open) ▸ SpellsTo to ▸ one (sign signs.Close)
-SpellsMade packet_code = one (keyword keywords.Pec)
-SpellsMade checksum = one (keyword keywords.Sum)
+-- what follows `any but`
+abbrev pub SpellsExcepted : ℕ → ℕ → Phrase
+SpellsExcepted least greatest from to = one (tokens.span least greatest) from to ⊎ (SpellsAs known_byte_by least from to × (greatest ≡ least))
+
+abbrev pub SpellsValues : Choice → Phrase
+SpellsValues (span least greatest) = one (tokens.span least greatest)
+SpellsValues (all_but least greatest) = one (keyword keywords.Any) ▸ one (keyword keywords.But) ▸ SpellsExcepted least greatest
+
+-- a choice, in a message with the numbers of its blocks
+abbrev pub SpellsChoice : Option Lengths → Choice → Phrase
+SpellsChoice range choice from to = SpellsValues choice from to × (is_choice choice ≡ true) × (range ≡ Some (numbers choice))
+
+-- a byte that follows from others, or is a choice
+abbrev pub SpellsMade : Option Lengths → Made → Phrase
+SpellsMade range (header false to) = one (keyword keywords.Wr) ▸ one (sign signs.Open) ▸ SpellsTo to ▸ one (sign signs.Close)
+SpellsMade range (header true to) = one (keyword keywords.Rd) ▸ one (sign signs.Open) ▸ SpellsTo to ▸ one (sign signs.Close)
+SpellsMade range packet_code = one (keyword keywords.Pec)
+SpellsMade range checksum = one (keyword keywords.Sum)
+SpellsMade range (chosen choice) = SpellsChoice range choice
 
 -- how often a byte stands, in a message with this range
 abbrev pub SpellsOften : Option Lengths → Times → Phrase
@@ -87,7 +101,7 @@ abbrev mutual
   pub SpellsBytes : Option Lengths → BriefBytes → Phrase
   SpellsBytes range (data_byte bits often refused acked) =
       SpellsData bits ▸ SpellsOften range often ▸ SpellsRefused range refused ▸ SpellsBytes range acked
-  SpellsBytes range (made_byte made refused acked) = SpellsMade made ▸ SpellsRefused range refused ▸ SpellsBytes range acked
+  SpellsBytes range (made_byte made refused acked) = SpellsMade range made ▸ SpellsRefused range refused ▸ SpellsBytes range acked
   SpellsBytes range (no_more tail) = SpellsNext range tail
 
   -- what follows the last byte
@@ -116,6 +130,7 @@ SpellsItem letters (device name address) = one (keyword keywords.Device) ▸ Spe
 SpellsItem letters (byte name bits) = one (keyword keywords.Byte) ▸ SpellsName name ▸ SpellsAs data_by bits ▸ end
 SpellsItem letters (message name range frame) = one (keyword keywords.Message) ▸ SpellsName name ▸ SpellsFrame range frame ▸ end
 SpellsItem letters (controller name messages) = one (keyword keywords.Controller) ▸ SpellsName name ▸ SpellsNames messages ▸ end
+SpellsItem letters (extend name messages) = one (keyword keywords.Extend) ▸ SpellsName name ▸ SpellsNames messages ▸ end
 SpellsItem letters (interrupt name to) = one (keyword keywords.Interrupt) ▸ SpellsName name ▸ SpellsTo to ▸ end
 SpellsItem letters (never_both first second) =
     one (keyword keywords.Never) ▸ SpellsAs (side_by letters) first ▸ SpellsAs (side_by letters) second ▸ end

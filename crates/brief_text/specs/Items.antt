@@ -12,11 +12,11 @@ use Rattle.brief_tokens.specs.declared.symbols.Keyword.TheVariants as keywords
 use Rattle.brief_tokens.specs.declared.symbols.Sign.TheVariants as signs
 use Rattle.brief_text.specs.Drafts.{Draft, address_said, with_label}
 use Rattle.brief_text.specs.Frames.{frames_at}
-use Rattle.brief_text.specs.Judging.{named_refusal, message_refusal_of, controller_refusal_of, listing_refusal, all_of}
-use Rattle.brief_text.specs.Judging.{first_refusal, second_refusal}
+use Rattle.brief_text.specs.Judging.{named_refusal, message_refusal_of, controller_refusal_of, extend_refusal_of, listed_by}
+use Rattle.brief_text.specs.Judging.{listing_refusal, all_of, first_refusal, second_refusal}
 use Rattle.brief_text.specs.Places.{Place, Reads, token_as, name_in, name_at, end_in, past, to_at}
 use Rattle.brief_tokens.specs.Tokens.{Token, keyword, word, sign, Tokens, next, last}
-use Rattle.brief_text.specs.Trees.{Side, BriefItem, device, byte, message, controller, interrupt, never_both}
+use Rattle.brief_text.specs.Trees.{Side, BriefItem, device, byte, message, controller, extend, interrupt, never_both}
 use Rattle.brief_text.specs.Words.{address_by, data_by, known_number, side_by}
 
 -- `device` and then a name, an address and `;`
@@ -51,21 +51,28 @@ message_at draft at = do
   after ← past end_in frames.1
   Ok (message name.0 after.range frames.0, after)
 
--- further names of messages and families after these, and `;`
-abbrev pub listed_from : Draft → List (List ℕ) → Tokens → Place → Reads (List (List ℕ))
-listed_from draft before (next (sign signs.Semicolon) line rest) at = Ok (before, record at { tokens = rest })
-listed_from draft before (next token line rest) at = do
+-- further names of messages and families after these, and `;`, in the list of a controller that has some messages already
+abbrev pub listed_from : Draft → List (List ℕ) → List (List ℕ) → Tokens → Place → Reads (List (List ℕ))
+listed_from draft has before (next (sign signs.Semicolon) line rest) at = Ok (before, record at { tokens = rest })
+listed_from draft has before (next token line rest) at = do
   name ← or_refused (name_in token) (Unexpected line)
-  allowed ← unless_refused (listing_refusal draft (all_of draft before) name) line name
-  listed_from draft (before ++ allowed ∷ []) rest (record at { tokens = rest })
-listed_from draft before (last ending line) at = Err (ends_early ending line)
+  allowed ← unless_refused (listing_refusal draft has (all_of draft before) name) line name
+  listed_from draft has (before ++ allowed ∷ []) rest (record at { tokens = rest })
+listed_from draft has before (last ending line) at = Err (ends_early ending line)
 
 -- `controller` and then a name, names of messages and families, and `;`
 unfoldable pub controller_at : Draft → Place → Reads BriefItem
 controller_at draft at = do
   name ← name_at (controller_refusal_of draft) at
-  messages ← listed_from draft [] name.1.tokens name.1
+  messages ← listed_from draft [] [] name.1.tokens name.1
   Ok (controller name.0 messages.0, messages.1)
+
+-- `extend` and then the name of a controller, names of further messages and families, and `;`
+unfoldable pub extend_at : Draft → Place → Reads BriefItem
+extend_at draft at = do
+  name ← name_at (extend_refusal_of draft) at
+  messages ← listed_from draft (listed_by draft name.0) [] name.1.tokens name.1
+  Ok (extend name.0 messages.0, messages.1)
 
 -- `interrupt` and then a name, an address that is known in all bits, and `;`
 unfoldable pub interrupt_at : Draft → Place → Reads BriefItem
@@ -97,6 +104,7 @@ item_in letters (keyword keywords.Device) = Some device_at
 item_in letters (keyword keywords.Byte) = Some byte_at
 item_in letters (keyword keywords.Message) = Some message_at
 item_in letters (keyword keywords.Controller) = Some controller_at
+item_in letters (keyword keywords.Extend) = Some extend_at
 item_in letters (keyword keywords.Interrupt) = Some interrupt_at
 item_in letters (keyword keywords.Never) = Some (never_at letters)
 item_in letters token = None

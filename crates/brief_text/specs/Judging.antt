@@ -1,6 +1,6 @@
 -- What is refused of a name, of a range and of a label where it stands, by what the items before it make up.
 use Rattle.std.specs.Prelude.{◌≡◌, ℕ, ◌+◌, Bool, true, false, ◌&&◌, ◌||◌, not, nat_le, nat_lt, List, ◌++◌, length, map, Option}
-use Rattle.std.specs.Prelude.{Some, None, is_some, Result, Ok, Err, if◌then◌else◌}
+use Rattle.std.specs.Prelude.{Some, None, is_some, unwrap_or, [], Result, Ok, Err, if◌then◌else◌}
 use Rattle.std.specs.List.{flat_map, list_any, sum_by}
 use Rattle.std.specs.Map.{keys_of, lookup}
 use Rattle.std.specs.Str.{bytes_eq}
@@ -72,12 +72,31 @@ have_one_of listed names = list_any (λ name. list_any (λ other. bytes_eq other
 abbrev pub sendings : Draft → ℕ
 sendings draft = sum_by (λ c. length c.1) draft.controllers
 
--- a further name in the list of a controller, which has these messages already
-unfoldable pub listing_refusal : Draft → List (List ℕ) → List ℕ → Option BuildError
-listing_refusal draft listed name =
+-- a further name in the list of a controller, which has some messages already and is given these as well
+unfoldable pub listing_refusal : Draft → List (List ℕ) → List (List ℕ) → List ℕ → Option BuildError
+listing_refusal draft has given name =
     if not (is_message draft name) then Some Unknown
-    else if have_one_of listed (stands_for draft name) then Some Twice
-    else if nat_lt MOST_SENDINGS (sendings draft + length listed + length (stands_for draft name)) then Some TooMany
+    else if have_one_of has (stands_for draft name) || have_one_of given (stands_for draft name) then Some Twice
+    else if nat_lt MOST_SENDINGS (sendings draft + length given + length (stands_for draft name)) then Some TooMany
+    else None
+
+-- the messages that the controller with this name lists
+abbrev pub listed_by : Draft → List ℕ → List (List ℕ)
+listed_by draft name = unwrap_or (lookup (bytes_eq name) draft.controllers) []
+
+-- a label of the controller has been named
+abbrev pub is_labelled : Draft → List ℕ → Bool
+is_labelled draft name = list_any (λ (label : Side). bytes_eq label.controller name) draft.labels
+
+-- the `never` names the controller
+abbrev pub is_side_of : List ℕ → Side × Side → Bool
+is_side_of name never = bytes_eq never.0.controller name || bytes_eq never.1.controller name
+
+-- what adds to a controller: it stands before, and no `never` has named it or a label of it
+unfoldable pub extend_refusal_of : Draft → List ℕ → Option BuildError
+extend_refusal_of draft name =
+    if not (is_some (lookup (bytes_eq name) draft.controllers)) then Some Unknown
+    else if is_labelled draft name || list_any (is_side_of name) draft.nevers then Some Twice
     else None
 
 -- ---- `never`

@@ -1,6 +1,7 @@
 pub mod Words
 pub mod Trees
 pub mod Codes
+pub mod Choices
 pub mod Drafts
 pub mod Splitting
 pub mod Judging

@@ -3,6 +3,7 @@
 use Rattle.std.specs.Prelude.{◌≡◌, ℕ, ◌-◌, ◌*◌, suc, List, map, nat_lt, Result, Ok, Err, if◌then◌else◌}
 use Rattle.std.specs.Option.{option_map}
 use Rattle.message_tree.specs.Counts.{greatest_of}
+use Rattle.message_tree.specs.declared.bits.Pattern.{Pattern}
 use Rattle.plan_core.specs.BuilderContents.{builder_contents}
 use Rattle.plan_core.specs.NameBytes.{name_bytes}
 use Rattle.plan_text.specs.Places.{Refuses}
@@ -20,6 +21,8 @@ use Rattle.brief_text.specs.declared.syntax.DataSyntax.{DataSyntax}
 use Rattle.brief_text.specs.declared.syntax.DataSyntax.TheVariants.{Byte', Made', Last}
 use Rattle.brief_text.specs.declared.syntax.MadeSyntax.{MadeSyntax}
 use Rattle.brief_text.specs.declared.syntax.MadeSyntax.TheVariants as mades
+use Rattle.brief_text.specs.declared.syntax.Choice as syntax
+use Rattle.brief_text.specs.declared.syntax.Choice.TheVariants as choices
 use Rattle.brief_text.specs.declared.frames.MadeOpening.{MadeOpening}
 use Rattle.brief_text.specs.declared.frames.MadeOpening.TheVariants as openings
 use Rattle.brief_text.specs.declared.syntax.FrameSyntax.{FrameSyntax}
@@ -32,12 +35,12 @@ use Rattle.brief_text.specs.declared.syntax.TailSyntax.TheVariants.{Stop, Frames
 use Rattle.brief_text.specs.declared.syntax.Value.{Value}
 use Rattle.brief_text.specs.declared.syntax.Value.TheVariants as values
 use Rattle.brief_text.specs.Drafts.{Draft, with_item}
-use Rattle.brief_text.specs.Frames.{Around, Opening, opens_header, opens_code, opens_checksum, opening_in, count_at, counted, often_at, made_at, refused_by}
-use Rattle.brief_text.specs.Frames.{next_by, payload_by, frame_in, byte_in, made_in}
-use Rattle.brief_text.specs.Places.{Place, Reads, Finds, token_as, to_at, data_at}
+use Rattle.brief_text.specs.Frames.{Around, Opening, opens_header, opens_code, opens_checksum, opens_span, opens_but, opening_at, count_at, counted}
+use Rattle.brief_text.specs.Frames.{often_at, made_at, refused_by, next_by, payload_by, frame_in, byte_in, made_in}
+use Rattle.brief_text.specs.Places.{Place, Reads, Finds, to_at, data_at}
 use Rattle.brief_tokens.specs.Reading.{left, with_token}
 use Rattle.brief_text.specs.Trees.{Said, spelled, named, Times, times, ranged, BriefFrame, write_to, read_from, BriefBytes}
-use Rattle.brief_text.specs.Trees.{data_byte, made_byte, no_more, BriefTail, stop_here, go_on, Made, header, packet_code, checksum}
+use Rattle.brief_text.specs.Trees.{Choice, span, all_but, data_byte, made_byte, no_more, BriefTail, stop_here, go_on, Made, header, packet_code, checksum, chosen}
 use Rattle.brief_text.specs.Trees.{Side, BriefItem}
 
 -- ---- trees
@@ -46,15 +49,22 @@ abbrev pub said : {A : Type 0} → Value A → Said A
 said (values.Spelled value) = spelled value
 said (values.Named found) = named (name_bytes found.name)
 
+abbrev pub choice_of : syntax.Choice → Choice
+choice_of (choices.Span least greatest) = span least greatest
+choice_of (choices.AllBut least greatest) = all_but least greatest
+
 abbrev pub made_of : MadeSyntax → Made
 made_of (mades.Header reads to) = header reads (said to)
 made_of mades.PacketCode = packet_code
 made_of mades.Checksum = checksum
+made_of (mades.Chosen choice) = chosen (choice_of choice)
 
 abbrev pub opening_of : MadeOpening → Opening
 opening_of (openings.Header reads) = opens_header reads
 opening_of openings.PacketCode = opens_code
 opening_of openings.Checksum = opens_checksum
+opening_of (openings.Span least greatest) = opens_span least greatest
+opening_of openings.AllBut = opens_but
 
 abbrev pub times_of : Often → Times
 times_of (oftens.Times n) = times n
@@ -146,7 +156,7 @@ next_at around room copies = next_by around.draft (frame_in around room 0 copies
 
 abbrev pub payload_at : Around → ℕ → ℕ → Place → Reads BriefBytes
 payload_at around room copies =
-    payload_by around.draft (frame_in around room 0 copies) (byte_in around room 0 copies) (made_in around room 0 copies)
+    payload_by around (frame_in around room 0 copies) (byte_in around room 0 copies) (made_in around room 0 copies)
 
 -- after `write`
 abbrev pub write_at : Around → ℕ → ℕ → Place → Reads BriefFrame
@@ -167,22 +177,31 @@ read_at around room copies at = do
   after ← next_at around (node.0 - greatest_of count.0) copies refused.1
   Ok (read_from to.0 count.0 refused.0 after.0, after.1)
 
+-- a data byte after its first token on this line
+abbrev pub byte_after : Around → ℕ → ℕ → Said Pattern → ℕ → Place → Reads BriefBytes
+byte_after around room copies bits line at = do
+  node ← node_at room copies line at
+  often ← often_at around node.0 copies node.1
+  refused ← refused_at around (node.0 - often.0.1) (copies * suc often.0.1) often.1
+  acked ← payload_at around (node.0 - often.0.1) copies refused.1
+  Ok (data_byte bits often.0.0 refused.0 acked.0, acked.1)
+
 -- data bytes
 abbrev pub bytes_at : Around → ℕ → ℕ → Place → Reads BriefBytes
 bytes_at around room copies at = do
   found ← data_at around.draft at
-  node ← node_at room copies found.1 found.2
-  often ← often_at around node.0 copies node.1
-  refused ← refused_at around (node.0 - often.0.1) (copies * suc often.0.1) often.1
-  acked ← payload_at around (node.0 - often.0.1) copies refused.1
-  Ok (data_byte found.0 often.0.0 refused.0 acked.0, acked.1)
+  byte_after around room copies found.0 found.1 found.2
 
--- bytes that follow from others
-abbrev pub mades_at : Around → ℕ → ℕ → Place → Reads BriefBytes
-mades_at around room copies at = do
-  found ← token_as opening_in at
-  node ← node_at room copies found.1 found.2
-  made ← made_at around.draft found.0 node.1
+-- a byte that follows from others or is a choice, after its first token on this line, and what follows it
+abbrev pub made_after : Around → ℕ → ℕ → Opening → ℕ → Place → Reads BriefBytes
+made_after around room copies opening line at = do
+  node ← node_at room copies line at
+  made ← made_at around opening node.1
   refused ← refused_at around node.0 copies made.1
   acked ← payload_at around node.0 copies refused.1
   Ok (made_byte made.0 refused.0 acked.0, acked.1)
+
+abbrev pub mades_at : Around → ℕ → ℕ → Place → Reads BriefBytes
+mades_at around room copies at = do
+  found ← opening_at around at
+  made_after around room copies found.0 found.1 found.2

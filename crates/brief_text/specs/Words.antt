@@ -6,6 +6,7 @@ use Rattle.std.specs.Char.{digit_value}
 use Rattle.std.specs.List.{prefix_len}
 use Rattle.message_tree.specs.Bits.{bits_below}
 use Rattle.message_tree.specs.Codes.{code}
+use Rattle.message_tree.specs.Patterns.{pattern_bits}
 use Rattle.message_tree.specs.declared.bits.Address.{Address}
 use Rattle.message_tree.specs.declared.bits.Bit.{Bit}
 use Rattle.message_tree.specs.declared.bits.Bit.TheVariants.{Zero, One, Either}
@@ -77,6 +78,14 @@ known_number n [] = Some n
 known_number n (Zero ∷ bits) = known_number (n * 2) bits
 known_number n (One ∷ bits) = known_number (n * 2 + 1) bits
 known_number n (Either ∷ bits) = None
+
+-- the number of a data byte that a word spells out, where all its bits are known
+abbrev pub known_bits : Option Pattern → Option ℕ
+known_bits (Some bits) = known_number 0 (pattern_bits bits)
+known_bits None = None
+
+abbrev pub known_byte_by : List ℕ → Option ℕ
+known_byte_by bytes = known_bits (data_by bytes)
 
 -- ---- repetitions
 

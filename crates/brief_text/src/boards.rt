@@ -1,7 +1,7 @@
 // What the items of briefs make up so far: names are looked up in it, and what stands next is judged by it.
 
-ghost use Rattle.std.specs.Prelude.{◌≡◌, ◌<◌, ◌≤◌, ◌++◌, ◌∷◌, [], length, map, sum_by, is_some, IfOk, OnOk, None};
-ghost use Rattle.std.specs.List.{list_any};
+ghost use Rattle.std.specs.Prelude.{◌≡◌, ◌||◌, ◌<◌, ◌≤◌, ◌++◌, ◌∷◌, [], length, map, not, sum_by, is_some, IfOk, OnOk, None};
+ghost use Rattle.std.specs.List.{list_any, prefix_len};
 ghost use Rattle.std.specs.Option.{option_map};
 ghost use Rattle.plan_text.specs.Places.{Passes};
 ghost use Rattle.brief_text.specs.Places.{Place};
@@ -11,11 +11,11 @@ ghost use Rattle.plan_core.specs.BuilderContents.{builder_contents};
 ghost use Rattle.plan_core.specs.NameBytes.{name_bytes};
 ghost use Rattle.plan_core.specs.Building.{interrupt_refusal, with_interrupt};
 ghost use Rattle.plan_core.specs.declared.limits.TheConstants.{MOST_MESSAGES, MOST_SENDINGS};
-ghost use Rattle.brief_text.specs.Drafts.{no_items, address_said, bits_said, stands_for, with_label, is_new_label, same_side};
+ghost use Rattle.brief_text.specs.Drafts.{no_items, address_said, bits_said, stands_for, extended, with_label, is_new_label, same_side};
 ghost use Rattle.brief_text.specs.Splitting.{side_name};
 ghost use Rattle.brief_text.specs.Meanings.{is_twice};
 ghost use Rattle.brief_text.specs.Judging.{is_family, is_message, message_refusal_of, named_refusal, taken_names, is_taken};
-ghost use Rattle.brief_text.specs.Judging.{controller_refusal_of, listing_refusal, is_side};
+ghost use Rattle.brief_text.specs.Judging.{controller_refusal_of, extend_refusal_of, is_labelled, is_side_of, listed_by, listing_refusal, have_one_of, is_side};
 ghost use Rattle.brief_text.specs.Judging.{part_refusal, first_refusal, second_refusal, range_refusal, are_sides};
 
 use crate::lint::Uses;
@@ -282,22 +282,24 @@ impl Board {
         self.labels.iter().any(|label| label.is_named(name))
     }
 
-    /// Why a further message or family of this name is refused to a controller that lists these messages already;
-    /// `further` is what the name stands for.
+    /// Why a further message or family of this name is refused to a controller that has some messages already and is given
+    /// others as well; `further` is what the name stands for.
     pub(crate) fn listing_refusal(
         &self,
-        listed: &[Name],
+        has: &[Name],
+        given: &[Name],
         name: &Name,
         further: &[Name],
     ) -> Option<BuildError>
         requires { map name_bytes further.now ≡ stands_for (draft self.now) (name_bytes name.now) }
-        ensures { result ≡ listing_refusal (draft self.now) (map name_bytes listed.now) (name_bytes name.now) }
+        ensures { result ≡ listing_refusal (draft self.now) (map name_bytes has.now) (map name_bytes given.now)
+            (name_bytes name.now) }
     {
         if !self.is_message(name) {
             Some(BuildError::Unknown)
-        } else if have_one_of(listed, further) {
+        } else if either_has_one_of(has, given, further) {
             Some(BuildError::Twice)
-        } else if self.sendings + listed.len() + further.len() > MOST_SENDINGS as usize {
+        } else if self.sendings + given.len() + further.len() > MOST_SENDINGS as usize {
             Some(BuildError::TooMany)
         } else {
             None
@@ -329,6 +331,82 @@ impl Board {
         })?;
         self.sendings = sendings;
         Ok(())
+    }
+
+    /// Why further messages are refused to a controller of this name, whatever they are.
+    pub(crate) fn extend_refusal(&self, name: &Name) -> Option<BuildError>
+        ensures { result ≡ extend_refusal_of (draft self.now) (name_bytes name.now) }
+    {
+        if self.controller(name).is_none() {
+            Some(BuildError::Unknown)
+        } else if self.is_kept_apart(name) {
+            Some(BuildError::Twice)
+        } else {
+            None
+        }
+    }
+
+    // Whether a label of this controller has been named, or a `never` names it.
+    fn is_kept_apart(&self, name: &Name) -> bool
+        ensures { result ≡ (is_labelled (draft self.now) (name_bytes name.now) ||
+            list_any (is_side_of (name_bytes name.now)) (draft self.now).nevers) }
+    {
+        self.is_split(name) || self.has_never_of(name)
+    }
+
+    // Whether a `never` names this controller.
+    fn has_never_of(&self, name: &Name) -> bool
+        ensures { result ≡ list_any (λ it. is_side_of (name_bytes name.now) (sides it)) self.now.nevers.items }
+    {
+        self.nevers.iter().any(|never| never.is_side_of(name))
+    }
+
+    /// The messages that the controller of this name lists.
+    pub(crate) fn listed_by(&self, name: &Name) -> &[Name]
+        ensures { map name_bytes result.now ≡ listed_by (draft self.now) (name_bytes name.now) }
+    {
+        match self.controller(name) {
+            Some(controller) => controller.messages.as_slice(),
+            None => &[],
+        }
+    }
+
+    /// Adds messages to what the controller of this name lists. It has been judged where it stands that there is one, and
+    /// that there is room for them.
+    pub(crate) fn extend_controller(
+        &mut self,
+        name: &Name,
+        messages: Vec<Name>,
+    ) -> Result<(), AllocError>
+        ensures { OnOk result (draft self.new ≡ record (draft self.old) {
+          controllers = extended (name_bytes name.now) (map name_bytes messages.items) (draft self.old).controllers;
+        }) }
+    {
+        let sendings = self.sendings.saturating_add(messages.len());
+        if sendings > MOST_SENDINGS as usize {
+            return Err(AllocError);
+        }
+        let place = self.place_of(name);
+        let mut messages = messages;
+        match self.controllers.get_mut(place) {
+            Some(controller) => {
+                controller.messages.append(&mut messages)?;
+                self.sendings = sendings;
+                Ok(())
+            }
+            None => Err(AllocError),
+        }
+    }
+
+    // How many controllers stand before the one of this name.
+    fn place_of(&self, name: &Name) -> usize
+        ensures { result ≡ prefix_len (λ it. not (bytes_eq (name_bytes name.now) (name_bytes it.name)))
+            self.now.controllers.items }
+    {
+        self.controllers
+            .iter()
+            .take_while(|controller| *name != controller.name)
+            .count()
     }
 
     /// Adds an interrupt that is not refused.
@@ -449,6 +527,14 @@ impl Board {
     }
 }
 
+// Whether one of these names is listed in the first list or in the second.
+fn either_has_one_of(listed: &[Name], others: &[Name], names: &[Name]) -> bool
+    ensures { result ≡ (have_one_of (map name_bytes listed.now) (map name_bytes names.now) ||
+        have_one_of (map name_bytes others.now) (map name_bytes names.now)) }
+{
+    have_one_of(listed, names) || have_one_of(others, names)
+}
+
 // Whether one of these names is listed.
 pub(crate) fn have_one_of(listed: &[Name], names: &[Name]) -> bool
     ensures { result ≡
@@ -459,6 +545,13 @@ pub(crate) fn have_one_of(listed: &[Name], names: &[Name]) -> bool
 
 impl Never {
     ghost use Rattle.brief_text.specs.Standing.{side, sides};
+
+    // Whether it names this controller.
+    fn is_side_of(&self, controller: &Name) -> bool
+        ensures { result ≡ is_side_of (name_bytes controller.now) (sides self.now) }
+    {
+        self.first.controller == *controller || self.second.controller == *controller
+    }
 
     // Whether it names these two, in either order.
     fn is_of(&self, one: &Party, other: &Party) -> bool

@@ -5,7 +5,9 @@ ghost use Rattle.message_tree.specs.Counts.{greatest_of};
 ghost use Rattle.plan_core.specs.NameBytes.{name_bytes};
 ghost use Rattle.plan_core.specs.declared.limits.TheConstants.{MOST_BYTES, MOST_NODES};
 ghost use Rattle.plan_text.specs.Words.{number};
-ghost use Rattle.brief_text.specs.Frames.{Around, frames_at, count_at, often_at, often_by, further, opening_in, made_at};
+ghost use Rattle.brief_text.specs.Frames.{Around, frames_at, count_at, often_at, often_by, further, opening_in, opening_at};
+ghost use Rattle.brief_text.specs.Frames.{made_at, judged, only_choice, family_by, but_in, excepted_in};
+ghost use Rattle.brief_text.specs.Frames.{opens_but};
 ghost use Rattle.brief_text.specs.Words.{so_often, from_to, is_range};
 ghost use Rattle.brief_text.specs.Places.{past, close_in, token_as};
 ghost use Rattle.brief_text.specs.Standing.{brief_frame, brief_bytes, brief_tail};
@@ -13,11 +15,13 @@ ghost use Rattle.brief_text.specs.Standing.{brief_frame, brief_bytes, brief_tail
 use crate::boards::Board;
 use crate::numbers::Digits;
 use crate::sources::{Found, Source};
-use crate::syntax::{DataSyntax, FrameSyntax, Lengths, MadeSyntax, Often, TailSyntax};
+use crate::syntax::{
+    Choice, DataSyntax, FrameSyntax, Lengths, MadeSyntax, Often, TailSyntax, Value,
+};
 use crate::traces::Wanted;
-use crate::words::{Repetition, repetition_of};
+use crate::words::{Repetition, known_data, repetition_of};
 use brief_tokens::{Keyword, Sign, Symbol};
-use message_tree::Count;
+use message_tree::{Count, Pattern};
 use plan_core::Name;
 use plan_core::limits::{MOST_BYTES, MOST_NODES};
 use plan_text::PlanError;
@@ -48,17 +52,22 @@ struct Repeated {
     more: u32,
 }
 
-/// The first token of a byte that follows from others.
+/// The first token of a byte that follows from others or is a choice.
 #[derive(Clone, Copy)]
 pub(crate) enum MadeOpening {
     Header { reads: bool },
     PacketCode,
     Checksum,
+    /// A span.
+    Span { least: u8, greatest: u8 },
+    /// `any` before `but`.
+    AllBut,
 }
 
 impl Source<'_> {
     ghost use Rattle.brief_text.specs.Standing.{place, around, times_of, Gives, node_at, next_at, refused_at, payload_at};
-    ghost use Rattle.brief_text.specs.Standing.{write_at, read_at, bytes_at, mades_at, made_of, opening_of, FindsOut};
+    ghost use Rattle.brief_text.specs.Standing.{write_at, read_at, bytes_at, byte_after, mades_at, made_after, made_of, opening_of};
+    ghost use Rattle.brief_text.specs.Standing.{choice_of, said, FindsOut};
     ghost use Rattle.plan_text.specs.Places.{Passes};
 
     /// The frames of a whole message.
@@ -137,11 +146,12 @@ impl Source<'_> {
     {
         match self.token.symbol {
             Symbol::Word(_) => self.bytes(within, room),
-            Symbol::Keyword(Keyword::Any) => self.bytes(within, room),
-            Symbol::Keyword(Keyword::Wr) => self.made(within, room),
-            Symbol::Keyword(Keyword::Rd) => self.made(within, room),
-            Symbol::Keyword(Keyword::Pec) => self.made(within, room),
-            Symbol::Keyword(Keyword::Sum) => self.made(within, room),
+            Symbol::Keyword(Keyword::Any) => self.any(within, room),
+            Symbol::Keyword(Keyword::Wr) => self.mades(within, room),
+            Symbol::Keyword(Keyword::Rd) => self.mades(within, room),
+            Symbol::Keyword(Keyword::Pec) => self.mades(within, room),
+            Symbol::Keyword(Keyword::Sum) => self.mades(within, room),
+            Symbol::Span { .. } => self.mades(within, room),
             _ => Ok(DataSyntax::Last(self.following(within, room)?)),
         }
     }
@@ -152,6 +162,39 @@ impl Source<'_> {
         ensures { Gives brief_bytes result (bytes_at (around within.entry) room.bytes room.copies (place self.old)) (place self.new) }
     {
         let data = self.data(within.board)?;
+        self.byte(within, room, data)
+    }
+
+    // any, which is a data byte, or any but ..
+    #[cycle(message)]
+    fn any(&mut self, within: Within<'_>, room: Room) -> Result<DataSyntax, PlanError>
+        requires { self.old.token.symbol ≡ Symbol.Keyword Keyword.Any }
+        ensures { Gives brief_bytes result (payload_at (around within.entry) room.bytes room.copies (place self.old)) (place self.new) }
+    {
+        let line = self.next(Wanted::Data).line;
+        match self.token.symbol {
+            Symbol::Keyword(Keyword::But) => {
+                let value = MadeOpening::AllBut;
+                self.made(within, room, Found { value, line })
+            }
+            _ => {
+                let value = Value::Spelled(Pattern::new(0, 0));
+                self.byte(within, room, Found { value, line })
+            }
+        }
+    }
+
+    // The rest of a data byte after its first token: ( * NUMBER | * RANGE )? refused? ( data refused? )* frame*
+    #[cycle(message)]
+    fn byte(
+        &mut self,
+        within: Within<'_>,
+        room: Room,
+        data: Found<Value<Pattern>>,
+    ) -> Result<DataSyntax, PlanError>
+        ensures { Gives brief_bytes result (byte_after (around within.entry) room.bytes room.copies (said «data».value) «data».line
+            (place self.old)) (place self.new) }
+    {
         let first = self.node(room, data.line)?;
         let repeated = self.often(within, first)?;
         let below = first.bytes - repeated.more;
@@ -178,14 +221,28 @@ impl Source<'_> {
         })
     }
 
-    // made refused? ( data refused? )* frame*, where made is: wr ( to ) | rd ( to ) | pec | sum
+    // made refused? ( data refused? )* frame*, where made is: wr ( to ) | rd ( to ) | pec | sum | SPAN
     #[cycle(message)]
-    fn made(&mut self, within: Within<'_>, room: Room) -> Result<DataSyntax, PlanError>
+    fn mades(&mut self, within: Within<'_>, room: Room) -> Result<DataSyntax, PlanError>
         ensures { Gives brief_bytes result (mades_at (around within.entry) room.bytes room.copies (place self.old)) (place self.new) }
     {
-        let opening = self.opening()?;
+        let opening = self.opening(within)?;
+        self.made(within, room, opening)
+    }
+
+    // The rest of such a byte after its first token, and what follows it.
+    #[cycle(message)]
+    fn made(
+        &mut self,
+        within: Within<'_>,
+        room: Room,
+        opening: Found<MadeOpening>,
+    ) -> Result<DataSyntax, PlanError>
+        ensures { Gives brief_bytes result (made_after (around within.entry) room.bytes room.copies (opening_of opening.value)
+            opening.line (place self.old)) (place self.new) }
+    {
         let below = self.node(room, opening.line)?;
-        let made = self.made_after(within, opening.value)?;
+        let made = self.rest(within, opening.value)?;
         let refused = self.refused(within, below, true)?;
         let acked = self.payload(within, below)?;
         Ok(DataSyntax::Made {
@@ -195,8 +252,17 @@ impl Source<'_> {
         })
     }
 
-    // The first token of a byte that follows from others.
-    fn opening(&mut self) -> Result<Found<MadeOpening>, PlanError>
+    // The first token of such a byte, which is judged where it is a choice.
+    fn opening(&mut self, within: Within<'_>) -> Result<Found<MadeOpening>, PlanError>
+        ensures { FindsOut (λ it. opening_of it.value) (λ it. it.line) result (opening_at (around within.entry) (place self.old))
+            (place self.new) }
+    {
+        let opening = self.first()?;
+        self.judge(within, opening.value, opening.line)?;
+        Ok(opening)
+    }
+
+    fn first(&mut self) -> Result<Found<MadeOpening>, PlanError>
         ensures { FindsOut (λ it. opening_of it.value) (λ it. it.line) result (token_as opening_in (place self.old))
             (place self.new) }
     {
@@ -206,6 +272,8 @@ impl Source<'_> {
             Symbol::Keyword(Keyword::Rd) => MadeOpening::Header { reads: true },
             Symbol::Keyword(Keyword::Pec) => MadeOpening::PacketCode,
             Symbol::Keyword(Keyword::Sum) => MadeOpening::Checksum,
+            Symbol::Span { least, greatest } => MadeOpening::Span { least, greatest },
+            Symbol::Keyword(Keyword::Any) => MadeOpening::AllBut,
             _ => return Err(token.unexpected()),
         };
         Ok(Found {
@@ -214,13 +282,50 @@ impl Source<'_> {
         })
     }
 
-    // What follows that token.
-    fn made_after(
+    // A choice of one token, on this line, is judged before its byte is counted.
+    fn judge(
         &mut self,
         within: Within<'_>,
         opening: MadeOpening,
-    ) -> Result<MadeSyntax, PlanError>
-        ensures { Gives made_of result (made_at (around within.entry).draft (opening_of opening) (place self.old)) (place self.new) }
+        line: u64,
+    ) -> Result<(), PlanError>
+        ensures { Passes result (judged (around within.entry) (opening_of opening) line (place self.old)) (place self.new) }
+    {
+        match opening {
+            MadeOpening::Span { least, greatest } => {
+                self.only_choice(line)?;
+                self.family(within, Choice::Span { least, greatest }, line)
+            }
+            _ => Ok(()),
+        }
+    }
+
+    // A message has one choice or one range.
+    fn only_choice(&self, line: u64) -> Result<(), PlanError>
+        ensures { Passes result (only_choice line (place self.now)) (place self.now) }
+    {
+        if self.range.is_some() {
+            return Err(PlanError::Unexpected(line));
+        }
+        Ok(())
+    }
+
+    // A choice whose last token stands on this line makes a family.
+    fn family(&mut self, within: Within<'_>, choice: Choice, line: u64) -> Result<(), PlanError>
+        ensures { Passes result (family_by (around within.entry) (choice_of choice) line (place self.old)) (place self.new) }
+    {
+        if !choice.is_some() {
+            return Err(PlanError::BadCount(line));
+        }
+        let numbers = choice.numbers();
+        within.board.range_refusal(within.name, numbers, line)?;
+        self.range = Some(numbers);
+        Ok(())
+    }
+
+    // What follows the first token of such a byte.
+    fn rest(&mut self, within: Within<'_>, opening: MadeOpening) -> Result<MadeSyntax, PlanError>
+        ensures { Gives made_of result (made_at (around within.entry) (opening_of opening) (place self.old)) (place self.new) }
     {
         match opening {
             MadeOpening::Header { reads } => {
@@ -234,7 +339,53 @@ impl Source<'_> {
             }
             MadeOpening::PacketCode => Ok(MadeSyntax::PacketCode),
             MadeOpening::Checksum => Ok(MadeSyntax::Checksum),
+            MadeOpening::Span { least, greatest } => {
+                Ok(MadeSyntax::Chosen(Choice::Span { least, greatest }))
+            }
+            MadeOpening::AllBut => self.all_but(within),
         }
+    }
+
+    // but 0xLO..0xHI | but DATA
+    fn all_but(&mut self, within: Within<'_>) -> Result<MadeSyntax, PlanError>
+        ensures { Gives made_of result (made_at (around within.entry) opens_but (place self.old)) (place self.new) }
+    {
+        let line = self.but()?;
+        self.only_choice(line)?;
+        let choice = self.excepted()?;
+        self.family(within, choice.value, choice.line)?;
+        Ok(MadeSyntax::Chosen(choice.value))
+    }
+
+    // but, and its line
+    fn but(&mut self) -> Result<u64, PlanError>
+        ensures { FindsOut (λ it. tt) (λ it. it) result (token_as but_in (place self.old)) (place self.new) }
+    {
+        let token = self.next(Wanted::But);
+        match token.symbol {
+            Symbol::Keyword(Keyword::But) => Ok(token.line),
+            _ => Err(token.unexpected()),
+        }
+    }
+
+    // What is not chosen.
+    fn excepted(&mut self) -> Result<Found<Choice>, PlanError>
+        ensures { FindsOut (λ it. choice_of it.value) (λ it. it.line) result (token_as excepted_in (place self.old))
+            (place self.new) }
+    {
+        let token = self.next(Wanted::Excepted);
+        let (least, greatest) = match token.symbol {
+            Symbol::Span { least, greatest } => (least, greatest),
+            Symbol::Word(word) => match known_data(word) {
+                Some(byte) => (byte, byte),
+                None => return Err(token.unexpected()),
+            },
+            _ => return Err(token.unexpected()),
+        };
+        Ok(Found {
+            value: Choice::AllBut { least, greatest },
+            line: token.line,
+        })
     }
 
     // frame*

@@ -12,7 +12,7 @@ ghost use Rattle.brief_tokens.specs.Heads.{opened};
 ghost use Rattle.brief_tokens.specs.Reading.{left, letters_of};
 ghost use Rattle.plan_text.specs.Reader.{refused_at};
 ghost use Rattle.brief_text.specs.Briefs.{brief_read, text_read, items_in, is_end, Means, IsRefused};
-ghost use Rattle.brief_text.specs.Items.{device_at, byte_at, message_at, controller_at, listed_from, interrupt_at, never_at};
+ghost use Rattle.brief_text.specs.Items.{device_at, byte_at, message_at, controller_at, extend_at, listed_from, interrupt_at, never_at};
 ghost use Rattle.brief_text.specs.Items.{item_at};
 ghost use Rattle.brief_text.specs.Judging.{all_of};
 ghost use Rattle.brief_text.specs.Standing.{draft, place, adds, entries_of};
@@ -103,10 +103,7 @@ pub(crate) fn read_text(
     let tokens = head_of(text, spans)?;
     let letters = tokens.letters();
     let mut taken = mem::replace(spans, Spans::unasked(alloc));
-    taken.begin(Some(Head {
-        language: Language::Brief,
-        version: if letters == Letters::Board { 2 } else { 1 },
-    }));
+    taken.begin(Some(head_with(letters)));
     let mut source = Source::new(alloc, tokens, taken);
     match read_items(&mut source, board, text.len(), letters) {
         Ok(()) => {
@@ -118,6 +115,14 @@ pub(crate) fn read_text(
             *spans = source.into_all_spans();
             Err(refused)
         }
+    }
+}
+
+/// What a brief with these letters begins with.
+pub(crate) fn head_with(letters: Letters) -> Head {
+    Head {
+        language: Language::Brief,
+        version: if letters == Letters::Board { 2 } else { 1 },
     }
 }
 
@@ -152,9 +157,9 @@ fn read_items(
     Err(source.token.unexpected())
 }
 
-// An item. It answers whether there was one before the end of the text.
+/// Reads an item. It answers whether there was one before the end of the text.
 #[tactic(auto, unfolding(crate::specs::Items::item_at))]
-fn read_item(
+pub(crate) fn read_item(
     source: &mut Source<'_>,
     board: &mut Board,
     letters: Letters,
@@ -173,6 +178,7 @@ fn read_item(
         Symbol::Keyword(Keyword::Byte) => byte(source, board)?,
         Symbol::Keyword(Keyword::Message) => message(source, board)?,
         Symbol::Keyword(Keyword::Controller) => controller(source, board)?,
+        Symbol::Keyword(Keyword::Extend) => extend(source, board)?,
         Symbol::Keyword(Keyword::Interrupt) => interrupt(source, board)?,
         Symbol::Keyword(Keyword::Never) => never(source, board, letters)?,
         _ => return Err(token.unexpected()),
@@ -232,18 +238,30 @@ fn controller(source: &mut Source<'_>, board: &mut Board) -> Result<(), PlanErro
 {
     let named = source.name()?;
     allowed(board.controller_refusal(&named.name)?, named.line)?;
-    let messages = listed(source, board)?;
+    let messages = listed(source, board, &[])?;
     board.add_controller(named, messages)?;
     Ok(())
 }
 
-// NAME* ; with the messages that these names stand for.
-fn listed(source: &mut Source<'_>, board: &Board) -> Result<Vec<Name>, PlanError>
+// NAME NAME* ;
+#[tactic(auto, unfolding(crate::specs::Items::extend_at, crate::specs::Drafts::with_item))]
+fn extend(source: &mut Source<'_>, board: &mut Board) -> Result<(), PlanError>
+    ensures { Passes result (adds extend_at (draft board.old) (place source.old)) (draft board.new, place source.new) }
+{
+    let named = source.controller()?;
+    allowed(board.extend_refusal(&named.name), named.line)?;
+    let messages = listed(source, board, board.listed_by(&named.name))?;
+    board.extend_controller(&named.name, messages)?;
+    Ok(())
+}
+
+// NAME* ; with the messages that these names stand for, for a controller that has some already.
+fn listed(source: &mut Source<'_>, board: &Board, has: &[Name]) -> Result<Vec<Name>, PlanError>
     ensures read { IfOk result (λ it. (names : List (List ℕ)) ×
-        (listed_from (draft board.now) [] (place source.old).tokens (place source.old) ≡ Ok (names, place source.new)) ×
-        (map name_bytes it.items ≡ all_of (draft board.now) names)) }
-    ensures refused { IfErr result
-        (Refuses (listed_from (draft board.now) [] (place source.old).tokens (place source.old))) }
+        (listed_from (draft board.now) (map name_bytes has.now) [] (place source.old).tokens (place source.old) ≡
+        Ok (names, place source.new)) × (map name_bytes it.items ≡ all_of (draft board.now) names)) }
+    ensures refused { IfErr result (Refuses
+        (listed_from (draft board.now) (map name_bytes has.now) [] (place source.old).tokens (place source.old))) }
 {
     let mut messages = Vec::new(source.alloc);
     'names: loop {
@@ -254,7 +272,7 @@ fn listed(source: &mut Source<'_>, board: &Board) -> Result<Vec<Name>, PlanError
         let name = source.name_of(token)?;
         let further = board.named(&name)?;
         allowed(
-            board.listing_refusal(messages.as_slice(), &name, further.as_slice()),
+            board.listing_refusal(has, messages.as_slice(), &name, further.as_slice()),
             token.line,
         )?;
         push_all(source.alloc, &mut messages, further.as_slice())?;

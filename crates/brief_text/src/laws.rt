@@ -1,6 +1,9 @@
 // What holds of every text of briefs. A law does nothing: its contract is the theorem.
 
-ghost use Rattle.std.specs.Prelude.{◌≡◌, ◌⊎◌, ℕ, List, Ok, Err};
+ghost use Rattle.std.specs.Prelude.{◌≡◌, ◌<◌, ◌≤◌, ◌⊎◌, ℕ, List, length, true, Ok, Err};
+ghost use Rattle.std.specs.List.{count_by};
+ghost use Rattle.brief_text.specs.Choices.{Block, blocks, allows, is_choice, holds, Cuts, AreAscending};
+ghost use Rattle.brief_text.specs.Trees.{Choice};
 ghost use Rattle.plan_core.specs.Contents.{Contents};
 ghost use Rattle.plan_text.specs.declared.errors.PlanError.{PlanError};
 ghost use Rattle.brief_text.specs.Briefs.{text_read, Means};
@@ -31,4 +34,15 @@ pub fn briefs_mean_what_they_say()
     ensures said { (text : List ℕ) (plan : Contents) → Means text plan
         → (draft : Draft) × Says text no_items draft × (plan ≡ plan_meant draft) }
     ensures meant { (text : List ℕ) (draft : Draft) → Says text no_items draft → Means text (plan_meant draft) }
+{}
+
+/// The blocks of a choice have its values and no others, each value in one of them. They stand in ascending order, and no
+/// fewer blocks have the same values.
+pub fn choices_are_cut_into_the_fewest_blocks()
+    ensures cut { (choice : Choice) → Cuts choice (blocks choice) }
+    ensures once { (choice : Choice) (value : ℕ) → value < 256 → allows choice value ≡ true
+        → count_by (holds value) (blocks choice) ≡ 1 }
+    ensures ascending { (choice : Choice) → AreAscending (blocks choice) }
+    ensures fewest { (choice : Choice) (others : List Block) → is_choice choice ≡ true → Cuts choice others
+        → length (blocks choice) ≤ length others }
 {}

@@ -7,11 +7,13 @@
 //! judged by it. `meanings` writes the tree of a message out, `splitting` splits
 //! controllers by labels. `specs/Briefs.antt` and the files that it stands on define what a brief means, and each function
 //! that reads is proved equal to its rule there. `laws` says that a text is read exactly where the grammar spells items
-//! that fit. Where a brief is refused stands in `traces`.
+//! that fit. Where a brief is refused stands in `traces`. `slips` has what else is
+//! wrong in briefs that are refused, for people: `passing` says where the next item begins, and `passed` which names are then known.
 #![tactic(auto)]
 
 mod boards;
 mod briefs;
+mod choices;
 mod codes;
 mod frames;
 mod items;
@@ -20,6 +22,9 @@ mod lint;
 mod meanings;
 mod naming;
 mod numbers;
+mod passed;
+mod passing;
+mod slips;
 mod sources;
 mod splitting;
 mod syntax;
@@ -30,4 +35,5 @@ pub use briefs::Briefs;
 pub use items::{expand_brief, expand_brief_at};
 pub use meanings::member_text;
 pub use plan_text::PlanError as BriefError;
+pub use slips::{Slip, Slips, slips_in};
 pub use syntax::Lengths;

@@ -211,8 +211,8 @@ impl Board {
                 refused,
                 acked,
             } => {
-                let bits = self.made_bits(made, path);
-                let path = self.after_made(made, path);
+                let bits = self.made_bits(n, made, path);
+                let path = made.after(path, &bits);
                 let acked = self.data(n, acked, path)?;
                 let refused = self.tail(n, refused, path)?;
                 Ok(Payload::Byte {
@@ -238,23 +238,28 @@ impl Board {
         }
     }
 
-    // A byte that follows from others.
-    fn made_bits(&self, made: &MadeSyntax, path: Path) -> Pattern
-        ensures { result ≡ made_bits (draft self.now) (made_of made.now) path }
+    // A byte that follows from others, or is a choice.
+    fn made_bits(&self, n: u32, made: &MadeSyntax, path: Path) -> Pattern
+        ensures { result ≡ made_bits (draft self.now) n (made_of made.now) path }
     {
         match made {
             MadeSyntax::Header { reads, to } => header_bits(*reads, &self.address(to)),
             MadeSyntax::PacketCode => path.packet_code(),
             MadeSyntax::Checksum => path.checksum(),
+            MadeSyntax::Chosen(choice) => choice.bits(n),
         }
     }
+}
 
-    // The path after it.
-    fn after_made(&self, made: &MadeSyntax, path: Path) -> Path
-        ensures { result ≡ after_made (draft self.now) (made_of made.now) path }
+impl MadeSyntax {
+    ghost use Rattle.brief_text.specs.Standing.{made_of};
+
+    // The path after this byte, of these bits.
+    fn after(&self, path: Path, bits: &Pattern) -> Path
+        ensures { result ≡ after_made (made_of self.now) path bits.now }
     {
-        let after = path.after(&self.made_bits(made, path));
-        match made {
+        let after = path.after(bits);
+        match self {
             MadeSyntax::Checksum => after.summed(),
             _ => after,
         }

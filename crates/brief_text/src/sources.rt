@@ -117,6 +117,19 @@ impl<'a> Source<'a> {
         })
     }
 
+    /// The NAME of a controller
+    pub(crate) fn controller(&mut self) -> Result<NameFound, PlanError>
+        ensures { FindsOut (λ it. name_bytes it.name) (λ it. it.line) result (token_as name_in (place self.old))
+            (place self.new) }
+    {
+        let token = self.next(Wanted::Controller);
+        let name = self.name_of(token)?;
+        Ok(NameFound {
+            name,
+            line: token.line,
+        })
+    }
+
     /// The NAME that this token is.
     pub(crate) fn name_of(&self, token: Token<'_>) -> Result<Name, PlanError>
         ensures { (after : Place) → FindsOut name_bytes (λ it. token.entry.line) result

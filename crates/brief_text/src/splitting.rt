@@ -119,8 +119,8 @@ impl Board {
         }
     }
 
-    // Whether a label of this controller is named.
-    fn is_split(&self, controller: &Name) -> bool
+    /// Whether a label of this controller is named.
+    pub(crate) fn is_split(&self, controller: &Name) -> bool
         ensures { result ≡
             list_any (λ it. bytes_eq (side it).controller (name_bytes controller.now)) self.now.labels.items }
     {

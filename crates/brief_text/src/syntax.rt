@@ -73,7 +73,7 @@ pub(crate) enum DataSyntax {
         refused: TailSyntax,
         acked: Box<DataSyntax>,
     },
-    /// A byte that follows from others.
+    /// A byte that follows from others, or is a choice.
     Made {
         made: MadeSyntax,
         /// Where the byte is not acknowledged.
@@ -84,7 +84,16 @@ pub(crate) enum DataSyntax {
     Last(TailSyntax),
 }
 
-/// A byte that follows from others.
+/// What value a byte has.
+#[derive(Clone, Copy)]
+pub(crate) enum Choice {
+    /// One from the first to the second.
+    Span { least: u8, greatest: u8 },
+    /// Any but these.
+    AllBut { least: u8, greatest: u8 },
+}
+
+/// A byte that follows from others, or is a choice.
 #[derive(Drop)]
 pub(crate) enum MadeSyntax {
     /// `wr(..)` or `rd(..)`: the first byte of a frame to this address.
@@ -93,6 +102,8 @@ pub(crate) enum MadeSyntax {
     PacketCode,
     /// `sum`: the checksum.
     Checksum,
+    /// `0x02..0xFF` or `any but 0x01`.
+    Chosen(Choice),
 }
 
 /// A STOP, or a repeated START and further frames.

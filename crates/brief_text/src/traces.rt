@@ -11,6 +11,7 @@ use plan_text::{Expected, PlanError, Refused};
 pub(crate) enum Wanted {
     Item,
     Name,
+    Controller,
     Sending,
     Party,
     Address,
@@ -20,10 +21,14 @@ pub(crate) enum Wanted {
     Target,
     Count,
     Data,
-    /// A byte that follows from others, and the parentheses of its address.
+    /// A byte that follows from others or is a choice.
     Made,
+    /// The parentheses of its address.
     OpenAddress,
     CloseAddress,
+    /// What follows its `any`, and what is not chosen.
+    But,
+    Excepted,
     Star,
     Times { ranges: bool },
     Else,
@@ -95,6 +100,7 @@ impl Trace {
         match self.wanted {
             Wanted::Item => Expected::BriefItem,
             Wanted::Name => Expected::Name(self.item),
+            Wanted::Controller => Expected::Controller,
             Wanted::Sending => Expected::Sending,
             Wanted::Party => Expected::Party,
             Wanted::Address => Expected::BriefAddress,
@@ -109,7 +115,10 @@ impl Trace {
             Wanted::Star | Wanted::Else => Expected::Semicolon,
             Wanted::OpenAddress => Expected::Bracket { opens: true },
             Wanted::CloseAddress => Expected::Bracket { opens: false },
-            Wanted::Data | Wanted::Made | Wanted::Close { .. } | Wanted::End => self.further(),
+            Wanted::Excepted => Expected::BriefByte,
+            Wanted::Data | Wanted::Made | Wanted::But | Wanted::Close { .. } | Wanted::End => {
+                self.further()
+            }
         }
     }
 
@@ -118,7 +127,7 @@ impl Trace {
         let (times, refusal, bytes) = match self.before {
             Wanted::Target | Wanted::Times { .. } => (false, true, true),
             Wanted::Data => (true, true, true),
-            Wanted::Made | Wanted::CloseAddress => (false, true, true),
+            Wanted::Made | Wanted::CloseAddress | Wanted::Excepted => (false, true, true),
             Wanted::Count => (false, true, false),
             Wanted::Refusal { bytes } | Wanted::Close { bytes } => (false, false, bytes),
             _ => return Expected::Semicolon,

@@ -9,7 +9,7 @@ ghost use Rattle.plan_text.specs.Symbols.{bit_symbol};
 ghost use Rattle.plan_text.specs.Words.{around_dots};
 ghost use Rattle.brief_text.specs.Reading.{repetition_said};
 ghost use Rattle.brief_text.specs.Words.{data_by, address_by, digit_bits, hex_bits, known_number, repetition_by, range_by};
-ghost use Rattle.brief_text.specs.Words.{around_slash, is_no_slash};
+ghost use Rattle.brief_text.specs.Words.{around_slash, is_no_slash, known_byte_by};
 
 use crate::numbers::{Digits, digits_of};
 use message_tree::{Address, Bit, Pattern};
@@ -71,6 +71,14 @@ pub(crate) fn known_byte(bits: &Pattern) -> Option<u8>
         };
     }
     Some(number)
+}
+
+/// The number of the data byte that a word spells out, where all its bits are known.
+pub(crate) fn known_data(word: &[u8]) -> Option<u8>
+    ensures { result ≡ known_byte_by word.now }
+{
+    let bits = data(word)?;
+    known_byte(&bits)
 }
 
 /// The symbol of a bit in a plan text.

@@ -1,1 +1,2 @@
 pub mod TokenLemmas
+pub mod HeadLemmas

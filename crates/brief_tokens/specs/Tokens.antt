@@ -1,6 +1,7 @@
 -- The tokens of a brief: its lexemes, each with its line, with keywords told from other words. The second version of briefs has
 -- keywords that are words in the first, and strings.
-use Rattle.std.specs.Prelude.{ℕ, ◌-◌, ◌==◌, List, [], ◌∷◌, length, take, Option, Some, None, codes, if◌then◌else◌}
+use Rattle.std.specs.Prelude.{ℕ, ◌+◌, ◌*◌, ◌-◌, Bool, ◌&&◌, ◌==◌, nat_lt, List, [], ◌∷◌, ◌++◌, length, take, drop, Option, Some, None, codes, if◌then◌else◌}
+use Rattle.std.specs.Char.{digit_value}
 use Rattle.std.specs.Str.{bytes_eq}
 use Rattle.message_tree.specs.Codes.{code}
 use Rattle.lexer.specs.Lexemes.{Lexeme, Lexemes, Ending, briefs, boards, lexemes_of}
@@ -14,12 +15,14 @@ use Rattle.brief_tokens.specs.declared.symbols.Keyword.TheVariants.{With, Group,
 use Rattle.brief_tokens.specs.declared.symbols.Sign.{Sign}
 use Rattle.brief_tokens.specs.declared.symbols.Sign.TheVariants.{Semicolon, Open, Close, Star}
 
--- a word that the language has in fixed places, any other word, one of `;`, `(`, `)` and `*`, or what stands in a string
+-- a word that the language has in fixed places, any other word, one of `;`, `(`, `)` and `*`, what stands in a string, or the
+-- ends of a span
 pub data Token : Type 0 where
   keyword : (k : Keyword) → Token
   word : (bytes : List ℕ) → Token
   sign : (s : Sign) → Token
   quoted : (bytes : List ℕ) → Token
+  span : (least greatest : ℕ) → Token
 
 -- tokens with their lines, and what they end with
 pub data Tokens : Type 0 where
@@ -89,9 +92,28 @@ abbrev pub string_of : List ℕ → Option (List ℕ)
 string_of [] = None
 string_of (first ∷ rest) = if first == code "\"" then Some (take (length rest - 1) rest) else None
 
+-- the number of two digits in base 16
+abbrev pub hex_number : ℕ → ℕ → Option ℕ
+hex_number high low =
+    if nat_lt (digit_value high) 16 && nat_lt (digit_value low) 16 then Some (digit_value high * 16 + digit_value low) else None
+
+abbrev pub both_ends : Option ℕ → Option ℕ → Option (ℕ × ℕ)
+both_ends (Some least) (Some greatest) = Some (least, greatest)
+both_ends least greatest = None
+
+-- LO and HI of `0xLO..0xHI`
+abbrev pub span_of : List ℕ → Option (ℕ × ℕ)
+span_of (a ∷ b ∷ c ∷ d ∷ e ∷ f ∷ g ∷ h ∷ i ∷ j ∷ []) =
+    if bytes_eq (a ∷ b ∷ []) (codes "0x") && bytes_eq (e ∷ f ∷ g ∷ h ∷ []) (codes "..0x") then both_ends (hex_number c d) (hex_number i j) else None
+span_of bytes = None
+
+abbrev pub plain_token_by : Option (ℕ × ℕ) → List ℕ → Token
+plain_token_by (Some ends) bytes = span ends.0 ends.1
+plain_token_by None bytes = token_by (board_keyword_of bytes) bytes
+
 abbrev pub board_token_by : Option (List ℕ) → List ℕ → Token
 board_token_by (Some text) bytes = quoted text
-board_token_by None bytes = token_by (board_keyword_of bytes) bytes
+board_token_by None bytes = plain_token_by (span_of bytes) bytes
 
 unfoldable pub board_token_of_word : List ℕ → Token
 board_token_of_word bytes = board_token_by (string_of bytes) bytes

@@ -2,7 +2,7 @@
 
 ghost use Rattle.std.specs.Prelude.{◌≡◌, Some, true, false};
 ghost use Rattle.brief_tokens.specs.Tokens.{keyword_of, token_of_word, sign_of};
-ghost use Rattle.brief_tokens.specs.Tokens.{board_keyword_of, further_keyword_of, board_token_of_word};
+ghost use Rattle.brief_tokens.specs.Tokens.{board_keyword_of, further_keyword_of, board_token_of_word, span_of, hex_number};
 ghost use Rattle.brief_tokens.specs.Reading.{token_of_symbol};
 ghost use Rattle.lexer.specs.Lexemes as lexemes;
 
@@ -56,6 +56,8 @@ pub enum Symbol<'a> {
     Sign(Sign),
     /// What stands between the quotes of a string.
     Quoted(&'a [u8]),
+    /// The ends of a span.
+    Span { least: u8, greatest: u8 },
     /// An ASCII character that belongs to no token.
     Stray,
     /// A byte of 128 or more, where its text may not have one.
@@ -104,16 +106,19 @@ impl<'a> Token<'a> {
             Symbol::Word(word) => Some(Part::Word(word)),
             Symbol::Sign(Sign::Semicolon) => Some(Part::End),
             Symbol::Sign(Sign::Star) => Some(Part::Star),
-            Symbol::Sign(Sign::Open | Sign::Close) => Some(Part::Other),
-            Symbol::Quoted(_) => Some(Part::Other),
+            // (an address follows it, or a frame, which begins with its direction)
+            Symbol::Sign(Sign::Open) => Some(Part::Direction),
+            Symbol::Sign(Sign::Close) => Some(Part::Other),
+            Symbol::Quoted(_) | Symbol::Span { .. } => Some(Part::Other),
             Symbol::Stray | Symbol::Foreign | Symbol::End => None,
         }
     }
 
-    /// What an item that begins with this token gives a name to.
+    /// What the first name is of in an item that begins with this token.
     pub fn kind(&self) -> Option<Kind> {
         match self.part() {
             Some(Part::Item(ItemKind::Gives(kind))) => Some(kind),
+            Some(Part::Item(ItemKind::Extends)) => Some(Kind::Controller),
             _ => None,
         }
     }
@@ -153,11 +158,12 @@ fn part_of_keyword(keyword: Keyword) -> Part<'static> {
         Keyword::Byte => Part::Item(ItemKind::Gives(Kind::Byte)),
         Keyword::Message => Part::Item(ItemKind::Gives(Kind::Message)),
         Keyword::Controller => Part::Item(ItemKind::Gives(Kind::Controller)),
+        Keyword::Extend => Part::Item(ItemKind::Extends),
         Keyword::Interrupt => Part::Item(ItemKind::Gives(Kind::Interrupt)),
         Keyword::Never => Part::Item(ItemKind::Never),
         Keyword::Write | Keyword::Read => Part::Direction,
         Keyword::Brief | Keyword::Any | Keyword::Else | Keyword::Stop => Part::Other,
-        Keyword::With | Keyword::Group | Keyword::Extend | Keyword::But => Part::Other,
+        Keyword::With | Keyword::Group | Keyword::But => Part::Other,
         Keyword::Wr | Keyword::Rd | Keyword::Pec | Keyword::Sum => Part::Other,
     }
 }
@@ -181,10 +187,36 @@ fn board_symbol(word: &[u8]) -> Symbol<'_>
     if let [b'"', rest @ ..] = word {
         return Symbol::Quoted(&rest[..rest.len().saturating_sub(1)]);
     }
+    if let Some((least, greatest)) = span_of(word) {
+        return Symbol::Span { least, greatest };
+    }
     match board_keyword_of(word) {
         Some(keyword) => Symbol::Keyword(keyword),
         None => Symbol::Word(word),
     }
+}
+
+// The ends of `0xLO..0xHI`.
+fn span_of(word: &[u8]) -> Option<(u8, u8)>
+    ensures { result ≡ span_of word.now }
+{
+    match word {
+        [b'0', b'x', c, d, b'.', b'.', b'0', b'x', i, j] => {
+            let least = hex_number(*c, *d)?;
+            let greatest = hex_number(*i, *j)?;
+            Some((least, greatest))
+        }
+        _ => None,
+    }
+}
+
+// The number of two digits in base 16.
+fn hex_number(high: u8, low: u8) -> Option<u8>
+    ensures { result ≡ hex_number high low }
+{
+    let high = (high as char).to_digit(16)?;
+    let low = (low as char).to_digit(16)?;
+    Some((high * 16 + low) as u8)
 }
 
 fn board_keyword_of(word: &[u8]) -> Option<Keyword>

@@ -71,6 +71,8 @@ const NOT_IN_PLACE: Fault = "'--in-place' wants a file, and standard input is no
 
 const NOT_BOTH: Fault = "the argument '--in-place' cannot be used with '--check'";
 
+const NOT_SEVERAL: Fault = "several files go with '--check' alone";
+
 const INPUT_TWICE: Fault = "standard input can be one of the files, and not two";
 
 const INPUT_OF_EDITOR: Fault = "standard input is the editor's, and none of the files";
@@ -178,11 +180,12 @@ fn asked_of<'a>(matches: &ArgMatches<'a>) -> Result<(Request<'a>, Manner), Fault
     Ok((request, manner_of(matches)))
 }
 
-// The further files of the brief: words after the first one, or those of an option.
+// The further files of the brief, or of those that are laid out: words after the first one, or those of an option.
 fn further_of<'a>(alloc: Global, matches: &ArgMatches<'a>) -> Result<Vec<&'a str>, AllocError> {
     let mut further = Vec::new(alloc);
     if let Some((_, matches)) = matches.subcommand() {
         push_given(&mut further, matches, "BRIEF", 1)?;
+        push_given(&mut further, matches, "FILE", 1)?;
         push_given(&mut further, matches, "with", 0)?;
     }
     Ok(further)
@@ -313,6 +316,7 @@ fn layout_of<'a>(matches: &ArgMatches<'a>) -> Result<Request<'a>, Fault> {
     let file = word(matches, "FILE");
     let layout = match (matches.get_flag("in-place"), matches.get_flag("check")) {
         (true, true) => return Err(NOT_BOTH),
+        (_, false) if are_several(matches, "FILE") => return Err(NOT_SEVERAL),
         (true, false) if is_input(file) => return Err(NOT_IN_PLACE),
         (true, false) => Layout::InPlace,
         (false, true) => Layout::Compared,
@@ -323,6 +327,13 @@ fn layout_of<'a>(matches: &ArgMatches<'a>) -> Result<Request<'a>, Fault> {
         rewriting: Rewriting::Format(layout),
         output: None,
     })
+}
+
+fn are_several(matches: &ArgMatches<'_>, name: &str) -> bool {
+    match matches.get_strs(name) {
+        Some(given) => given.len() > 1,
+        None => false,
+    }
 }
 
 // The options of what reads a dump, where they go together.
@@ -453,7 +464,9 @@ fn are_bits(answers: &str) -> bool {
 }
 
 // The arguments that name files to be read.
-const READ: [&str; 7] = ["PLAN", "BRIEF", "with", "CERT", "VCD", "capture", "names"];
+const READ: [&str; 8] = [
+    "PLAN", "BRIEF", "FILE", "with", "CERT", "VCD", "capture", "names",
+];
 
 // Among all files that a run reads. Starters may stand in the place of a certificate.
 fn refuse_input_twice(matches: &ArgMatches<'_>) -> Result<(), Fault> {

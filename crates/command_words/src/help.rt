@@ -396,9 +396,10 @@ right: only P1, P2 and a character that belongs to no word (P3) are refused.
 
 By itself it writes to standard output. '--in-place' writes the file that it
 read, whole or not at all, and only where it changes. '--check' writes the line
-from which on it would change, for the checks of a team.
+from which on it would change, for the checks of a team. It takes several files,
+and looks at those too that the heads of briefs name.
 
-Exit status: 0 written, or nothing to change, 1 '--check' would change it,
+Exit status: 0 written, or nothing to change, 1 '--check' would change some,
 2 refused.";
 
 pub const AFTER_LSP_HELP: &str = "\

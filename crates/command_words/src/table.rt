@@ -290,7 +290,7 @@ const LAYOUT: Entry = Entry {
     about: "Lay out a plan or a brief, with its comments",
     usage: None,
     after_help: AFTER_FORMAT_HELP,
-    arguments: &[TEXT, IN_PLACE, LAID_OUT],
+    arguments: &[TEXT_FILES, IN_PLACE, LAID_OUT],
 };
 
 const LSP: Entry = Entry {
@@ -311,7 +311,7 @@ const PLAN_TEXT: Argument = Argument::Word {
     help: "The file with the plan; - is standard input",
 };
 
-const TEXT: Argument = Argument::Word {
+const TEXT_FILES: Argument = Argument::Words {
     id: "FILE",
     help: "The file with the plan or the brief; - is standard input",
 };
@@ -323,7 +323,7 @@ const IN_PLACE: Argument = Argument::Flag {
 
 const LAID_OUT: Argument = Argument::Flag {
     id: "check",
-    help: "Say where FILE would change, with status 1",
+    help: "Say where files would change, with status 1",
 };
 
 const BRIEF_FILES: Argument = Argument::Words {

@@ -46,8 +46,11 @@ fn span_of(words: PlanWords<'_>, oddity: Oddity<'_>, items: &Items<'_>, texts: &
         | Oddity::ReservedAddress(device)
         | Oddity::UnusedDevice(device) => items.named(Kind::Device, device.name.as_str()),
         Oddity::UnusedByte(byte) => items.named(Kind::Byte, byte.name.as_str()),
-        Oddity::Unsent { first, .. } => items.named(Kind::Message, words.message_name(first)),
+        Oddity::Unsent { first: message, .. } | Oddity::BareHeader { message, .. } => {
+            items.named(Kind::Message, words.message_name(message))
+        }
         Oddity::Idle { controller, .. } => items.named(Kind::Controller, words.name(controller)),
+        Oddity::AddressByte { at, .. } | Oddity::IdleNever { at, .. } => Some(at.span),
     };
     match named {
         Some(span) => span,
@@ -61,14 +64,15 @@ fn related_of(
     items: &Items<'_>,
 ) -> Result<Vec<Related>, AllocError> {
     let mut related = Vec::new(alloc);
-    let first = match oddity {
-        Oddity::SameAddress(first, _) => items.named(Kind::Device, first.name.as_str()),
-        _ => None,
+    let (device, what) = match oddity {
+        Oddity::SameAddress(first, _) => (first, "the device with the same address"),
+        Oddity::AddressByte { device, .. } => (device, "the device with this address"),
+        _ => return Ok(related),
     };
-    if let Some(span) = first {
+    if let Some(span) = items.named(Kind::Device, device.name.as_str()) {
         related.push(Related {
             span,
-            message: format!(in alloc; "the device with the same address")?,
+            message: format!(in alloc; "{what}")?,
         })?;
     }
     Ok(related)

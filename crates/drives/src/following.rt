@@ -82,7 +82,8 @@ pub struct Drivers {
     differs: u32,
     denied: u32,
     slots: u64,
-    // where the transaction stands in its frame, and whether SDA was ever LOW in a slot that no controller drives
+    // where the transaction stands in its frame, as long as SDA was never LOW in a slot that no controller drives, and whether
+    // it was
     frame: Frame,
     is_answered: bool,
     // whether SCL has still to fall after a START or repeated START: until then others may give it too
@@ -227,8 +228,10 @@ impl Drivers {
     fn pulling_in_slot(&mut self, level: bool) -> u32 {
         let mask = self.before;
         self.slots = self.slots.saturating_add(1);
-        let is_own = self.frame.next(Mark::Level(level));
-        self.is_answered = self.is_answered || !is_own && !level;
+        if !self.is_answered {
+            let is_own = self.frame.next(Mark::Level(level));
+            self.is_answered = !is_own && !level;
+        }
         if level {
             self.differs |= mask;
             self.denied |= mask;

@@ -70,6 +70,11 @@ impl<'a> Judging<'a> {
         }
     }
 
+    /// How many controllers are followed.
+    pub fn followed(&self) -> usize {
+        self.sendings.len()
+    }
+
     /// What each controller did in the next transaction, which these participants explain. It is counted where it is told.
     ///
     /// # Errors
@@ -200,13 +205,14 @@ fn follow(start: Place<'_>, marks: &[Mark], drove: &Drove, number: usize) -> Doe
     let mut place = start;
     for (slot, mark) in marks.iter().enumerate() {
         let pulls = drove.pulls(number, slot);
-        let Some(item) = item_of(place.offered(), *mark, pulls) else {
+        let offered = place.offered();
+        let Some(item) = item_of(offered, *mark, pulls) else {
             return Does::Departs { slot, pulls };
         };
         match (item, *mark) {
             (Item::Sent(true), Mark::Level(false)) => return lost(drove, number, slot),
             (Item::Sent(false), Mark::Level(true)) => return Does::Departs { slot, pulls },
-            _ if place.offered().allows(item) => place = place.after(item),
+            _ if offered.allows(item) => place = place.after(item),
             _ => return Does::Departs { slot, pulls },
         }
     }

@@ -29,6 +29,7 @@ use dump_tokens::{Bus, BusLines, Drives, Limits, Quiet, Window};
 use given_plans::{GivenPlan, Halted, Provenance};
 use given_runs::{GivenCapture, GivenLive, capture_given, live_given};
 use lessons::{BriefBefore, Likeness, Sights, brief_of, write_brief, write_learned};
+use origins::Spans;
 use plan_core::Plan;
 use plan_words::PlanWords;
 use report::{CaptureCounts, CaptureReport, live_capture, write_capture};
@@ -538,8 +539,9 @@ pub fn learn_with_names<I: Input, J: Input, O: Output>(
     lesson: Lesson<'_>,
 ) -> Result<Ended, Halt> {
     let GivenPlan { plan, provenance } = briefs.find_in_briefs(alloc)?;
-    let named = briefs.files.of(0);
-    let file = match named {
+    // (the last one of a board names all others)
+    let last = provenance.texts.len().saturating_sub(1);
+    let file = match briefs.files.of(u32::try_from(last).unwrap_or(0)) {
         Some(name) => name,
         None => "",
     };
@@ -559,16 +561,16 @@ fn learn_beside<J: Input, O: Output>(
     let Some(origins) = &provenance.origins else {
         return learn(alloc, vcd, out, lesson);
     };
-    let text = first_of(&provenance.texts);
-    let before = BriefBefore::new(alloc, file, text, plan, origins)?;
+    let texts = provenance.texts.as_slice();
+    let is_second = has_second(texts.len(), &provenance.spans);
+    let before = BriefBefore::new(alloc, file, texts, is_second, plan, origins)?;
     learn_after(alloc, vcd, out, lesson, Some(&before))
 }
 
-fn first_of(texts: &Vec<Vec<u8>>) -> &[u8] {
-    match texts.first() {
-        Some(text) => text.as_slice(),
-        None => &[],
-    }
+// Whether one of so many texts is in the second version.
+fn has_second(count: usize, spans: &Spans) -> bool {
+    let count = u32::try_from(count).unwrap_or(u32::MAX);
+    (0..count).any(|file| matches!(spans.head(file), Some(head) if head.version == 2))
 }
 
 fn learn_after<J: Input, O: Output>(

@@ -13,7 +13,14 @@ const STANDARD_INPUT: &str = "/dev/stdin";
 /// What a path of the command line names: a file, or standard input.
 pub type Source<'a, R, F, S> = Opened<Watched<Told<'a, R, F>>, Watched<Keeping<Told<'a, R, S>>>>;
 
-/// Opens what a path names for reading, and adds which file it is, where the system says that. `what` it is is told while it is
+/// A source that is open, and which file it is, where the system says that.
+#[derive(Drop)]
+pub struct OpenSource<'a, R, F, S> {
+    pub source: Source<'a, R, F, S>,
+    pub number: Option<FileId>,
+}
+
+/// Opens what a path names for reading, and adds which file it is, where that keeps what is written. `what` it is is told while it is
 /// read. Standard input itself needs no leave to open the file that its path names.
 ///
 /// # Errors
@@ -25,23 +32,44 @@ pub fn open_file<'a, R: Files + Input + AllocGlobal>(
     what: &'static str,
     ids: &mut Vec<FileId>,
     watcher: Watcher,
-) -> io::Result<Source<'a, R, R::File, R::Reader>> {
+) -> io::Result<OpenSource<'a, R, R::File, R::Reader>> {
     if !is_standard_input(path) {
-        let file = fs::open(rt, path)?;
-        push_id(ids, file.metadata())?;
-        let count = Count::new(watcher, what, size_of(&file, watcher));
-        return Ok(Opened::File(Watched::new(Told::new(rt, file, count))));
+        return open_path(rt, path, what, ids, watcher);
     }
     match missing(rt, path) {
         Some(error) => Err(error),
         None => {
-            push_id(ids, fs::metadata(rt, STANDARD_INPUT))?;
+            let number = push_id(ids, fs::metadata(rt, STANDARD_INPUT))?;
             let count = Count::new(watcher, what, None);
             let input = Told::new(rt, rt.reader(), count);
             let input = Keeping::new(rt.alloc(), input);
-            Ok(Opened::Standard(Watched::new(input)))
+            Ok(OpenSource {
+                source: Opened::Standard(Watched::new(input)),
+                number,
+            })
         }
     }
+}
+
+/// The same of the file of this path, whatever standard input is called.
+///
+/// # Errors
+///
+/// Those of `open_file`.
+pub fn open_path<'a, R: Files + Input + AllocGlobal>(
+    rt: &'a R,
+    path: &str,
+    what: &'static str,
+    ids: &mut Vec<FileId>,
+    watcher: Watcher,
+) -> io::Result<OpenSource<'a, R, R::File, R::Reader>> {
+    let file = fs::open(rt, path)?;
+    let number = push_id(ids, file.metadata())?;
+    let count = Count::new(watcher, what, size_of(&file, watcher));
+    Ok(OpenSource {
+        source: Opened::File(Watched::new(Told::new(rt, file, count))),
+        number,
+    })
 }
 
 /// What is left of it once it was read: the error of the last read, where that failed, and what can be read once more: a file, or
@@ -65,11 +93,16 @@ pub fn closed<R, F: Drop, S: Drop>(
     }
 }
 
-fn push_id(ids: &mut Vec<FileId>, found: io::Result<Metadata>) -> io::Result<()> {
-    if let Some(id) = identity_of(found) {
-        ids.push(id)?;
+// Which file this is. It is added where it keeps what is written.
+fn push_id(ids: &mut Vec<FileId>, found: io::Result<Metadata>) -> io::Result<Option<FileId>> {
+    let Ok(metadata) = found else {
+        return Ok(None);
+    };
+    let number = (metadata.dev(), metadata.ino());
+    if keeps(&metadata) {
+        ids.push(number)?;
     }
-    Ok(())
+    Ok(Some(number))
 }
 
 // How many bytes a file has, where somebody is told how much of it was read.
@@ -125,6 +158,9 @@ fn is_same(one: FileId, other: Option<FileId>) -> bool {
 /// Which file this is, where that is known, and where it keeps what is written: a terminal, a pipe and the null device do not.
 pub fn identity_of(found: io::Result<Metadata>) -> Option<FileId> {
     let metadata = found.ok()?;
-    let keeps = metadata.is_file() || metadata.file_type().is_block_device();
-    keeps.then_some((metadata.dev(), metadata.ino()))
+    keeps(&metadata).then_some((metadata.dev(), metadata.ino()))
+}
+
+fn keeps(metadata: &Metadata) -> bool {
+    metadata.is_file() || metadata.file_type().is_block_device()
 }

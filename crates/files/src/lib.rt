@@ -12,7 +12,8 @@ mod outputs;
 mod progress;
 
 pub use inputs::{
-    FileId, FilesRead, Source, closed, identity_of, is_standard_input, missing, open_file,
+    FileId, FilesRead, OpenSource, Source, closed, identity_of, is_standard_input, missing,
+    open_file, open_path,
 };
 pub use keeping::{Keeping, Reread};
 pub use outputs::{Form, Sheet};

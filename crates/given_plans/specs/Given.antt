@@ -7,7 +7,7 @@ use Rattle.plan_text.specs.Grammar.{Spells}
 use Rattle.plan_text.specs.Refusals.{First}
 use Rattle.plan_text.specs.declared.errors.PlanError.{PlanError}
 use Rattle.plan_text.specs.declared.errors.PlanError.TheVariants.{Version}
-use Rattle.brief_tokens.specs.Heads.{opened}
+use Rattle.brief_tokens.specs.Heads.{begun}
 use Rattle.brief_tokens.specs.Tokens.{Tokens}
 use Rattle.brief_text.specs.Briefs.{Means, IsRefused, text_read}
 use Rattle.brief_text.specs.Drafts.{Draft}
@@ -29,7 +29,7 @@ is_second (Ok (Board, rest)) = true
 is_second _ = false
 
 abbrev pub begins_second : List ℕ → Bool
-begins_second text = is_second (opened text)
+begins_second text = is_second (begun text)
 
 -- The first refusal of a text that is neither: that of a brief, where it begins as one of the second version. Else that of a plan
 -- text; and where it does not begin as a plan, that of a brief, unless it does not begin as a brief either.

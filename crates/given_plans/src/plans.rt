@@ -13,7 +13,7 @@ ghost use Rattle.run_parts.specs.Runs.{ReadsText, HaltsAtText};
 ghost use Rattle.run_parts.specs.declared.errors.RunError.TheVariants.{NoMemory};
 
 use brief_text::Briefs;
-use brief_tokens::after_head;
+use brief_tokens::begin;
 use lexer::Letters;
 use origins::{Origins, Spans};
 use plan_core::Plan;
@@ -289,7 +289,7 @@ fn as_brief(alloc: Global, text: &[u8], spans: &mut Spans) -> Result<Meaning, Re
 fn begins_second(text: &[u8]) -> bool
     ensures { result ≡ begins_second text.now }
 {
-    match after_head(text) {
+    match begin(text) {
         Ok(rest) => matches!(rest.letters(), Letters::Board),
         Err(_) => false,
     }

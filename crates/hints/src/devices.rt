@@ -3,6 +3,7 @@
 use crate::lines::Lines;
 use crate::paths::push_path;
 use crate::values::Hints;
+use plan_words::FileLine;
 use std::alloc::{AllocError, Global};
 use std::fmt::Display;
 use std::io::Error;
@@ -40,6 +41,26 @@ pub fn on_reading(
         None => "gave an error in reading, or has no end",
     };
     on_file(alloc, file, words, error)
+}
+
+/// After the file of this path, which stands on that line of a brief, and cannot be opened or read to its end. Where the system says
+/// why, there is its error.
+pub fn on_named_file(
+    alloc: Global,
+    at: FileLine<'_>,
+    path: &str,
+    error: Option<&Error>,
+) -> Result<Hints, AllocError> {
+    let mut lines = Lines::new(alloc);
+    push_path(alloc, &mut lines, at.file);
+    lines.part(" names ");
+    push_path(alloc, &mut lines, path);
+    lines.part(format_args!(" on line {}, which ", at.line));
+    lines.say(match error {
+        Some(_) => "cannot be read:",
+        None => "gave an error in reading, or has no end",
+    });
+    with_error(lines, error)
 }
 
 /// After a report that was not taken whole: by the file of this path, or by standard output.

@@ -15,17 +15,33 @@ const KNOWN_ADDRESS: &str =
 
 const BYTE: &str = "a data byte ('0x' and two digits, or '0b' and eight of '0', '1' and 'x')";
 
-/// What could stand there, one after another.
+/// What could stand there, one after another, in a brief of the second version or in another text.
 ///
 /// # Errors
 ///
 /// Where an allocation fails.
-pub(crate) fn words_of(alloc: Global, expected: Expected) -> Result<Vec<&'static str>, AllocError> {
+pub(crate) fn words_of(
+    alloc: Global,
+    expected: Expected,
+    is_second: bool,
+) -> Result<Vec<&'static str>, AllocError> {
     match expected {
         Expected::Further(further) => further_words(alloc, further),
+        Expected::BriefItem if is_second => SECOND_ITEMS.to_vec(alloc),
         _ => few(expected).to_vec(alloc),
     }
 }
+
+// The items of a brief of the second version.
+const SECOND_ITEMS: &[&str] = &[
+    "'device'",
+    "'byte'",
+    "'message'",
+    "'controller'",
+    "'extend'",
+    "'interrupt'",
+    "'never'",
+];
 
 fn further_words(alloc: Global, further: Further) -> Result<Vec<&'static str>, AllocError> {
     let mut words = Vec::new(alloc);
@@ -35,6 +51,7 @@ fn further_words(alloc: Global, further: Further) -> Result<Vec<&'static str>, A
         words.push("'any'")?;
     }
     if further.bytes && further.made {
+        words.push("a span as '0x02..0x0F'")?;
         words.push("'wr'")?;
         words.push("'rd'")?;
         words.push("'pec'")?;

@@ -3,7 +3,7 @@
 use crate::lines::Lines;
 use crate::marking::push_quoted;
 use std::alloc::{AllocError, Global};
-use strsim::generic_levenshtein;
+use strsim::{generic_levenshtein, osa_distance};
 
 // How many names are kept, and how many bytes of a name are compared.
 const MOST: usize = 10;
@@ -20,7 +20,7 @@ struct Near {
     far: usize,
 }
 
-/// The names that are nearest to a wanted one.
+/// The names that are nearest to a wanted one: of all that are added, or of those that are near it.
 #[derive(Drop)]
 pub struct Nearest<'a> {
     wanted: &'a [u8],
@@ -50,9 +50,14 @@ impl<'a> Nearest<'a> {
             return Ok(());
         }
         let far = distance(alloc, self.wanted, name)?;
+        self.keep(alloc, told, far)
+    }
+
+    // A further name, which is so far from the wanted one.
+    fn keep(&mut self, alloc: Global, name: &[u8], far: usize) -> Result<(), AllocError> {
         let at = self.place_of(far);
         if at < MOST && at <= self.found.len() {
-            let name = told.to_vec(alloc)?;
+            let name = name.to_vec(alloc)?;
             self.found.insert(at, Near { name, far })?;
             if self.found.len() <= MOST {
                 return Ok(());
@@ -61,6 +66,24 @@ impl<'a> Nearest<'a> {
         }
         self.others = self.others.saturating_add(1);
         Ok(())
+    }
+
+    /// By how many edits a name parts from the wanted one, where it is near.
+    pub(crate) fn nearness(&self, alloc: Global, name: &[u8]) -> Result<Option<usize>, AllocError> {
+        nearness(alloc, self.wanted, name)
+    }
+
+    /// One more name, which is so far from the wanted one. One that is there already is not kept twice.
+    pub(crate) fn add_at(
+        &mut self,
+        alloc: Global,
+        name: &[u8],
+        far: usize,
+    ) -> Result<(), AllocError> {
+        if self.has(name) {
+            return Ok(());
+        }
+        self.keep(alloc, name, far)
     }
 
     fn has(&self, name: &[u8]) -> bool {
@@ -86,6 +109,41 @@ impl<'a> Nearest<'a> {
             lines.detail("..");
         }
     }
+}
+
+// By how many edits a name parts from the wanted one, where it is near. Case and `_` do not count. It is near where the edits
+// are a third of the letters of the shorter one at most, or where the longer one begins or ends with the shorter one, which has
+// three letters or more.
+fn nearness(alloc: Global, wanted: &[u8], name: &[u8]) -> Result<Option<usize>, AllocError> {
+    let wanted = folded(alloc, wanted)?;
+    let name = folded(alloc, name)?;
+    nearness_of(alloc, wanted.as_slice(), name.as_slice())
+}
+
+fn nearness_of(alloc: Global, one: &[u8], other: &[u8]) -> Result<Option<usize>, AllocError> {
+    let far = match (str::from_utf8(one), str::from_utf8(other)) {
+        (Ok(one), Ok(other)) => osa_distance(alloc, one, other)?,
+        _ => return Ok(None),
+    };
+    let shorter = one.len().min(other.len());
+    let is_near = far <= shorter / 3 || 3 <= shorter && (is_end(one, other) || is_end(other, one));
+    Ok(is_near.then_some(far))
+}
+
+// Whether the second one begins or ends with the first one.
+fn is_end(part: &[u8], whole: &[u8]) -> bool {
+    whole.starts_with(part) || whole.ends_with(part)
+}
+
+// What counts of a name: its first letters and digits, in small letters.
+fn folded(alloc: Global, name: &[u8]) -> Result<Vec<u8>, AllocError> {
+    let mut letters = Vec::new(alloc);
+    for byte in name.get(..COMPARED).unwrap_or(name) {
+        if *byte != b'_' {
+            letters.push(byte.to_ascii_lowercase())?;
+        }
+    }
+    Ok(letters)
 }
 
 // How far a name is from the wanted one: by how many bytes it is longer where it has the wanted name in it, in letters of

@@ -78,6 +78,13 @@ impl Lines {
         }
     }
 
+    /// The first of these hints, with what belongs to it.
+    pub(crate) fn first_of(&mut self, hints: Hints) {
+        for hint in hints.into_first() {
+            self.add(hint);
+        }
+    }
+
     // What was said of the hint that ends.
     fn take(&mut self) -> Sentence {
         let sentence = mem::replace(&mut self.open, Sentence::new(self.alloc));

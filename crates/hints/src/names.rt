@@ -6,8 +6,8 @@ use crate::lines::Lines;
 use crate::paths::push_path;
 use crate::texts::{Earlier, RefusedIn};
 use crate::words::push_meant;
-use origins::{Kind, NameAt, NamedTexts, Role, Span, halves, has_member};
-use plan_text::{Expected, PlanError};
+use origins::{ItemKind, Kind, NameAt, NamedTexts, Role, Span, halves, has_member};
+use plan_text::{Expected, Language, PlanError};
 use std::alloc::{AllocError, Global};
 
 // What is named so.
@@ -29,12 +29,21 @@ struct Known<'a> {
     at: NameAt,
     // that of the message, which is empty where it is no family
     range: &'a [u8],
+    // whether it is given to a device whose address has open bits
+    is_open: bool,
+    // whether its item adds to a controller
+    adds: bool,
 }
 
 impl Known<'_> {
     // Whether an item gives this name to one of this kind.
     fn gives(self, kind: Kind) -> bool {
         self.at.gives(kind)
+    }
+
+    // Whether messages are listed after it, which is the name of a controller.
+    fn begins_list(self) -> bool {
+        self.gives(Kind::Controller) || self.adds && self.uses(Kind::Controller)
     }
 
     // Whether a controller lists it.
@@ -44,7 +53,7 @@ impl Known<'_> {
 
     // Whether it is a side of a `never`.
     fn is_side(self) -> bool {
-        self.uses(Kind::Controller)
+        self.uses(Kind::Controller) && !self.adds
     }
 
     fn uses(self, kind: Kind) -> bool {
@@ -124,9 +133,26 @@ fn push_known<'a>(
                 name: texts.word(at),
                 at,
                 range: texts.range(at),
+                is_open: is_open(texts, at),
+                adds: adds(texts, at),
             },
         )?),
     }
+}
+
+// Whether the item in which a name stands adds to a controller.
+fn adds(texts: &NamedTexts<'_>, at: NameAt) -> bool {
+    matches!(texts.item(at), Some(item) if item.kind == ItemKind::Extends)
+}
+
+// Whether a name is given to a device or a byte with open bits.
+fn is_open(texts: &NamedTexts<'_>, at: NameAt) -> bool {
+    at.role == Role::Given && texts.value(at).iter().skip(2).any(is_open_digit)
+}
+
+// (after `0x` or `0b`)
+fn is_open_digit(digit: &u8) -> bool {
+    matches!(*digit, b'x' | b'X')
 }
 
 fn with_label<'a>(texts: &NamedTexts<'a>, controller: Span, label: Span) -> &'a [u8] {
@@ -164,6 +190,8 @@ enum Stands {
     Never(Option<Stand>),
     // a controller with the name of the part that a label makes
     Part(Option<Stand>),
+    // a `never` that names the controller to which an item adds
+    Apart(Option<Stand>),
 }
 
 impl Stands {
@@ -173,7 +201,8 @@ impl Stands {
             | Stands::Listed(stand)
             | Stands::Member(stand)
             | Stands::Never(stand)
-            | Stands::Part(stand) => stand,
+            | Stands::Part(stand)
+            | Stands::Apart(stand) => stand,
             Stands::Side => None,
         }
     }
@@ -214,6 +243,9 @@ fn stands_among(known: &[Known<'_>], refused: &RefusedIn<'_>) -> Stands {
         ),
         Some(Expected::Sending) => Stands::Listed(stand_in_list(known, word)),
         Some(Expected::Times { .. }) => Stands::Member(stand_of_member(known, word)),
+        Some(Expected::Controller) if first_side(known).is_none() => {
+            Stands::Apart(stand_of_side(known, word))
+        }
         _ => side_among(known, word),
     }
 }
@@ -236,6 +268,9 @@ fn push_stands(alloc: Global, lines: &mut Lines, refused: &RefusedIn<'_>, stands
         Stands::Part(_) => lines.part(
             "a label makes a controller, with '_' in place of '/': an earlier one has this name",
         ),
+        Stands::Apart(_) => {
+            lines.part("what adds to a controller stands before each 'never' that names it")
+        }
     }
     if let Some(stand) = stands.stand() {
         push_place(alloc, lines, refused, stand);
@@ -267,11 +302,25 @@ fn push_place(alloc: Global, lines: &mut Lines, refused: &RefusedIn<'_>, stand: 
     }
 }
 
-// Where the last item, a controller, lists this.
+// Where the controller of the last item lists this, in that item or in one before it.
 fn stand_in_list(known: &[Known<'_>], word: &[u8]) -> Option<Stand> {
-    let last = known.last()?;
+    let last = known.iter().rev().find(|one| one.begins_list())?.name;
+    let mut controller: &[u8] = &[];
     for one in known {
-        if one.at.item == last.at.item && one.is_listed() && one.name == word {
+        if one.begins_list() {
+            controller = one.name;
+        }
+        if controller == last && one.is_listed() && one.name == word {
+            return Some(one.stand());
+        }
+    }
+    None
+}
+
+// A `never` that names this controller, or a label of it.
+fn stand_of_side(known: &[Known<'_>], controller: &[u8]) -> Option<Stand> {
+    for one in known {
+        if one.is_side() && controller_of(one.name) == controller {
             return Some(one.stand());
         }
     }
@@ -384,7 +433,7 @@ fn joined(byte: u8) -> u8 {
 
 // ---- P8
 
-/// Says P8: the names that are nearest, or that there are none.
+/// Says P8: the names that are near and could stand there, or that there are none.
 pub(crate) fn push_unknown(alloc: Global, lines: &mut Lines, refused: &RefusedIn<'_>) {
     match known_in(alloc, refused) {
         Ok(known) => push_absent(alloc, lines, refused, known.as_slice()),
@@ -409,7 +458,7 @@ fn push_absent(alloc: Global, lines: &mut Lines, refused: &RefusedIn<'_>, known:
 
 // Says which word of the language is meant, where it may be that no byte is.
 fn push_keyword(alloc: Global, lines: &mut Lines, expected: Expected, word: &[u8]) {
-    match words_of(alloc, expected) {
+    match words_of(alloc, expected, false) {
         Ok(words) => {
             let word = str::from_utf8(word).unwrap_or("");
             let _ = push_meant(alloc, lines, words.as_slice(), word);
@@ -433,7 +482,7 @@ fn push_absent_side(
                 push_star(lines, known, controller, label);
             }
             lines.say("the controller of this label lists no such message; it lists:");
-            push_all(alloc, lines, known, label, Listed::By(controller));
+            push_listed(alloc, lines, known, label, controller);
         }
         _ => push_nearest(alloc, lines, refused, known, Kind::Controller, controller),
     }
@@ -469,14 +518,86 @@ fn push_nearest(
         lines.say(format_args!(
             "the {what} stands below, on line {line}: {what}s come before what names them"
         ));
-    } else if has_any(known, kind) {
+    } else {
+        push_near(alloc, lines, refused, known, kind, word);
+    }
+}
+
+// Says which names are near, of those that could stand there.
+fn push_near(
+    alloc: Global,
+    lines: &mut Lines,
+    refused: &RefusedIn<'_>,
+    known: &[Known<'_>],
+    kind: Kind,
+    word: &[u8],
+) {
+    let what = called(kind);
+    let near = near_names(alloc, lines, refused, known, kind, word);
+    if !near.is_empty() {
         lines.say(format_args!(
             "no {what} before this place has this name; the nearest names of {what}s:"
         ));
-        push_all(alloc, lines, known, word, Listed::Of(kind));
+        near.tell(lines);
+    } else if has_any(known, kind) {
+        lines.say(format_args!("no {what} before this place has this name"));
     } else {
         lines.say(format_args!("no {what} stands before this place"));
     }
+}
+
+fn near_names<'a>(
+    alloc: Global,
+    lines: &mut Lines,
+    refused: &RefusedIn<'_>,
+    known: &[Known<'_>],
+    kind: Kind,
+    word: &'a [u8],
+) -> Nearest<'a> {
+    let mut near = Nearest::new(alloc, word);
+    for one in known {
+        if one.gives(kind) && add_near(alloc, &mut near, refused, known, *one).is_err() {
+            lines.fail();
+        }
+    }
+    near
+}
+
+fn add_near(
+    alloc: Global,
+    near: &mut Nearest<'_>,
+    refused: &RefusedIn<'_>,
+    known: &[Known<'_>],
+    one: Known<'_>,
+) -> Result<(), AllocError> {
+    match near.nearness(alloc, one.name)? {
+        Some(far) if could_stand(refused, known, one) => near.add_at(alloc, one.name, far),
+        _ => Ok(()),
+    }
+}
+
+// Whether a name of the kind that is wanted could stand in the place that is refused.
+fn could_stand(refused: &RefusedIn<'_>, known: &[Known<'_>], one: Known<'_>) -> bool {
+    match refused.place.expected {
+        Some(Expected::KnownTarget) => !one.is_open,
+        Some(Expected::Sending) => stand_in_list(known, one.name).is_none(),
+        Some(Expected::Party | Expected::Controller) => could_be_side(refused, known, one.name),
+        _ => true,
+    }
+}
+
+// Whether a controller could stand there: as a side it is none of the side before it, and what adds to one stands before each
+// `never` that names it.
+fn could_be_side(refused: &RefusedIn<'_>, known: &[Known<'_>], name: &[u8]) -> bool {
+    match first_side(known) {
+        Some(first) => controller_of(first) != name,
+        None => !adds_at(refused) || stand_of_side(known, name).is_none(),
+    }
+}
+
+// Whether the refused name is that of a controller to which a brief adds.
+fn adds_at(refused: &RefusedIn<'_>) -> bool {
+    refused.language == Language::Brief && refused.place.expected == Some(Expected::Controller)
 }
 
 // What has this name, where that is of another kind.
@@ -511,32 +632,15 @@ fn has_any(known: &[Known<'_>], kind: Kind) -> bool {
     known.iter().any(|one| one.gives(kind))
 }
 
-// Which names are shown: of all items of a kind, or of what a controller lists.
-#[derive(Clone, Copy)]
-enum Listed<'a> {
-    Of(Kind),
-    By(&'a [u8]),
-}
-
-// Shows these names, the nearest to the word first.
-fn push_all(
-    alloc: Global,
-    lines: &mut Lines,
-    known: &[Known<'_>],
-    word: &[u8],
-    listed: Listed<'_>,
-) {
+// Shows the names of what this controller lists, the nearest to the word first.
+fn push_listed(alloc: Global, lines: &mut Lines, known: &[Known<'_>], word: &[u8], wanted: &[u8]) {
     let mut nearest = Nearest::new(alloc, word);
     let mut controller: &[u8] = &[];
     for one in known {
-        if one.gives(Kind::Controller) {
+        if one.begins_list() {
             controller = one.name;
         }
-        let is_shown = match listed {
-            Listed::Of(kind) => one.gives(kind),
-            Listed::By(wanted) => one.is_listed() && controller == wanted,
-        };
-        if is_shown && nearest.add(alloc, one.name).is_err() {
+        if one.is_listed() && controller == wanted && nearest.add(alloc, one.name).is_err() {
             lines.fail();
         }
     }

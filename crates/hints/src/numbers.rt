@@ -7,8 +7,8 @@ use crate::lines::Lines;
 pub(crate) enum Number<'a> {
     ByteSpan,
     AddressSpan,
-    /// An address of ten bits, in digits of hex.
-    TenBits(&'a str, u16),
+    /// An address of ten bits, in digits of hex or as bits.
+    TenBits { word: &'a str, value: u16 },
     /// One of more bits.
     Beyond,
     /// Two bytes in one word.
@@ -27,10 +27,22 @@ impl<'a> Number<'a> {
                 Number::ByteSpan
             });
         }
+        if let Some(bits) = word.strip_prefix("0b") {
+            return Number::of_bits(word, bits, is_address);
+        }
         match word.strip_prefix("0x") {
             Some(digits) => Number::of_hex(word, digits, is_address),
             None => Number::of_decimal(word, is_address),
         }
+    }
+
+    // Ten bits of an address, all of them known.
+    fn of_bits(word: &'a str, bits: &str, is_address: bool) -> Option<Number<'a>> {
+        if !is_address || bits.len() != 10 || !bits.as_bytes().iter().all(is_bit) {
+            return None;
+        }
+        let value = u16::from_str_radix(bits, 2).ok()?;
+        Some(Number::TenBits { word, value })
     }
 
     fn of_hex(word: &'a str, digits: &str, is_address: bool) -> Option<Number<'a>> {
@@ -41,7 +53,7 @@ impl<'a> Number<'a> {
         Some(if !is_address {
             Number::TwoBytes(value)
         } else if value <= MOST_OF_TEN_BITS {
-            Number::TenBits(word, value)
+            Number::TenBits { word, value }
         } else {
             Number::Beyond
         })
@@ -69,7 +81,7 @@ impl<'a> Number<'a> {
             Number::AddressSpan => lines.say(
                 "a brief has no spans of addresses: open bits have some, as 0b00100xx has 0x10 to 0x13",
             ),
-            Number::TenBits(word, value) => push_ten_bits(lines, word, value),
+            Number::TenBits { word, value } => push_ten_bits(lines, word, value),
             Number::Beyond => {
                 lines.say("an address has seven bits, at most 0x7F, or ten, at most 0x3FF");
             }
@@ -94,13 +106,16 @@ impl<'a> Number<'a> {
 
 const MOST_OF_TEN_BITS: u16 = 0x3FF;
 
-// The header of a ten-bit address has 11110 and its first two bits, and the byte after it the others (UM10204, 3.1.11).
+// The header of a ten-bit address has 11110 and its first two bits, and the byte after it the others (UM10204, 3.1.11). A
+// number of seven bits may have a digit too many instead.
 fn push_ten_bits(lines: &mut Lines, word: &str, value: u16) {
     let [high, low] = value.to_be_bytes();
     let header = 0x78 | high;
-    lines.part(format_args!(
-        "an address has seven bits, at most 0x7F; if {word} is a ten-bit address, it is sent by '"
-    ));
+    lines.part("an address has seven bits, at most 0x7F");
+    if value <= 0x7F {
+        lines.part(format_args!(", as 0x{low:02X}"));
+    }
+    lines.part(format_args!("; if {word} is a ten-bit address, it is sent by '"));
     // (these words stand on one line)
     lines.word("write ");
     lines.part(format_args!("0x{header:02X}"));
@@ -123,9 +138,9 @@ fn has_hex_alone(digits: &str) -> bool {
 
 // Whether these are the bits of an address or of a byte, which only lack what stands before them.
 fn is_bits(word: &str) -> bool {
-    matches!(word.len(), 7 | 8)
-        && word
-            .as_bytes()
-            .iter()
-            .all(|byte| matches!(*byte, b'0' | b'1'))
+    matches!(word.len(), 7 | 8) && word.as_bytes().iter().all(is_bit)
+}
+
+fn is_bit(byte: &u8) -> bool {
+    matches!(*byte, b'0' | b'1')
 }

@@ -3,6 +3,7 @@
 use crate::lines::Lines;
 use crate::values::Hints;
 use lint::Oddity;
+use origins::Device;
 use plan_core::Plan;
 use plan_words::PlanWords;
 use std::alloc::{AllocError, Global};
@@ -96,8 +97,42 @@ fn push_oddity(
             let name = words.side(alloc, controller)?;
             lines.say(format_args!("controller '{name}' lists no message"));
         }
+        Oddity::AddressByte {
+            device,
+            is_read,
+            ..
+        } => push_address_byte(lines, device, is_read),
+        Oddity::BareHeader { message, .. } => push_bare_header(lines, words.plan(), message),
+        Oddity::IdleNever { sends, .. } => push_idle_never(lines, sends),
     }
     Ok(())
+}
+
+fn push_address_byte(lines: &mut Lines, device: &Device, is_read: bool) {
+    let name = device.name.as_str();
+    let (made, what) = if is_read {
+        ("rd", "read of")
+    } else {
+        ("wr", "write to")
+    };
+    lines.say(format_args!(
+        "this byte is the header of a {what} device '{name}': is {made}({name}) meant?"
+    ));
+}
+
+fn push_bare_header(lines: &mut Lines, plan: &Plan, message: u32) {
+    let name = name_of(plan, message);
+    lines.say(format_args!(
+        "message '{name}' is a header alone, and another controller goes on after that header: no bit parts the two; where the device can be read, a read of one byte asks the same, and its R/W bit parts it from writes"
+    ));
+}
+
+fn push_idle_never(lines: &mut Lines, sends: bool) {
+    lines.say(if sends {
+        "this 'never' mends nothing: each two messages that it keeps apart part in their first byte, and their pairs are not checked"
+    } else {
+        "this 'never' keeps nothing apart: one of its sides sends no message"
+    });
 }
 
 fn push_unsent(lines: &mut Lines, plan: &Plan, first: u32, count: u32) {

@@ -1,5 +1,6 @@
 // After the refusal of a plan or of a brief.
 
+use crate::choices::reason_of_choice;
 use crate::expected::{push_expected, words_of};
 use crate::kinds::{Kind, LOOKED_AT, is_binary, kind_of, push_kind};
 use crate::lines::Lines;
@@ -55,6 +56,14 @@ impl<'a> RefusedIn<'a> {
         self.part(0, self.place.start)
     }
 
+    /// Whether it is a brief of the second version.
+    pub(crate) fn is_second(&self) -> bool {
+        match self.spans.head(self.number()) {
+            Some(head) => self.language == Language::Brief && head.version == 2,
+            None => false,
+        }
+    }
+
     /// Whether this stands right after it.
     pub(crate) fn is_before(&self, sign: u8) -> bool {
         self.text.get(self.place.end).copied() == Some(sign)
@@ -82,9 +91,28 @@ pub fn on_text(alloc: Global, refused: RefusedIn<'_>) -> Result<Hints, AllocErro
     let mut lines = Lines::new(alloc);
     let looked = Looked::at(refused);
     if !is_binary(looked.kind) {
-        push_span(alloc, &mut lines, &looked.refused, looked.fault.span());
+        push_span(alloc, &mut lines, &looked.refused, looked.fault.span(), "");
     }
     push_cause(alloc, &mut lines, &looked);
+    lines.finish()
+}
+
+/// What to say of a further refusal, in short: where it is, and why.
+///
+/// # Errors
+///
+/// Where an allocation fails.
+pub fn on_further_text(alloc: Global, refused: RefusedIn<'_>) -> Result<Hints, AllocError> {
+    let mut lines = Lines::new(alloc);
+    let looked = Looked::at(refused);
+    push_span(
+        alloc,
+        &mut lines,
+        &looked.refused,
+        looked.fault.span(),
+        "also ",
+    );
+    lines.first_of(cause_of(alloc, refused)?.said);
     lines.finish()
 }
 
@@ -253,7 +281,7 @@ fn fault_of(refused: &RefusedIn<'_>) -> Fault {
 
 // The place after the token before, where `;` could stand and the refused token begins an item, or the text ends.
 fn missing_semicolon(refused: &RefusedIn<'_>) -> Option<Span> {
-    if !takes_semicolon(refused.place.expected?) || !ends_item(refused.language, refused.token()) {
+    if !takes_semicolon(refused.place.expected?) || !ends_item(refused) {
         return None;
     }
     let Place {
@@ -301,10 +329,11 @@ fn takes_semicolon(expected: Expected) -> bool {
     )
 }
 
-fn ends_item(language: Language, token: &[u8]) -> bool {
-    match token {
+fn ends_item(refused: &RefusedIn<'_>) -> bool {
+    match refused.token() {
         b"message" | b"controller" | b"interrupt" | b"never" => true,
-        b"device" | b"byte" => matches!(language, Language::Brief),
+        b"device" | b"byte" => matches!(refused.language, Language::Brief),
+        b"extend" => refused.is_second(),
         b"" => true,
         _ => false,
     }
@@ -350,11 +379,17 @@ fn dots_and_digits(text: &[u8]) -> usize {
         .count()
 }
 
-// Shows a part of the text in its line.
-fn push_span(alloc: Global, lines: &mut Lines, refused: &RefusedIn<'_>, span: Span) {
+// Shows a part of the text in its line, after this.
+fn push_span(
+    alloc: Global,
+    lines: &mut Lines,
+    refused: &RefusedIn<'_>,
+    span: Span,
+    front: &'static str,
+) {
     let Span { line, start, end } = span;
     let what = called(refused.language);
-    lines.part(format_args!("line {line} of the {what}"));
+    lines.part(format_args!("{front}line {line} of the {what}"));
     if let Some(file) = refused.file {
         lines.part(" ");
         push_path(alloc, lines, file);
@@ -376,14 +411,22 @@ fn push_fault(alloc: Global, lines: &mut Lines, refused: &RefusedIn<'_>, fault: 
         (Fault::NoSemicolon(span), _) => push_semicolon(lines, refused, span),
         (Fault::Range(_), _) => {
             lines.say(RANGES);
-            push_all(alloc, lines, Expected::Count { ranges: false });
+            push_all(alloc, lines, refused, Expected::Count { ranges: false });
         }
         (_, Some(Expected::Version)) => push_version(lines, refused),
         (Fault::Token(_), Some(expected)) => push_token(alloc, lines, refused, expected),
-        (Fault::End(_), Some(expected)) => push_all(alloc, lines, expected),
-        (_, None) => {}
+        (Fault::End(_), Some(expected)) => push_all(alloc, lines, refused, expected),
+        // (in a head nothing else has no word for what could stand there)
+        (_, None) if refused.token().starts_with(b"\"") => lines.say(FILE_REFUSED),
+        (_, None) => lines.say(FILE_EXPECTED),
     }
 }
+
+const FILE_REFUSED: &str =
+    "a file has 1 to 255 characters here, and 'learn --names' takes one brief that names no files";
+
+const FILE_EXPECTED: &str =
+    "expected here: a file in double quotes, 1 to 255 characters from blank to '~', as in: with \"devices.brief\" ;";
 
 // That `;` is missing, and where the refusal is of another line, why that is so.
 fn push_semicolon(lines: &mut Lines, refused: &RefusedIn<'_>, span: Span) {
@@ -409,11 +452,15 @@ fn last_word(bytes: &[u8]) -> &str {
 }
 
 fn push_token(alloc: Global, lines: &mut Lines, refused: &RefusedIn<'_>, expected: Expected) {
-    match words_of(alloc, expected) {
+    match words_of(alloc, expected, refused.is_second()) {
         Ok(words) => {
             let words = words.as_slice();
             let word = str::from_utf8(refused.token()).unwrap_or("");
-            match reason_of_characters(refused, expected) {
+            let reason = match reason_of_characters(refused, expected) {
+                None => reason_of_choice(refused, expected),
+                reason => reason,
+            };
+            match reason {
                 Some(reason) => lines.say(reason),
                 None => push_reason(alloc, lines, refused.language, expected, words, word),
             }
@@ -423,8 +470,8 @@ fn push_token(alloc: Global, lines: &mut Lines, refused: &RefusedIn<'_>, expecte
     }
 }
 
-fn push_all(alloc: Global, lines: &mut Lines, expected: Expected) {
-    match words_of(alloc, expected) {
+fn push_all(alloc: Global, lines: &mut Lines, refused: &RefusedIn<'_>, expected: Expected) {
+    match words_of(alloc, expected, refused.is_second()) {
         Ok(words) => push_expected(lines, words.as_slice()),
         Err(_) => lines.fail(),
     }

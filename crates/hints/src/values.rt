@@ -52,6 +52,32 @@ impl Hints {
         }
     }
 
+    /// And these.
+    ///
+    /// # Errors
+    ///
+    /// Where an allocation fails.
+    pub fn append(&mut self, others: Hints) -> Result<(), AllocError> {
+        for hint in others.hints {
+            self.push(hint)?;
+        }
+        Ok(())
+    }
+
+    /// The first of them, with what belongs to it.
+    pub(crate) fn into_first(self) -> Vec<Hint> {
+        let mut first = self.hints;
+        let mut length = 0usize;
+        for hint in first.iter() {
+            if length != 0 && matches!(hint, Hint::Sentence(_)) {
+                break;
+            }
+            length = length.saturating_add(1);
+        }
+        first.truncate(length);
+        first
+    }
+
     /// All hints, in the order in which they are said.
     pub fn all(&self) -> &[Hint] {
         self.hints.as_slice()

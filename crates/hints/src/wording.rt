@@ -43,6 +43,9 @@ pub(crate) fn bad_count(expected: Option<Expected>) -> &'static str {
         Some(Expected::Times { ranges: true }) => {
             "a number after '*' is 1 to 255; a range, as '1..4', has the smaller first, which may be 0"
         }
+        Some(Expected::Further(_) | Expected::BriefByte) => {
+            "a span has the smaller byte first, and 'any but' leaves a byte"
+        }
         _ => "a count is a number from 1 to 255",
     }
 }
@@ -69,6 +72,8 @@ pub(crate) fn push_over(lines: &mut Lines, over: Option<Over>) {
 /// Says P6, where this was expected.
 pub(crate) fn push_limit(lines: &mut Lines, expected: Option<Expected>) {
     let (most, what) = match expected {
+        // (what a head names)
+        None => return lines.say("at most 64 texts make up a board"),
         Some(Expected::Name(Kind::Controller)) => (MOST_CONTROLLERS, "controllers"),
         Some(Expected::Party) => {
             lines.part("with the controllers that labels make, ");

@@ -103,7 +103,7 @@ pub(crate) fn push_reason(
     } else if let Some(reason) = reason_of_bits(language, expected, word) {
         lines.say(reason);
     } else if let Some(address) = without_direction(language, expected, word) {
-        push_address(lines, address);
+        push_address(lines, word, address);
     } else if let Some(known) = in_small_letters(words, word) {
         lines.say(format_args!("words have small letters: {known}"));
     } else if push_meant(alloc, lines, words, word) {
@@ -147,22 +147,23 @@ pub(crate) fn push_meant(
     meant.is_some()
 }
 
-// The nearest of these words that stand there as they are, where few edits part the two.
+// The nearest of these words that stand there as they are, where the edits that part the two are a third of the letters of the
+// shorter one at most.
 fn meant(
     alloc: Global,
     words: &[&'static str],
     word: &str,
 ) -> Result<Option<&'static str>, AllocError> {
     let mut nearest = None;
-    let mut least = 3usize;
+    let mut least = usize::MAX;
     if !is_name(word) {
         return Ok(None);
     }
     for known in words {
         let letters = known.trim_matches('\'');
         let far = osa_distance(alloc, word, letters)?;
-        // of a short word two edits leave little
-        if is_name(letters) && far < least && far.saturating_mul(2) < letters.len() {
+        let shorter = word.len().min(letters.len());
+        if is_name(letters) && far < least && far <= shorter / 3 {
             nearest = Some(*known);
             least = far;
         }
@@ -172,10 +173,15 @@ fn meant(
 
 // What this word is, where it is to be an address or a data byte of a brief.
 fn number_of(language: Language, expected: Expected, word: &str) -> Option<Number<'_>> {
-    if language != Language::Brief || !takes_bits(expected) || is_known(expected) {
+    if language != Language::Brief || !takes_bits(expected) {
         return None;
     }
-    Number::of(word, takes_address(expected))
+    match Number::of(word, takes_address(expected)) {
+        // (no open bits and no data byte can stand in an interrupt)
+        Some(Number::AddressSpan | Number::TenBits { .. } | Number::Beyond) if is_known(expected) =>
+            None,
+        number => number,
+    }
 }
 
 fn reason_of(expected: Expected, word: &str) -> Option<&'static str> {
@@ -222,8 +228,8 @@ fn reason_of_bits(language: Language, expected: Expected, word: &str) -> Option<
     if !takes_bits(expected) {
         return None;
     }
-    if is_known(expected) && is_open(word) {
-        return Some("an interrupt has an address without open bits");
+    if is_known(expected) && (is_open(word) || word.contains("..")) {
+        return Some("an interrupt has one address, without open bits");
     }
     match language {
         Language::Plan => reason_of_plan_bits(word),
@@ -334,12 +340,14 @@ enum Address<'a> {
     Number(u8),
 }
 
-fn push_address(lines: &mut Lines, address: Address<'_>) {
-    lines.part("an address has seven bits; without the direction bit this is ");
+// Says which address it is that this word has with its direction bit.
+fn push_address(lines: &mut Lines, word: &str, address: Address<'_>) {
+    lines.part(format_args!("an address has seven bits: {word} is "));
     match address {
-        Address::Bits(before, bits) => lines.say(format_args!("{before}{bits}")),
-        Address::Number(number) => lines.say(format_args!("0x{number:02X}")),
+        Address::Bits(before, bits) => lines.part(format_args!("{before}{bits}")),
+        Address::Number(number) => lines.part(format_args!("0x{number:02X}")),
     }
+    lines.say(" with its direction bit");
 }
 
 // The address whose header this word writes, with the direction bit at the end (UM10204, 3.1.10).

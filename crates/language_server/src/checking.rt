@@ -97,15 +97,31 @@ fn wrong_in<R: Threads + Sync>(rt: &R, alloc: Global, parts: &[Part]) -> Result<
     let mut texts = texts_of(alloc, parts, names.as_slice())?;
     match texts.find(alloc) {
         Ok(given) => wrong_in_plan(rt, alloc, given, &texts),
-        Err(Halt::Text(error, source)) => {
-            let diagnostic = source.diagnose(alloc, error, named(&texts))?;
+        Err(mut halt) => {
+            texts.read_on(alloc, &mut halt);
             Ok(Found {
-                all: vec![in alloc; diagnostic]?,
+                all: refusals_of(alloc, halt, named(&texts))?,
                 is_plan: false,
             })
         }
-        Err(_) => Err(AllocError),
     }
+}
+
+// What is refused in texts: the first refusal, and all others.
+fn refusals_of(
+    alloc: Global,
+    halt: Halt,
+    named: NamedSources<'_>,
+) -> Result<Vec<Diagnostic>, AllocError> {
+    let Halt::Text(error, source) = halt else {
+        return Err(AllocError);
+    };
+    let mut all = Vec::new(alloc);
+    all.push(source.diagnose(alloc, error, named)?)?;
+    for diagnostic in source.diagnose_further(alloc, error, named)? {
+        all.push(diagnostic)?;
+    }
+    Ok(all)
 }
 
 fn named<'a>(texts: &Texts<'a>) -> NamedSources<'a> {
@@ -117,6 +133,7 @@ fn named<'a>(texts: &Texts<'a>) -> NamedSources<'a> {
         },
         further: texts.files.further,
         argument: "--with",
+        several: !texts.files.further.is_empty(),
     }
 }
 

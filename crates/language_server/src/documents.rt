@@ -22,6 +22,16 @@ impl Drop for Document {
     }
 }
 
+impl Document {
+    /// Whether its file has this path.
+    pub(crate) fn is_at(&self, path: &str) -> bool {
+        match &self.path {
+            Some(own) => own.as_str() == path,
+            None => false,
+        }
+    }
+}
+
 /// All of them, in the order in which they were opened.
 #[derive(Drop)]
 pub(crate) struct Documents {
@@ -51,6 +61,11 @@ impl Documents {
     /// The number of the one with this name.
     pub(crate) fn number_of(&self, uri: &str) -> Option<usize> {
         self.open.iter().position(|one| one.uri.as_str() == uri)
+    }
+
+    /// The number of the one whose file has this path.
+    pub(crate) fn number_at(&self, path: &str) -> Option<usize> {
+        self.open.iter().position(|one| one.is_at(path))
     }
 
     /// A further one. Where it is open it has this text from now on.

@@ -1,6 +1,7 @@
 // What is done for each message of a client.
 
 use crate::answers::{Answers, json};
+use crate::boards::is_second_version;
 use crate::checking::{names_after_first, texts_of, wrong_with};
 use crate::documents::{Document, Documents};
 use crate::formatting::{edit_of, laid_out};
@@ -14,9 +15,11 @@ use crate::rpc::{
     message_of, number_in, text_in,
 };
 use growing_text::Text;
+use plan_text::is_plan;
 use run_parts::Status;
 use serde_json::Value;
 use std::alloc::{AllocError, Global};
+use std::mem;
 use std::rt::Files;
 use std::thread::Threads;
 
@@ -27,6 +30,8 @@ pub(crate) struct Server<'a, R> {
     further: Vec<Further>,
     documents: Documents,
     before: Before,
+    // the files that heads name, of which something was told
+    told: Vec<String>,
     phase: Phase,
 }
 
@@ -77,6 +82,7 @@ impl<'a, R: Files + AllocGlobal + Threads + Sync> Server<'a, R> {
             further,
             documents: Documents::new(rt.alloc()),
             before: Before::Unknown,
+            told: Vec::new(rt.alloc()),
             phase: Phase::New,
         }
     }
@@ -212,10 +218,21 @@ impl<'a, R: Files + AllocGlobal + Threads + Sync> Server<'a, R> {
             return Ok(());
         }
         publish_nothing(self.rt.alloc(), answers, uri);
-        if self.further.is_empty() {
+        if self.further.is_empty() && self.told.is_empty() && !self.has_boards() {
             return Ok(());
         }
+        self.forget(uri);
         self.tell_each(answers)
+    }
+
+    // Nothing is told of this file now.
+    fn forget(&mut self, uri: &str) {
+        match self.told.iter().position(|one| one.as_str() == uri) {
+            Some(at) if at < self.told.len() => {
+                let _forgotten = self.told.remove(at);
+            }
+            _ => {}
+        }
     }
 
     // Tells what is wrong after this document has another text: with all plans that it is a part of.
@@ -223,18 +240,37 @@ impl<'a, R: Files + AllocGlobal + Threads + Sync> Server<'a, R> {
         let Some(number) = self.documents.number_of(uri) else {
             return Ok(());
         };
-        let heads = heads_of(self.rt, &self.documents, self.further.as_slice())?;
-        if heads.contains(&number) {
-            let is_first = self.before_files(heads.as_slice()) == Some(number);
-            return self.tell(Some(number), is_first, answers);
-        }
-        if !self.is_file(number) {
-            self.tell(Some(number), false, answers)?;
-            if !self.was_before_files(uri) {
+        let is_file = self.is_file(number);
+        if !is_file && self.has_plan(number) {
+            self.tell(Some(number), &[], false, answers)?;
+            if !self.was_before_files(uri) && !self.has_boards() {
                 return Ok(());
             }
+            return self.tell_each(answers);
         }
-        self.tell_each(answers)
+        if is_file || self.has_boards() {
+            return self.tell_each(answers);
+        }
+        let heads = heads_of(self.rt, &self.documents, self.further.as_slice())?;
+        let is_first = self.before_files(heads.as_slice()) == Some(number);
+        self.tell(Some(number), heads.as_slice(), is_first, answers)
+    }
+
+    fn has_plan(&self, number: usize) -> bool {
+        match self.documents.all().get(number) {
+            Some(document) => is_plan(document.text.as_bytes()),
+            None => false,
+        }
+    }
+
+    // Whether an open document may name others.
+    fn has_boards(&self) -> bool {
+        for document in self.documents.all() {
+            if is_second_version(document.text.as_bytes()) {
+                return true;
+            }
+        }
+        false
     }
 
     fn is_file(&self, number: usize) -> bool {
@@ -251,15 +287,22 @@ impl<'a, R: Files + AllocGlobal + Threads + Sync> Server<'a, R> {
         }
     }
 
-    // Tells what is wrong with all plans that briefs give.
+    // Tells what is wrong with all plans that briefs give. Of files that are none of theirs any more nothing is wrong.
     fn tell_each(&mut self, answers: &mut Answers) -> Result<(), AllocError> {
+        let before = mem::replace(&mut self.told, Vec::new(self.rt.alloc()));
         let heads = heads_of(self.rt, &self.documents, self.further.as_slice())?;
         let first = self.before_files(heads.as_slice());
         for head in heads.iter() {
-            self.tell(Some(*head), first == Some(*head), answers)?;
+            self.tell_next(Some(*head), heads.as_slice(), first == Some(*head), answers)?;
         }
         if first.is_none() {
-            self.tell(None, true, answers)?;
+            self.tell_next(None, heads.as_slice(), true, answers)?;
+        }
+        for uri in before {
+            let uri = uri.as_str();
+            if !has(self.told.as_slice(), uri) && self.documents.find(uri).is_none() {
+                publish_nothing(self.rt.alloc(), answers, uri);
+            }
         }
         Ok(())
     }
@@ -283,17 +326,58 @@ impl<'a, R: Files + AllocGlobal + Threads + Sync> Server<'a, R> {
     fn tell(
         &mut self,
         head: Option<usize>,
+        heads: &[usize],
+        tells_further: bool,
+        answers: &mut Answers,
+    ) -> Result<(), AllocError> {
+        let given = self.given_by(heads, head, tells_further)?;
+        self.tell_given(given, head, tells_further, answers)
+    }
+
+    // The same, after what was told before it of other plans. A file is told of once.
+    fn tell_next(
+        &mut self,
+        head: Option<usize>,
+        heads: &[usize],
+        tells_further: bool,
+        answers: &mut Answers,
+    ) -> Result<(), AllocError> {
+        let mut given = self.given_by(heads, head, tells_further)?;
+        for part in given.parts.iter_mut() {
+            if part.is_named && has(self.told.as_slice(), part.uri.as_str()) {
+                part.is_told = false;
+            }
+        }
+        for part in given.parts.iter() {
+            if part.is_named && part.is_told {
+                let uri = String::from_str(self.rt.alloc(), part.uri.as_str())?;
+                if self.told.push(uri).is_err() {
+                    return Err(AllocError);
+                }
+            }
+        }
+        self.tell_given(given, head, tells_further, answers)
+    }
+
+    fn tell_given(
+        &mut self,
+        given: Given,
+        head: Option<usize>,
         tells_further: bool,
         answers: &mut Answers,
     ) -> Result<(), AllocError> {
         let alloc = self.rt.alloc();
-        let further = self.further.as_slice();
-        let given = given_by(self.rt, &self.documents, head, further, tells_further)?;
         let found = wrong_with(self.rt, alloc, &given)?;
         if tells_further {
             self.before = self.before_of(head, found.is_plan)?;
         }
-        publish(alloc, answers, &given, &found)
+        publish(
+            alloc,
+            answers,
+            &given,
+            head_uri(&self.documents, head),
+            &found,
+        )
     }
 
     fn before_of(&self, head: Option<usize>, is_plan: bool) -> Result<Before, AllocError> {
@@ -354,17 +438,53 @@ impl<'a, R: Files + AllocGlobal + Threads + Sync> Server<'a, R> {
         told_in(self.rt, question, &given, document, offset)
     }
 
-    // The texts of the plan that a document belongs to: it is the first of them, or one of the further files. Then that is the plan
-    // with which it is told of.
+    // The texts of the plan that a document belongs to: it is the first of them, what the head of one of them names, or one of the
+    // further files. Then that is the plan with which it is told of.
     fn plan_of(&self, uri: &str) -> Result<Given, AllocError> {
         let further = self.further.as_slice();
         let heads = heads_of(self.rt, &self.documents, further)?;
+        let heads = heads.as_slice();
         let head = match self.documents.number_of(uri) {
-            Some(number) if !self.is_file(number) => Some(number),
-            _ => self.before_files(heads.as_slice()),
+            Some(number) if heads.contains(&number) || self.has_plan(number) => Some(number),
+            _ => {
+                for head in heads {
+                    let given = self.given_by(heads, Some(*head), true)?;
+                    if given.number_of(uri).is_some() {
+                        return Ok(given);
+                    }
+                }
+                self.before_files(heads)
+            }
         };
-        given_by(self.rt, &self.documents, head, further, true)
+        self.given_by(heads, head, true)
     }
+
+    fn given_by(
+        &self,
+        heads: &[usize],
+        head: Option<usize>,
+        tells_further: bool,
+    ) -> Result<Given, AllocError> {
+        let further = self.further.as_slice();
+        given_by(
+            self.rt,
+            &self.documents,
+            heads,
+            head,
+            further,
+            tells_further,
+        )
+    }
+}
+
+fn has(uris: &[String], uri: &str) -> bool {
+    uris.iter().any(|one| one.as_str() == uri)
+}
+
+// The URI of the document of this number.
+fn head_uri(documents: &Documents, head: Option<usize>) -> Option<&str> {
+    let document = documents.all().get(head?)?;
+    Some(document.uri.as_str())
 }
 
 // The edits that lay a document out.

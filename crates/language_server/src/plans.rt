@@ -1,5 +1,6 @@
 // Which texts give the plan that a document belongs to.
 
+use crate::boards::{is_second_version, with_named};
 use crate::documents::{Document, Documents};
 use crate::uris::uri_of;
 use files::{FileId, identity_of};
@@ -27,6 +28,8 @@ pub(crate) struct Part {
     pub(crate) text: Vec<u8>,
     /// Whether what is wrong with it is told by this plan, and by no other.
     pub(crate) is_told: bool,
+    /// Whether a head names it, and nobody gave it.
+    pub(crate) is_named: bool,
 }
 
 /// The texts that give a plan, in their order.
@@ -39,11 +42,19 @@ pub(crate) struct Given {
     before: usize,
 }
 
-/// A file that cannot be read: its name, and why.
+/// A file that cannot be read: its name, why, and where a head names it. (Nowhere, where the command line does.)
 #[derive(Drop)]
 pub(crate) struct Unread {
     pub(crate) name: String,
     pub(crate) reason: String,
+    pub(crate) at: Option<UnreadAt>,
+}
+
+/// A line of the text with this URI, from 1 on.
+#[derive(Drop)]
+pub(crate) struct UnreadAt {
+    pub(crate) uri: String,
+    pub(crate) line: u64,
 }
 
 /// The further files of these names.
@@ -90,7 +101,8 @@ fn path_from_root<R: Env + AllocGlobal>(rt: &R, name: &str) -> Result<String, Al
     }
 }
 
-/// The numbers of the open documents that may be the first of several texts: none of the further files, and no plan.
+/// The numbers of the open documents that may be the first of several texts: none of the further files, and no plan. What the head
+/// of another one names is told of with that one. Where two name each other that is the one that was opened first.
 ///
 /// # Errors
 ///
@@ -100,13 +112,74 @@ pub(crate) fn heads_of<R: Files + AllocGlobal>(
     documents: &Documents,
     further: &[Further],
 ) -> Result<Vec<usize>, AllocError> {
-    let mut heads = Vec::new(rt.alloc());
+    let alloc = rt.alloc();
+    let mut briefs = Vec::new(alloc);
     for (number, document) in documents.all().iter().enumerate() {
         if !is_further(rt, document, further) && !is_plan(document.text.as_bytes()) {
-            heads.push(number)?;
+            briefs.push(number)?;
+        }
+    }
+    let naming = namings_of(rt, documents, further, briefs.as_slice())?;
+    let mut heads = Vec::new(alloc);
+    for brief in briefs.iter() {
+        if !is_named(naming.as_slice(), *brief) {
+            heads.push(*brief)?;
         }
     }
     Ok(heads)
+}
+
+// That the list of an open document has another one.
+#[derive(Clone, Copy, PartialEq, Eq)]
+struct Naming {
+    by: usize,
+    named: usize,
+}
+
+// Which of these documents have which of them in their lists.
+fn namings_of<R: Files + AllocGlobal>(
+    rt: &R,
+    documents: &Documents,
+    further: &[Further],
+    briefs: &[usize],
+) -> Result<Vec<Naming>, AllocError> {
+    let mut namings = Vec::new(rt.alloc());
+    for by in briefs {
+        let Some(document) = documents.all().get(*by) else {
+            continue;
+        };
+        if !is_second_version(document.text.as_bytes()) {
+            continue;
+        }
+        let given = given_by(rt, documents, &[], Some(*by), further, false)?;
+        for part in given.parts.iter() {
+            if let Some(named) = documents.number_of(part.uri.as_str()) {
+                if named != *by {
+                    namings.push(Naming { by: *by, named })?;
+                }
+            }
+        }
+    }
+    Ok(namings)
+}
+
+// Whether a document is told of with another one.
+fn is_named(namings: &[Naming], number: usize) -> bool {
+    for naming in namings {
+        if naming.named == number && is_first(namings, *naming) {
+            return true;
+        }
+    }
+    false
+}
+
+// Whether the one that names the other is not named by that, or was opened before it.
+fn is_first(namings: &[Naming], naming: Naming) -> bool {
+    let turned = Naming {
+        by: naming.named,
+        named: naming.by,
+    };
+    naming.by < naming.named || !namings.contains(&turned)
 }
 
 /// Whether a document is one of these files.
@@ -130,15 +203,20 @@ pub(crate) fn stands_for<R: Files>(
     document.uri.as_str() != uri && documents.find(uri).is_none() && is_file(rt, document, further)
 }
 
-// Whether a document is this file: by its path, or as the system knows both.
+// Whether a document is this file.
 fn is_file<R: Files>(rt: &R, document: &Document, further: &Further) -> bool {
+    is_at(rt, document, further.path.as_str())
+}
+
+/// Whether a document is the file of this path: by its own path, or as the system knows both.
+pub(crate) fn is_at<R: Files>(rt: &R, document: &Document, at: &str) -> bool {
     let Some(path) = &document.path else {
         return false;
     };
-    path.as_str() == further.path.as_str()
+    path.as_str() == at
         || is_one(
             identity_of(fs::metadata(rt, path.as_str())),
-            identity_of(fs::metadata(rt, further.path.as_str())),
+            identity_of(fs::metadata(rt, at)),
         )
 }
 
@@ -150,7 +228,8 @@ fn is_one(one: Option<FileId>, other: Option<FileId>) -> bool {
 }
 
 /// The texts that give a plan: the document of this number, where there is one, and then the further files, which no plan has
-/// after it. These are told of where that is wanted.
+/// after it. These are told of where that is wanted. What their heads name stands before them, and is told of, but the documents that
+/// are heads.
 ///
 /// # Errors
 ///
@@ -158,16 +237,25 @@ fn is_one(one: Option<FileId>, other: Option<FileId>) -> bool {
 pub(crate) fn given_by<R: Files + AllocGlobal>(
     rt: &R,
     documents: &Documents,
+    heads: &[usize],
+    head: Option<usize>,
+    further: &[Further],
+    tells_further: bool,
+) -> Result<Given, AllocError> {
+    let given = given_texts(rt, documents, head, further, tells_further)?;
+    with_named(rt, documents, heads, given)
+}
+
+// The same, without what heads name.
+fn given_texts<R: Files + AllocGlobal>(
+    rt: &R,
+    documents: &Documents,
     head: Option<usize>,
     further: &[Further],
     tells_further: bool,
 ) -> Result<Given, AllocError> {
     let alloc = rt.alloc();
-    let mut given = Given {
-        parts: Vec::new(alloc),
-        unread: Vec::new(alloc),
-        before: 0,
-    };
+    let mut given = Given::new(alloc);
     if let Some(document) = head_among(documents, head) {
         given.add(part_of(alloc, document, file_name_of(document), true)?)?;
         if !is_further(rt, document, further) && is_plan(document.text.as_bytes()) {
@@ -179,7 +267,11 @@ pub(crate) fn given_by<R: Files + AllocGlobal>(
             FurtherPart::Read(part) => given.add(part)?,
             FurtherPart::Unread(reason) => {
                 let name = String::from_str(alloc, one.name.as_str())?;
-                given.leave_out(Unread { name, reason })?;
+                given.leave_out(Unread {
+                    name,
+                    reason,
+                    at: None,
+                })?;
             }
         }
     }
@@ -191,14 +283,33 @@ fn head_among(documents: &Documents, head: Option<usize>) -> Option<&Document> {
 }
 
 impl Given {
-    fn add(&mut self, part: Part) -> Result<(), AllocError> {
+    /// None.
+    pub(crate) fn new(alloc: Global) -> Given {
+        Given {
+            parts: Vec::new(alloc),
+            unread: Vec::new(alloc),
+            before: 0,
+        }
+    }
+
+    /// A further part.
+    ///
+    /// # Errors
+    ///
+    /// Where an allocation fails.
+    pub(crate) fn add(&mut self, part: Part) -> Result<(), AllocError> {
         match self.parts.push(part) {
             Ok(()) => Ok(()),
             Err(_) => Err(AllocError),
         }
     }
 
-    fn leave_out(&mut self, file: Unread) -> Result<(), AllocError> {
+    /// A file that cannot be read stands here.
+    ///
+    /// # Errors
+    ///
+    /// Where an allocation fails.
+    pub(crate) fn leave_out(&mut self, file: Unread) -> Result<(), AllocError> {
         if self.unread.is_empty() {
             self.before = self.parts.len();
         }
@@ -239,6 +350,7 @@ fn part_of(
         name: String::from_str(alloc, name)?,
         text,
         is_told,
+        is_named: false,
     })
 }
 
@@ -281,6 +393,7 @@ fn further_part<R: Files + AllocGlobal>(
             name: String::from_str(alloc, name)?,
             text,
             is_told,
+            is_named: false,
         })),
         Err(NoText::Memory) => Err(AllocError),
         Err(NoText::Refused(error)) => Ok(FurtherPart::Unread(format!(in alloc; "{error}")?)),
@@ -288,16 +401,20 @@ fn further_part<R: Files + AllocGlobal>(
     }
 }
 
-// Why a file has no text.
+/// Why a file has no text.
 #[derive(Drop)]
-enum NoText {
+pub(crate) enum NoText {
     Memory,
     Refused(io::Error),
     Other(&'static str),
 }
 
-// What the file of this path has. A pipe would be waited for, and a device may have no end.
-fn read<R: Files + AllocGlobal>(rt: &R, path: &str) -> Result<Vec<u8>, NoText> {
+/// What the file of this path has. A pipe would be waited for, and a device may have no end.
+///
+/// # Errors
+///
+/// Where it has no text.
+pub(crate) fn read<R: Files + AllocGlobal>(rt: &R, path: &str) -> Result<Vec<u8>, NoText> {
     match fs::metadata(rt, path) {
         Ok(found) if found.is_file() => {}
         Ok(_) => return Err(NoText::Other("it is no regular file")),

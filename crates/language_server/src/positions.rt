@@ -84,20 +84,32 @@ impl<'a> Lines<'a> {
         self.range(0, self.text.len())
     }
 
-    /// The first line, without its end.
-    pub(crate) fn first(&self) -> Range {
-        let Span { start, end, .. } = self.first_span();
+    /// A line of those that line feeds end, from 1 on, up to the end of a line of the editor.
+    pub(crate) fn line(&self, number: u64) -> Range {
+        let mut line = 1u64;
+        let mut start = 0usize;
+        let mut end = self.text.len();
+        for (place, byte) in self.text.iter().enumerate() {
+            if line == number && matches!(*byte, b'\n' | b'\r') {
+                end = place;
+                break;
+            }
+            if *byte == b'\n' {
+                line = line.saturating_add(1);
+                start = place.saturating_add(1);
+            }
+        }
         self.range(start, end)
     }
 
-    /// The same as bytes of the first text.
-    pub(crate) fn first_span(&self) -> Span {
+    /// The first line, without its end, as bytes of the text of this number.
+    pub(crate) fn first_span(&self, file: u32) -> Span {
         let after = Position {
             line: 0,
             character: u64::MAX,
         };
         Span {
-            file: 0,
+            file,
             start: 0,
             end: self.offset(after),
         }

@@ -90,7 +90,8 @@ pub(crate) fn marks_of(alloc: Global, given: &Given) -> Result<Vec<Marked<'_>>, 
     Ok(marks)
 }
 
-/// Says what was found wrong, document by document, of those that are told of here.
+/// Says what was found wrong, document by document, of those that are told of here. The plan begins with the document of this URI, or
+/// with the first text.
 ///
 /// # Errors
 ///
@@ -99,20 +100,36 @@ pub(crate) fn publish(
     alloc: Global,
     answers: &mut Answers,
     given: &Given,
+    head: Option<&str>,
     found: &Found,
 ) -> Result<(), AllocError> {
     let marks = marks_of(alloc, given)?;
+    let begins = match head {
+        Some(uri) => given.number_of(uri).unwrap_or(0),
+        None => 0,
+    };
     let mut file = 0u32;
     for part in given.parts.iter() {
         if part.is_told {
+            let place = Place {
+                file,
+                begins: file == begins,
+            };
             answers.notify(
                 METHOD,
-                params_of(alloc, given, marks.as_slice(), file, found),
+                params_of(alloc, given, marks.as_slice(), place, found),
             );
         }
         file = file.saturating_add(1);
     }
     Ok(())
+}
+
+// The number of a text, and whether its plan begins with it.
+#[derive(Clone, Copy)]
+struct Place {
+    file: u32,
+    begins: bool,
 }
 
 /// Says that nothing is wrong with a document any more.
@@ -124,21 +141,22 @@ fn params_of(
     alloc: Global,
     given: &Given,
     marks: &[Marked<'_>],
-    file: u32,
+    place: Place,
     found: &Found,
 ) -> Result<String, AllocError> {
     let mut list = List::new(alloc);
-    let uri = match marks.get(file as usize) {
+    let uri = match marks.get(place.file as usize) {
         Some(marked) => {
-            if file == 0 {
-                list.add_beginning(given, found, marked, marks);
+            list.add_unread_files(given, marked, place.begins);
+            if place.begins {
+                list.add_beginning(given, found, place.file, marks);
             }
             marked.uri
         }
         None => "",
     };
     for diagnostic in found.all.iter() {
-        list.add_places(diagnostic, marks, file, found.is_plan);
+        list.add_places(diagnostic, marks, place.file, found.is_plan);
     }
     params_with(alloc, uri, list.finish())
 }
@@ -170,26 +188,34 @@ impl List {
         }
     }
 
-    // What is told on the first line of a plan: which files cannot be read, and a refusal in one that is told of with another plan.
-    fn add_beginning(
-        &mut self,
-        given: &Given,
-        found: &Found,
-        first: &Marked<'_>,
-        marks: &[Marked<'_>],
-    ) {
+    // Which files cannot be read that this text names, or the command line, which is told where the plan begins.
+    fn add_unread_files(&mut self, given: &Given, text: &Marked<'_>, begins: bool) {
         for file in given.unread.iter() {
-            self.add_unread(file, first.lines.first());
+            match &file.at {
+                None if begins => self.add_unread(file, text.lines.line(1)),
+                Some(at) if at.uri.as_str() == text.uri => {
+                    self.add_unread(file, text.lines.line(at.line));
+                }
+                _ => {}
+            }
         }
+    }
+
+    // What is told on the first line of a plan: a refusal in a file that is told of with another plan.
+    fn add_beginning(&mut self, given: &Given, found: &Found, begins: u32, marks: &[Marked<'_>]) {
+        let Some(first) = marks.get(begins as usize) else {
+            return;
+        };
         if found.is_plan {
             return;
         }
-        for diagnostic in found.all.iter() {
+        // (what else is refused there is told with that one)
+        if let Some(diagnostic) = found.all.first() {
             if let Some(part) = given.parts.get(diagnostic.span.file as usize) {
                 if !part.is_told {
                     let shown = Shown {
                         diagnostic,
-                        span: first.lines.first_span(),
+                        span: first.lines.first_span(begins),
                         own: Some(REFUSED),
                         file: Some(part.name.as_str()),
                     };
@@ -284,7 +310,10 @@ fn unread_words(alloc: Global, file: &Unread) -> Result<String, AllocError> {
     let mut words = Text::new(alloc);
     words.push("the file ");
     words.push_made(shown(alloc, file.name.as_str()));
-    words.push(" of --with cannot be read: ");
+    if file.at.is_none() {
+        words.push(" of --with");
+    }
+    words.push(" cannot be read: ");
     words.push(file.reason.as_str());
     words.finish()
 }

@@ -1,7 +1,8 @@
 -- What a brief that was learned says: what it means, which of the paths that were seen its plan has, and how many transactions
 -- are told to be in no message.
-use Rattle.std.specs.Prelude.{◌≡◌, ℕ, ◌+◌, ◌-◌, ◌^◌, min, Bool, true, false, List, [], ◌∷◌, Option, Some, None, All, map, sum_by, slice_get, string_bytes}
+use Rattle.std.specs.Prelude.{◌≡◌, ℕ, ◌+◌, ◌-◌, ◌^◌, min, Bool, true, false, List, [], ◌∷◌, ◌++◌, Option, Some, None, All, map, sum_by, slice_get, string_bytes, Vec}
 use Rattle.std.specs.Borrow.{Bor}
+use Rattle.std.specs.declared.alloc.Global.{Global}
 use Rattle.brief_text.specs.Briefs.{Means, AllMean}
 use Rattle.plan_core.specs.Contents.{Contents}
 use Rattle.run_parts.specs.declared.runs.Status.TheVariants.{Good}
@@ -13,15 +14,18 @@ use Rattle.lessons.specs.declared.seen.Sight.{Sight}
 use Rattle.lessons.specs.declared.seen.Sights.{Sights}
 use Rattle.lessons.specs.Plans.{HasPath}
 
--- the brief that is given first, if there is one
-abbrev pub text_before : Option (Bor BriefBefore) → Option (List ℕ)
-text_before (Some before) = Some before.now.text.now
-text_before None = None
+-- the briefs that are given first, if there are some
+abbrev pub bytes_of : List (Vec ℕ Global) → List (List ℕ)
+bytes_of texts = map (λ (text : Vec ℕ Global). text.items) texts
 
--- a text means the plan by itself, or together with the one before it
-abbrev pub MeansAfter : Option (List ℕ) → List ℕ → Contents → Type 0
+abbrev pub texts_before : Option (Bor BriefBefore) → Option (List (List ℕ))
+texts_before (Some before) = Some (bytes_of before.now.texts.now)
+texts_before None = None
+
+-- a text means the plan by itself, or together with those before it
+abbrev pub MeansAfter : Option (List (List ℕ)) → List ℕ → Contents → Type 0
 MeansAfter None text plan = Means text plan
-MeansAfter (Some before) text plan = AllMean (before ∷ text ∷ []) plan
+MeansAfter (Some texts) text plan = AllMean (texts ++ text ∷ []) plan
 
 -- those of a list that are marked, and the others
 abbrev pub marked : {A : Type 0} → List Bool → List A → List A
@@ -71,7 +75,7 @@ left_over seen others = sum_by times_odd (odd_in seen) + sum_by times_seen other
 -- The plan has each path that it is said to have. All other transactions are counted; where there are none, all is in it.
 pub record Teaches (seen : Sights) (learned : Learned) : Type 0 where
   pub plan : Contents
-  pub means : MeansAfter (text_before seen.before) (string_bytes learned.brief) plan
+  pub means : MeansAfter (texts_before seen.before) (string_bytes learned.brief) plan
   pub has : All (HasPath plan) (map path_seen (marked learned.had.items (seen_in seen)))
   pub counts : learned.in_no_message ≡ capped (left_over seen (unmarked learned.had.items (seen_in seen)))
   pub whole : learned.status ≡ Good → (unmarked learned.had.items (seen_in seen) ≡ []) × (odd_in seen ≡ [])

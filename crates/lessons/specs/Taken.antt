@@ -59,7 +59,12 @@ abbrev mutual
   tail_takes stop (step ∷ steps) = false
   tail_takes (again frame) steps = frame_takes frame steps
 
+-- the items of these texts make one draft another
+abbrev pub ReadAfter : Draft → List (List ℕ) → Draft → Type 0
+ReadAfter draft [] after = after ≡ draft
+ReadAfter draft (text ∷ texts) after = (more : Draft) × (text_read draft text ≡ Ok more) × ReadAfter more texts after
+
 -- these items are what was read before
-abbrev pub ReadsBefore : Option (List ℕ) → Draft → Type 0
+abbrev pub ReadsBefore : Option (List (List ℕ)) → Draft → Type 0
 ReadsBefore None draft = draft ≡ no_items
-ReadsBefore (Some text) draft = text_read no_items text ≡ Ok draft
+ReadsBefore (Some texts) draft = ReadAfter no_items texts draft

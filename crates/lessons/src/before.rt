@@ -1,6 +1,7 @@
-// The brief that what is learned is given after: which transactions its messages explain, and the names that it has.
+// The briefs that what is learned is given after: which transactions their messages explain, and the names that they have.
 
 use crate::paths::NoPath;
+use brief_tokens::is_board_word;
 use capture_check::{Transaction, explain};
 use message_tree::{Address, Frame, Pattern};
 use origins::Origins;
@@ -8,13 +9,16 @@ use plan_core::limits::{MOST_CONTROLLERS, MOST_MESSAGES, MOST_SENDINGS};
 use plan_core::{BuildError, Builder, Name, Participant, Plan};
 use std::alloc::{AllocError, Global};
 
-/// A brief that is given first: what is learned is a further file after it.
+/// The briefs of a board that are given first: what is learned is a further file after them.
 #[derive(Drop)]
 pub struct BriefBefore<'a> {
+    /// The file that is told of them.
     pub(crate) file: &'a str,
-    pub(crate) text: &'a [u8],
+    pub(crate) texts: &'a [Vec<u8>],
     plan: &'a Plan,
     origins: &'a Origins,
+    // whether what is learned can be in the second version
+    is_second: bool,
     // all messages of the plan, in its order, which one controller lists
     messages: Plan,
     // by the number of the message
@@ -50,7 +54,8 @@ pub(crate) enum Explained {
 }
 
 impl<'a> BriefBefore<'a> {
-    /// The brief of this file, whose text means this plan.
+    /// The briefs of a board, whose texts mean this plan together. People know them by this file. Where one of them is in the
+    /// second version, what is learned may be.
     ///
     /// # Errors
     ///
@@ -58,18 +63,37 @@ impl<'a> BriefBefore<'a> {
     pub fn new(
         alloc: Global,
         file: &'a str,
-        text: &'a [u8],
+        texts: &'a [Vec<u8>],
+        is_second: bool,
         plan: &'a Plan,
         origins: &'a Origins,
     ) -> Result<BriefBefore<'a>, AllocError> {
         Ok(BriefBefore {
             file,
-            text,
+            texts,
             plan,
             origins,
+            is_second: is_second && !names_a_word(plan, origins),
             messages: with_all(alloc, plan)?,
             is_listed: listed_in(alloc, plan)?,
         })
+    }
+
+    /// Whether `extend` can add to the controller of this name: it is one of the briefs, and no `never` names it.
+    pub(crate) fn can_extend(&self, name: &str) -> bool {
+        if !self.is_second {
+            return false;
+        }
+        let mut is_there = false;
+        for controller in 0..self.plan.controllers() {
+            if self.is_called(controller, name) {
+                if is_kept_apart(self.plan, controller) {
+                    return false;
+                }
+                is_there = true;
+            }
+        }
+        is_there
     }
 
     // How many messages no controller lists.
@@ -224,6 +248,29 @@ impl<'a> BriefBefore<'a> {
         }
         found
     }
+}
+
+// Whether a device, a byte, a message, a family or a controller has a name that is a word of the second version.
+fn names_a_word(plan: &Plan, origins: &Origins) -> bool {
+    let mut devices = origins.devices.iter();
+    let mut bytes = origins.bytes.iter();
+    let mut families = origins.families.iter();
+    let mut controllers = origins.controllers.iter();
+    devices.any(|it| is_board_word(it.name.as_str()))
+        || bytes.any(|it| is_board_word(it.name.as_str()))
+        || families.any(|it| is_board_word(it.name.as_str()))
+        || controllers.any(|it| is_board_word(it.controller.as_str()))
+        || (0..plan.messages()).any(|number| is_board_word(plan.message_name(number).as_str()))
+}
+
+fn is_kept_apart(plan: &Plan, controller: u32) -> bool {
+    for number in 0..plan.nevers() {
+        let (first, second) = plan.never(number);
+        if first == controller || second == controller {
+            return true;
+        }
+    }
+    false
 }
 
 // A plan of these messages, which one controller lists.

@@ -5,12 +5,12 @@ ghost use Rattle.plan_core.specs.PlanContents.{plan_contents};
 ghost use Rattle.plan_core.specs.Senders.{what_is_sent};
 ghost use Rattle.capture_check.specs.Explained.{MayLeave};
 ghost use Rattle.capture_check.specs.declared.listening.Mark.{Mark};
-ghost use Rattle.lessons.specs.Lessons.{MeansAfter, Teaches, text_before, marked, unmarked, path_seen, times_seen, times_odd};
+ghost use Rattle.lessons.specs.Lessons.{MeansAfter, Teaches, texts_before, bytes_of, marked, unmarked, path_seen, times_seen, times_odd};
 ghost use Rattle.lessons.specs.Lessons.{capped, is_marked, left_over, seen_in, odd_in};
 ghost use Rattle.run_parts.specs.declared.runs.Status.TheVariants.{Good};
 ghost use Rattle.brief_text.specs.Together.{together};
 ghost use Rattle.lessons.specs.Plans.{HasMarks, HasPath};
-ghost use Rattle.lessons.specs.Taken.{ReadsBefore};
+ghost use Rattle.lessons.specs.Taken.{ReadsBefore, ReadAfter};
 
 use crate::before::BriefBefore;
 use crate::paths::Step;
@@ -75,27 +75,40 @@ pub(crate) fn without_paths(
     Ok(learned_of(seen, brief, Vec::new(alloc)))
 }
 
-// The plan that a text means after the brief before it.
+// The plan that a text means after the briefs before it.
 fn plan_meant(
     alloc: Global,
     before: Option<&BriefBefore<'_>>,
     text: &[u8],
 ) -> Result<Plan, BriefError>
-    ensures { IfOk result (λ plan. MeansAfter (text_before before.entry) text.now (plan_contents plan)) }
+    ensures { IfOk result (λ plan. MeansAfter (texts_before before.entry) text.now (plan_contents plan)) }
 {
     let briefs = read_before(alloc, before)?;
     let briefs = briefs.with(text)?;
     Ok(briefs.plan()?)
 }
 
-// The brief before, or none.
+// The briefs before, or none.
 fn read_before(alloc: Global, before: Option<&BriefBefore<'_>>) -> Result<Briefs, BriefError>
-    ensures { IfOk result (λ briefs. ReadsBefore (text_before before.entry) (together briefs)) }
+    ensures { IfOk result (λ briefs. ReadsBefore (texts_before before.entry) (together briefs)) }
 {
     let briefs = Briefs::new(alloc);
     match before {
-        Some(before) => briefs.with(before.text),
+        Some(before) => read_all(briefs, before.texts),
         None => Ok(briefs),
+    }
+}
+
+// These briefs after others.
+fn read_all(briefs: Briefs, texts: &[Vec<u8>]) -> Result<Briefs, BriefError>
+    ensures { IfOk result (λ all. ReadAfter (together briefs) (bytes_of texts.now) (together all)) }
+{
+    match texts {
+        [] => Ok(briefs),
+        [first, rest @ ..] => {
+            let briefs = briefs.with(first.as_slice())?;
+            read_all(briefs, rest)
+        }
     }
 }
 

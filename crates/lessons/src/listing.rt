@@ -5,13 +5,16 @@ use crate::naming::Name;
 use crate::seen::{Sights, bit_of};
 use crate::trees::Tree;
 use crate::words::plain_word;
+use brief_tokens::is_board_word;
 use growing_text::{Lines, Text};
 use std::alloc::{AllocError, Global};
 
-/// A controller of the brief, and what it lists: messages of the brief before it, and further ones, by their numbers.
+/// A controller of the brief, and what it lists: messages of the briefs before it, and further ones, by their numbers.
 #[derive(Drop)]
 pub(crate) struct Controller {
     pub(crate) name: String,
+    /// Whether the briefs before have it, and it is given these as well.
+    pub(crate) is_extended: bool,
     // the name that was wanted, and whether a line of the controller was followed
     base: String,
     is_known: bool,
@@ -31,15 +34,23 @@ pub(crate) fn controllers_of(
     let senders = senders_of(alloc, trees, items)?;
     let mut controllers: Vec<Controller> = Vec::new(alloc);
     for (number, drive) in seen.drives.all.iter().enumerate() {
-        let name = free_name(alloc, seen, &controllers, drive.controller, true)?;
-        let own = listed(
-            alloc,
-            seen,
-            name,
-            drive.controller,
-            senders.as_slice(),
-            Some(number),
-        )?;
+        let is_extended = can_extend(seen, drive.controller);
+        let name = if is_extended {
+            String::from_str(alloc, drive.controller)?
+        } else {
+            free_name(alloc, seen, &controllers, drive.controller, true)?
+        };
+        let own = Controller {
+            is_extended,
+            ..listed(
+                alloc,
+                seen,
+                name,
+                drive.controller,
+                senders.as_slice(),
+                Some(number),
+            )?
+        };
         push_some(&mut controllers, own)?;
     }
     let name = free_name(alloc, seen, &controllers, "seen", false)?;
@@ -50,6 +61,18 @@ pub(crate) fn controllers_of(
         push_some(&mut controllers, rest)?;
     }
     Ok(controllers)
+}
+
+// Whether this controller of the briefs before is given more. No controller that is followed may have a name that is a word of
+// the second version, in which that is said.
+fn can_extend(seen: &Sights<'_>, controller: &str) -> bool {
+    let mut drives = seen.drives.all.iter();
+    match seen.before {
+        Some(before) => {
+            before.can_extend(controller) && !drives.any(|drive| is_board_word(drive.controller))
+        }
+        None => false,
+    }
 }
 
 fn push_some(controllers: &mut Vec<Controller>, one: Controller) -> Result<(), AllocError> {
@@ -82,6 +105,7 @@ fn listed(
 ) -> Result<Controller, AllocError> {
     let mut one = Controller {
         name,
+        is_extended: false,
         base: String::from_str(alloc, base)?,
         is_known: number.is_some(),
         before: Vec::new(alloc),
@@ -197,7 +221,14 @@ pub(crate) fn push_controllers(
     for controller in controllers.iter() {
         line.end();
         push_note(alloc, line, seen, controller);
-        line.begin("controller", "   ");
+        line.begin(
+            if controller.is_extended {
+                "extend"
+            } else {
+                "controller"
+            },
+            "   ",
+        );
         line.word(controller.name.as_str());
         for number in controller.before.iter() {
             if let Some(before) = seen.before {

@@ -51,7 +51,8 @@ fn push_brief(
     names: &[Name],
     controllers: &Vec<Controller>,
 ) {
-    line.begin("brief 1", "");
+    let is_second = controllers.iter().any(|one| one.is_extended);
+    line.begin(if is_second { "brief 2" } else { "brief 1" }, "");
     line.end();
     push_counts(alloc, line, seen, told, messages_in(items));
     for (k, name) in names.iter().enumerate() {

@@ -1,8 +1,20 @@
 //! What is allowed in briefs, and is likely a mistake. Nothing of it decides anything, and no clause speaks of it.
+//!
+//! `headers` says which messages part in their first byte, and which are a header alone; `nevers` which `never` items keep apart
+//! what parts there anyway, and `address_bytes` which data bytes are written where others have an address.
 #![tactic(auto)]
 
+mod address_bytes;
+mod headers;
+mod nevers;
+
+use address_bytes::push_address_bytes;
+use brief_tokens::begin;
+use headers::push_headers;
+use lexer::Letters;
 use message_tree::{Address, Bit};
-use origins::{Device, NamedByte, Origins, Spans, Spot};
+use nevers::push_nevers;
+use origins::{Device, NamedByte, Origins, Span, Spans, Spot};
 use plan_core::Plan;
 use plan_words::family_of;
 use std::alloc::{AllocError, Global};
@@ -10,7 +22,7 @@ use std::alloc::{AllocError, Global};
 /// What is likely a mistake.
 #[derive(Clone, Copy)]
 pub enum Oddity<'a> {
-    /// This brief has no items.
+    /// This brief has no items, and names no files.
     EmptyBrief(Spot),
     /// Here a comment has a carriage return in it, which does not end it, and words after that.
     CarriageReturn(Spot),
@@ -23,9 +35,51 @@ pub enum Oddity<'a> {
     /// No message names the data byte.
     UnusedByte(&'a NamedByte),
     /// No controller lists these messages: so many, from this one of the plan on. Several are of one family.
-    Unsent { first: u32, count: u32, spot: Spot },
+    Unsent {
+        first: u32,
+        count: u32,
+        spot: Spot,
+    },
     /// The controller of this number in the plan lists no message.
-    Idle { controller: u32, spot: Spot },
+    Idle {
+        controller: u32,
+        spot: Spot,
+    },
+    /// This data byte is that with which a transaction with the device begins, and stands where such bytes do.
+    AddressByte {
+        device: &'a Device,
+        is_read: bool,
+        at: Placed,
+    },
+    /// This message of the plan writes a header and no data, and another controller writes to that address.
+    BareHeader {
+        message: u32,
+        spot: Spot,
+    },
+    /// A `never` between these sides keeps apart only messages that part in their first byte. It keeps apart none where one of
+    /// the two sends nothing.
+    IdleNever {
+        first: &'a str,
+        second: &'a str,
+        sends: bool,
+        at: Placed,
+    },
+}
+
+/// A part of a brief, and the line on which it begins.
+#[derive(Clone, Copy)]
+pub struct Placed {
+    pub span: Span,
+    pub line: u64,
+}
+
+impl Placed {
+    fn spot(self) -> Spot {
+        Spot {
+            file: self.span.file,
+            line: self.line,
+        }
+    }
 }
 
 impl Oddity<'_> {
@@ -40,6 +94,9 @@ impl Oddity<'_> {
             Oddity::UnusedByte(_) => "unused byte",
             Oddity::Unsent { .. } => "unsent message",
             Oddity::Idle { .. } => "idle controller",
+            Oddity::AddressByte { .. } => "address byte",
+            Oddity::BareHeader { .. } => "bare header",
+            Oddity::IdleNever { .. } => "idle never",
         }
     }
 
@@ -51,13 +108,16 @@ impl Oddity<'_> {
             | Oddity::ReservedAddress(device)
             | Oddity::UnusedDevice(device) => device.spot,
             Oddity::UnusedByte(byte) => byte.spot,
-            Oddity::Unsent { spot, .. } | Oddity::Idle { spot, .. } => spot,
+            Oddity::Unsent { spot, .. }
+            | Oddity::Idle { spot, .. }
+            | Oddity::BareHeader { spot, .. } => spot,
+            Oddity::AddressByte { at, .. } | Oddity::IdleNever { at, .. } => at.spot(),
         }
     }
 }
 
 /// What is likely a mistake in the briefs of these texts, where briefs mean this plan: first of the texts, whose items are these,
-/// then of devices, bytes, messages, and controllers, each in the order of the briefs.
+/// then of devices, bytes, messages, data bytes in these, controllers, and `never` items, each in the order of the briefs.
 ///
 /// # Errors
 ///
@@ -66,8 +126,8 @@ pub fn oddities<'a>(
     alloc: Global,
     plan: &Plan,
     origins: &'a Option<Origins>,
-    texts: &[Vec<u8>],
-    spans: &Spans,
+    texts: &'a [Vec<u8>],
+    spans: &'a Spans,
 ) -> Result<Vec<Oddity<'a>>, AllocError> {
     let mut found = Vec::new(alloc);
     let Some(origins) = origins else {
@@ -77,7 +137,10 @@ pub fn oddities<'a>(
     push_devices(&mut found, origins.devices.as_slice())?;
     push_bytes(&mut found, origins.bytes.as_slice())?;
     push_messages(&mut found, plan, origins)?;
+    push_headers(&mut found, plan, origins)?;
+    push_address_bytes(alloc, &mut found, origins.devices.as_slice(), texts, spans)?;
     push_controllers(&mut found, plan, origins)?;
+    push_nevers(alloc, &mut found, plan, origins, texts, spans)?;
     Ok(found)
 }
 
@@ -88,13 +151,23 @@ fn push_texts(
 ) -> Result<(), AllocError> {
     let mut file = 0u32;
     for text in texts {
-        if !spans.has_items(file) {
+        if !spans.has_items(file) && !names_files(text.as_slice()) {
             found.push(Oddity::EmptyBrief(Spot { file, line: 1 }))?;
         }
         push_text(found, file, text.as_slice())?;
         file = file.saturating_add(1);
     }
     Ok(())
+}
+
+// Whether the head of a text names files.
+fn names_files(text: &[u8]) -> bool {
+    match begin(text) {
+        Ok(mut tokens) => {
+            tokens.letters() == Letters::Board && matches!(tokens.next_file(), Ok(Some(_)))
+        }
+        Err(_) => false,
+    }
 }
 
 fn push_text(found: &mut Vec<Oddity<'_>>, file: u32, text: &[u8]) -> Result<(), AllocError> {
@@ -142,12 +215,12 @@ fn push_devices<'a>(found: &mut Vec<Oddity<'a>>, devices: &'a [Device]) -> Resul
 }
 
 // The first of these devices that has this address.
-fn with_address(devices: &[Device], address: Address) -> Option<&Device> {
+pub(crate) fn with_address(devices: &[Device], address: Address) -> Option<&Device> {
     devices.iter().find(|device| device.address == address)
 }
 
 // Whether it begins with 0000 or 11111. What begins with 11110 is the first byte of an address of ten bits.
-fn is_reserved(address: Address) -> bool {
+pub(crate) fn is_reserved(address: Address) -> bool {
     begins_with(address, Bit::Zero, 4) || begins_with(address, Bit::One, 5)
 }
 

@@ -20,7 +20,9 @@ fn add_oddity(lines: &mut ObjectLines, words: PlanWords<'_>, oddity: Oddity<'_>)
     lines.close_list();
     let place = words.at(oddity.spot());
     match oddity {
-        Oddity::SameAddress(first, _) => add_places(lines, place, words.at(first.spot)),
+        Oddity::SameAddress(device, _) | Oddity::AddressByte { device, .. } => {
+            add_places(lines, place, words.at(device.spot));
+        }
         _ => add_place(lines, place),
     }
     lines.end();
@@ -33,12 +35,17 @@ fn add_names(lines: &mut ObjectLines, words: PlanWords<'_>, oddity: Oddity<'_>) 
             lines.word_element(second.name.as_str());
             lines.word_element(first.name.as_str());
         }
-        Oddity::ReservedAddress(device) | Oddity::UnusedDevice(device) => {
-            lines.word_element(device.name.as_str());
-        }
+        Oddity::ReservedAddress(device)
+        | Oddity::UnusedDevice(device)
+        | Oddity::AddressByte { device, .. } => lines.word_element(device.name.as_str()),
         Oddity::UnusedByte(byte) => lines.word_element(byte.name.as_str()),
         Oddity::Unsent { first, count, .. } => add_messages(lines, words.plan(), first, count),
         Oddity::Idle { controller, .. } => add_side(lines, words, controller),
+        Oddity::BareHeader { message, .. } => add_messages(lines, words.plan(), message, 1),
+        Oddity::IdleNever { first, second, .. } => {
+            lines.word_element(first);
+            lines.word_element(second);
+        }
     }
 }
 

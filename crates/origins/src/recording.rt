@@ -9,7 +9,7 @@ use crate::texts::halves;
 pub enum Part<'a> {
     /// The word with which an item begins.
     Item(ItemKind),
-    /// A word before an address: `write` or `read`.
+    /// What stands before an address: `write`, `read` or `(`.
     Direction,
     /// `*`
     Star,
@@ -130,6 +130,8 @@ impl Spans {
         self.open.words = words.saturating_add(1);
         match kind {
             ItemKind::Never => self.add_side(word, at),
+            ItemKind::Extends if words == 0 => self.add(word, at, Kind::Controller, Role::Used),
+            ItemKind::Extends => self.add(word, at, Kind::Message, Role::Used),
             ItemKind::Gives(given) if words == 0 => self.add(word, at, given, Role::Given),
             ItemKind::Gives(given) => {
                 if words == 1 {

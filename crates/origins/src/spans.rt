@@ -34,6 +34,8 @@ pub enum Kind {
 pub enum ItemKind {
     /// It gives a name to this.
     Gives(Kind),
+    /// It adds to a controller that has its name from another one.
+    Extends,
     /// It names two sides.
     Never,
 }

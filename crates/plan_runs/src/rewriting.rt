@@ -7,6 +7,7 @@ ghost use Rattle.run_parts.specs.Devices.{by_parts};
 ghost use Rattle.run_parts.specs.Runs.{Reports};
 
 use command_words::{Layout, Rewriting};
+use given_plans::{Halted, RefusedText};
 use given_runs::{
     Formatted, Unabbreviated, brief_given, certify_given, expand_given, find_formatted, print_given,
 };
@@ -14,7 +15,7 @@ use growing_text::{Text, push_shown};
 use plan_text::NoBrief;
 use run_ends::{Ended, Findings, Halt, Sources, Takes};
 use run_parts::{Input, Output, RunError, Status, write_lines};
-use std::alloc::{AllocError, Global};
+use std::alloc::Global;
 
 /// Writes a text in another form: what gives a plan to certify and to print, and else briefs to expand, a plan text, or a text of
 /// either language to lay out.
@@ -114,57 +115,77 @@ fn brief<I: Input, O: Output>(
     }
 }
 
-// Lays out the text that the first reader gives.
+// Lays out the text that the first reader gives, or says of all texts where they would change.
 fn format<I: Input, O: Output>(
     alloc: Global,
     sources: &mut Sources<'_, I>,
     out: &mut O,
     layout: Layout,
 ) -> Result<Ended, Halt> {
-    let file = sources.files.of(0).unwrap_or("");
+    if let Layout::Compared = layout {
+        return compare(alloc, sources, out);
+    }
     match find_formatted(alloc, sources.first()?) {
-        Ok(Formatted { text, laid_out }) => finish_layout(
-            alloc,
-            file,
-            text.as_slice(),
-            laid_out.as_slice(),
-            out,
-            layout,
-        ),
+        Ok(Formatted { text, laid_out }) => match layout {
+            Layout::InPlace if text.as_slice() == laid_out.as_slice() => {
+                Ok(Ended::quietly(Status::Good))
+            }
+            _ => Ok(Ended::quietly(write_lines(out, laid_out.as_slice(), Status::Good)?)),
+        },
         Err(halted) => Err(Halt::of(halted, Takes::Either)),
     }
 }
 
-fn finish_layout<O: Output>(
+// Says of each text from which line on it would change.
+fn compare<I: Input, O: Output>(
     alloc: Global,
-    file: &str,
-    text: &[u8],
-    laid_out: &[u8],
+    sources: &mut Sources<'_, I>,
     out: &mut O,
-    layout: Layout,
 ) -> Result<Ended, Halt> {
-    let is_same = text == laid_out;
-    match layout {
-        Layout::Compared if is_same => Ok(Ended::quietly(Status::Good)),
-        Layout::Compared => {
-            let line = change_line(alloc, file, first_other_line(text, laid_out))?;
-            Ok(Ended::quietly(write_lines(out, line.as_bytes(), Status::Bad)?))
+    let mut report = Text::new(alloc);
+    let mut before = Vec::new(alloc);
+    let files = sources.files;
+    for (number, reader) in sources.readers.iter_mut().enumerate() {
+        match find_formatted(alloc, reader) {
+            Ok(formatted) => {
+                let file = files.of(u32::try_from(number).unwrap_or(0)).unwrap_or("");
+                push_change(&mut report, file, &formatted);
+                if before.push(formatted.text).is_err() {
+                    return Err(Halt::Run(RunError::NoMemory));
+                }
+            }
+            Err(halted) => return Err(Halt::of(after(halted, before), Takes::Either)),
         }
-        Layout::InPlace if is_same => Ok(Ended::quietly(Status::Good)),
-        Layout::InPlace | Layout::Written => {
-            Ok(Ended::quietly(write_lines(out, laid_out, Status::Good)?))
-        }
+    }
+    let report = report.finish()?;
+    if report.is_empty() {
+        return Ok(Ended::quietly(Status::Good));
+    }
+    Ok(Ended::quietly(write_lines(out, report.as_bytes(), Status::Bad)?))
+}
+
+// The refusal of a text after these.
+fn after(halted: Halted, before: Vec<Vec<u8>>) -> Halted {
+    let Halted { error, text } = halted;
+    Halted {
+        error,
+        text: match text {
+            Some(refused) => Some(RefusedText { before, ..refused }),
+            None => None,
+        },
     }
 }
 
-// What is said of a file that would change from this line on.
-fn change_line(alloc: Global, file: &str, from: u64) -> Result<String, AllocError> {
-    let mut line = Text::new(alloc);
-    push_shown(&mut line, file);
-    line.push(":");
-    line.push_number(from);
-    line.push(": 'twire format --in-place' would change it from here on\n");
-    line.finish()
+// What is said of a file that would change.
+fn push_change(report: &mut Text, file: &str, formatted: &Formatted) {
+    let (text, laid_out) = (formatted.text.as_slice(), formatted.laid_out.as_slice());
+    if text == laid_out {
+        return;
+    }
+    push_shown(report, file);
+    report.push(":");
+    report.push_number(first_other_line(text, laid_out));
+    report.push(": 'twire format --in-place' would change it from here on\n");
 }
 
 // The first line at which the two differ, from 1 on.

@@ -17,6 +17,8 @@ pub enum Detail<'a> {
     Text(TextDetail<'a>),
     /// The file that cannot be read.
     File(&'a str),
+    /// The same of one that a brief names, and where.
+    Named(&'a str, EarlierAt<'a>),
     /// The label that the plan does not have.
     Label(&'a str),
     /// What is wrong with a dump.
@@ -33,9 +35,11 @@ pub struct TextDetail<'a> {
     pub semicolon: Option<SemicolonAt>,
     /// Where that stands which may stand once.
     pub earlier: Option<EarlierAt<'a>>,
+    /// Whether another refusal is the answer of the run.
+    pub is_further: bool,
 }
 
-/// A line before, and the name of its file where several give the plan.
+/// A line before, or one that names a file, and the name of its file where several give the plan.
 #[derive(Clone, Copy)]
 pub struct EarlierAt<'a> {
     pub file: Option<&'a str>,
@@ -60,8 +64,11 @@ struct Refusal<'a> {
     // where `;` is missing, after the token before
     after_line: Option<u64>,
     after_column: Option<u64>,
-    // where that stands which may stand once
+    // where that stands which may stand once, and where the file is named
     earlier: Option<EarlierAt<'a>>,
+    named: Option<EarlierAt<'a>>,
+    // whether another one is the answer of the run
+    is_further: bool,
 }
 
 /// What a refusal is called: `P1` to `B8`, or the words of its line.
@@ -91,6 +98,11 @@ pub fn refusal_object(
                 file: Some(file),
                 ..refusal
             },
+            Detail::Named(file, at) => Refusal {
+                file: Some(file),
+                named: Some(at),
+                ..refusal
+            },
             Detail::Label(label) => Refusal {
                 label: Some(label),
                 ..refusal
@@ -106,9 +118,11 @@ fn with_place<'a>(refusal: Refusal<'a>, detail: TextDetail<'a>) -> Refusal<'a> {
         file,
         semicolon,
         earlier,
+        is_further,
     } = detail;
     Refusal {
         file,
+        is_further,
         after_line: semicolon.map(|at| at.line),
         after_column: semicolon.map(|at| at.column as u64),
         earlier,
@@ -217,17 +231,25 @@ fn object_of(alloc: Global, reason: &str, refusal: Refusal<'_>) -> Result<String
     lines.word_if("open", refusal.open);
     lines.number_if("after_line", refusal.after_line);
     lines.number_if("after_column", refusal.after_column);
-    if let Some(earlier) = refusal.earlier {
-        lines.open("earlier");
-        lines.field_if("file", &earlier.file);
-        lines.number("line", earlier.line);
-        lines.close();
+    push_place(&mut lines, "earlier", refusal.earlier);
+    push_place(&mut lines, "named", refusal.named);
+    if refusal.is_further {
+        lines.flag("further", true);
     }
     if !reason.is_empty() {
         lines.field("reason", &reason);
     }
     lines.end();
     lines.finish()
+}
+
+fn push_place(lines: &mut ObjectLines, field: &'static str, place: Option<EarlierAt<'_>>) {
+    if let Some(place) = place {
+        lines.open(field);
+        lines.field_if("file", &place.file);
+        lines.number("line", place.line);
+        lines.close();
+    }
 }
 
 fn refusal_of(error: RunError) -> Refusal<'static> {
@@ -297,6 +319,8 @@ fn coded(code: &'static str) -> Refusal<'static> {
         after_line: None,
         after_column: None,
         earlier: None,
+        named: None,
+        is_further: false,
     }
 }
 

@@ -2,10 +2,11 @@
 
 use crate::endings::{Findings, Halt, NoDrive, Recorded, RefusedSource};
 use crate::errands::Errand;
+use crate::further::Further;
 use crate::inputs::{Inputs, NamedSources};
-use crate::messages::{dump_message, text_message};
+use crate::messages::{dump_message, file_message, text_message};
 use crate::sources::words_of;
-use crate::voices::{refused, refused_by_word, say, say_message, say_these};
+use crate::voices::{refused, refused_by_word, say, say_message, say_objects, say_these};
 use cert_check::{Answer, Answered};
 use command_words::Format;
 use diagnostics::reason_of;
@@ -17,16 +18,18 @@ use dump_hints::{
 };
 use dump_tokens::Drive;
 use given_plans::Provenance;
+use growing_text::Text;
 use hints::{
-    Found, Hints, NoWaves, on_certificate, on_checked, on_fault, on_memory, on_no_answers,
-    on_no_brief, on_no_timescale, on_no_waves, on_reading, on_safe, on_starters, on_text,
-    on_workers, on_writing,
+    Found, Hints, NoWaves, on_certificate, on_checked, on_fault, on_memory, on_named_file,
+    on_no_answers, on_no_brief, on_no_timescale, on_no_waves, on_reading, on_safe, on_starters,
+    on_text, on_workers, on_writing,
 };
 use lint::oddities;
 use plan_core::Plan;
 use plan_text::PlanError;
+use plan_words::{FileLine, called};
 use plays::RefusedStarters;
-use refusal_objects::Detail;
+use refusal_objects::{Detail, EarlierAt};
 use remedies::kept_apart;
 use run_parts::{RunError, Status};
 use spellings::brief_word;
@@ -197,9 +200,38 @@ pub(crate) fn refuse<R: Eprint + AllocGlobal, F: Read + Seek + Drop>(
         None => made(alloc, reason_of(alloc, &hints)),
     };
     tell(rt, halt, last, reason.as_str(), errand);
+    let further = further_objects(alloc, halt, errand);
+    say_objects(rt, further);
     if errand.extras.hints {
         say_these(rt, &hints, errand.extras);
+        say(rt, further_hints(alloc, halt, errand), errand.extras);
     }
+}
+
+// The objects of what else is refused, where objects are wanted.
+fn further_objects(alloc: Global, halt: &Halt, errand: Errand<'_>) -> Result<String, AllocError> {
+    let mut text = Text::new(alloc);
+    if let (Halt::Text(error, source), Format::Objects) = (halt, errand.extras.format) {
+        let named = errand.named();
+        let further = Further::after(alloc, *error, source, named)?;
+        for one in further.all(alloc, named)? {
+            text.push_made(one.object(alloc, named));
+        }
+    }
+    text.finish()
+}
+
+// What hints say of it.
+fn further_hints(alloc: Global, halt: &Halt, errand: Errand<'_>) -> Result<Hints, AllocError> {
+    let mut hints = Hints::new(alloc);
+    if let Halt::Text(error, source) = halt {
+        let named = errand.named();
+        let further = Further::after(alloc, *error, source, named)?;
+        for one in further.all(alloc, named)? {
+            hints.append(one.hints(alloc)?)?;
+        }
+    }
+    Ok(hints)
 }
 
 // The line of a refusal, or what stands for it. This file was read last.
@@ -231,6 +263,16 @@ fn tell<'x, R: Eprint + AllocGlobal>(
         Halt::Dump(_, Some(wrong)) => Detail::Dump(wrong),
         Halt::Starters(_, RefusedStarters::Unknown(label), _) => Detail::Label(label.as_str()),
         Halt::Run(RunError::Read) => Detail::File(last),
+        Halt::File(file) if format == Format::Messages => {
+            return say_message(rt, file_message(alloc, file, reason));
+        }
+        Halt::File(file) => Detail::Named(
+            file.path.as_str(),
+            EarlierAt {
+                file: Some(file.by.as_str()),
+                line: file.line,
+            },
+        ),
         _ => Detail::Nothing,
     };
     refused(rt, halt.error(), detail, reason, format);
@@ -245,6 +287,7 @@ fn own_reason(
 ) -> Option<String> {
     match halt {
         Halt::Run(RunError::Read) => Some(reading_reason(alloc, why)),
+        Halt::File(file) => Some(reading_reason(alloc, file.error.as_ref())),
         Halt::Text(..) if errand.extras.format == Format::Messages => Some(String::new(alloc)),
         Halt::Text(error, source) => match source.diagnose(alloc, *error, errand.named()) {
             Ok(diagnostic) => Some(diagnostic.message),
@@ -294,6 +337,15 @@ fn hints_on<F: Read + Seek + Drop>(
         Halt::NoTimescale => on_no_timescale(alloc),
         Halt::NoDrive(number, why) => on_no_drive(alloc, drive_of(errand, *number), why),
         Halt::Run(RunError::Read) => on_reading(alloc, read.last, read.error.as_ref()),
+        Halt::File(file) => on_named_file(
+            alloc,
+            FileLine {
+                file: called(file.by.as_str()),
+                line: file.line,
+            },
+            file.path.as_str(),
+            file.error.as_ref(),
+        ),
         Halt::Run(RunError::Write) => on_writing(alloc, file, error),
         Halt::Run(RunError::Workers) => on_workers(alloc),
         Halt::Run(_) => on_memory(alloc),

@@ -2,6 +2,7 @@
 
 ghost use Rattle.std.specs.Prelude.{◌≡◌};
 
+use crate::further::Further;
 use crate::inputs::NamedSources;
 use capture_check::Rises;
 use cert_check::Answered;
@@ -16,6 +17,7 @@ use plays::RefusedStarters;
 use refusal_objects::{EarlierAt, TextDetail};
 use run_parts::{RunError, Status};
 use std::alloc::{AllocError, Global};
+use std::io;
 use vcd_read::{VcdError, Wrong};
 use verdicts::Checked;
 
@@ -79,6 +81,8 @@ pub enum Halt {
     Dump(VcdError, Option<Wrong>),
     /// The text of a plan or of a brief is refused.
     Text(PlanError, RefusedSource),
+    /// A file that a head names cannot be opened or read.
+    File(UnreadFile),
     /// Starters of this plan are refused.
     Starters(RunError, RefusedStarters, GivenPlan),
     /// This plan has no brief, since a name of it is a word of briefs.
@@ -110,7 +114,13 @@ impl Halt {
         let Halted { error, text } = halted;
         match (error, text) {
             (RunError::Plan(error), Some(refused)) => {
-                Halt::Text(error, RefusedSource { refused, takes })
+                let later = Vec::new(*refused.text.allocator());
+                let source = RefusedSource {
+                    refused,
+                    takes,
+                    later,
+                };
+                Halt::Text(error, source)
             }
             _ => Halt::Run(error),
         }
@@ -123,7 +133,7 @@ impl Halt {
             Halt::Dump(error, _) => RunError::Vcd(*error),
             Halt::Text(error, _) => RunError::Plan(*error),
             Halt::NoBrief(_) => RunError::Brief(NoBrief::Name),
-            Halt::NoTimescale | Halt::NoDrive(..) => RunError::Read,
+            Halt::File(_) | Halt::NoTimescale | Halt::NoDrive(..) => RunError::Read,
         }
     }
 }
@@ -143,11 +153,24 @@ impl From<AllocError> for Halt {
     }
 }
 
+/// A file that cannot be opened or read, and where its name stands.
+#[derive(Drop)]
+pub struct UnreadFile {
+    /// The path of the text that names it, and the line there.
+    pub by: String,
+    pub line: u64,
+    pub path: String,
+    /// The error of the system.
+    pub error: Option<io::Error>,
+}
+
 /// The text of a plan or of a brief that is refused, and what may stand in its place.
 #[derive(Drop)]
 pub struct RefusedSource {
     pub refused: RefusedText,
     pub takes: Takes,
+    /// The texts after it, where it is asked what is wrong in these.
+    pub later: Vec<Vec<u8>>,
 }
 
 /// What may stand in the place of a text: a plan text or a brief, or one of them alone.
@@ -218,6 +241,25 @@ impl RefusedSource {
         diagnose_refusal(alloc, refused, self.refused.file())
     }
 
+    /// The same of what else is wrong, in it and in the texts after it.
+    ///
+    /// # Errors
+    ///
+    /// Where an allocation fails.
+    pub fn diagnose_further(
+        &self,
+        alloc: Global,
+        error: PlanError,
+        named: NamedSources<'_>,
+    ) -> Result<Vec<Diagnostic>, AllocError> {
+        let further = Further::after(alloc, error, self, named)?;
+        let mut all = Vec::new(alloc);
+        for one in further.all(alloc, named)? {
+            all.push(one.diagnose(alloc)?)?;
+        }
+        Ok(all)
+    }
+
     /// What is known of the refusal. Where there is no memory for what stands already, that is not told.
     pub(crate) fn detail<'a>(
         &'a self,
@@ -231,6 +273,7 @@ impl RefusedSource {
             file,
             semicolon: None,
             earlier: None,
+            is_further: false,
         };
         if let Ok(earlier) = self.earlier(alloc, named) {
             let refused = self.refused_in(error, file, earlier.as_slice());
@@ -241,7 +284,9 @@ impl RefusedSource {
     }
 }
 
-fn earlier_at<'a>(
+/// The line on which that stands already which may stand once, and the name of its file. Where there is no memory for it, that is
+/// not told.
+pub(crate) fn earlier_at<'a>(
     alloc: Global,
     refused: RefusedIn<'_>,
     named: NamedSources<'a>,

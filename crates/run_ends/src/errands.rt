@@ -17,11 +17,66 @@ pub struct Errand<'a> {
     pub request: Request<'a>,
     pub further: &'a [&'a str],
     pub extras: Extras,
+    /// The texts of its board, where heads name some.
+    pub board: Option<BoardNames<'a>>,
+}
+
+/// The paths of the texts that make up a board, and whether a refusal names its file.
+#[derive(Clone, Copy)]
+pub struct BoardNames<'a> {
+    pub paths: &'a [&'a str],
+    pub several: bool,
 }
 
 impl<'a> Errand<'a> {
-    /// The files that give its plan, or its only file.
+    /// The files that give its plan, or its only file: those that were given, or all of its board.
     pub fn named(self) -> NamedSources<'a> {
+        let given = self.given();
+        match self.board {
+            Some(
+                BoardNames {
+                    paths: [first, further @ ..],
+                    several,
+                },
+            ) => NamedSources {
+                first: Named {
+                    path: first,
+                    ..given.first
+                },
+                further,
+                argument: given.argument,
+                several,
+            },
+            _ => given,
+        }
+    }
+
+    /// Whether what gives its plan may be a brief that names further files.
+    pub(crate) fn takes_board(self) -> bool {
+        match self.request {
+            Request::Check { .. }
+            | Request::Verify { .. }
+            | Request::Page { .. }
+            | Request::Order { .. }
+            | Request::Capture { .. }
+            | Request::Bench { .. } => true,
+            Request::Learn { names, .. } => names.is_some(),
+            Request::Decode { .. } | Request::Signals { .. } => false,
+            Request::Rewrite { rewriting, .. } => match rewriting {
+                Rewriting::Expand | Rewriting::Certify | Rewriting::Print => true,
+                Rewriting::Format(layout) => layout == Layout::Compared,
+                Rewriting::Brief => false,
+            },
+        }
+    }
+
+    /// Whether its texts have a meaning together. Else plans may stand among them.
+    pub(crate) fn asks_meaning(self) -> bool {
+        !self.rewrites(Rewriting::Format(Layout::Compared))
+    }
+
+    // Those that were given.
+    fn given(self) -> NamedSources<'a> {
         let first = match self.request {
             Request::Check { plan, .. }
             | Request::Verify { plan, .. }
@@ -57,6 +112,7 @@ impl<'a> Errand<'a> {
             } else {
                 "--with"
             },
+            several: !self.further.is_empty(),
         }
     }
 
@@ -104,7 +160,7 @@ impl<'a> Errand<'a> {
 
     /// The path of its dump, where it is over one, and else that of its last file.
     pub(crate) fn last_path(self) -> &'a str {
-        self.second().unwrap_or(self.named().first).path
+        self.second().unwrap_or(self.given().first).path
     }
 
     /// How the lines of its dump were to be found. The command, and the file of the dump, are these words.

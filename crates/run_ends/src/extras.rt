@@ -38,7 +38,7 @@ impl Extras {
     }
 
     /// Whether somebody is told why a run was refused: people by hints, and whoever takes no lines by its words.
-    pub(crate) fn says_why(self) -> bool {
+    pub fn says_why(self) -> bool {
         self.hints || self.format != Format::Lines
     }
 }

@@ -1,11 +1,11 @@
 // What is read: files that the command line names, or standard input.
 
 use crate::advice::reading_reason;
+use crate::boards::{FailedText, TextReader, unread_source};
 use crate::errands::Errand;
 use crate::extras::Extras;
-use crate::sources::Sources;
 use crate::voices::{refused, say};
-use files::{FileId, Reread, Source, closed, is_standard_input, missing, open_file};
+use files::{FileId, OpenSource, Reread, Source, closed, is_standard_input, missing, open_file};
 use hints::{Named, on_closed_input, on_opening};
 use plan_words::BriefFiles;
 use refusal_objects::Detail;
@@ -21,12 +21,14 @@ pub struct NamedSources<'a> {
     /// The paths of further briefs, and the argument that names them.
     pub further: &'a [&'a str],
     pub argument: &'static str,
+    /// Whether a refusal names its file.
+    pub several: bool,
 }
 
 impl<'a> NamedSources<'a> {
     /// The path of the file of this number, from 0 on, where there are several.
     pub fn path(self, number: u32) -> Option<&'a str> {
-        if self.further.is_empty() {
+        if !self.several {
             return None;
         }
         match number.checked_sub(1) {
@@ -44,12 +46,12 @@ impl<'a> NamedSources<'a> {
     }
 
     // How many there are.
-    fn count(self) -> usize {
+    pub(crate) fn count(self) -> usize {
         self.further.len().saturating_add(1)
     }
 
     // The one of this number, from 0 on.
-    fn at(self, number: usize) -> Named<'a> {
+    pub(crate) fn at(self, number: usize) -> Named<'a> {
         match number.checked_sub(1) {
             None => self.first,
             Some(after) => match self.further.get(after) {
@@ -69,38 +71,36 @@ impl<'a> NamedSources<'a> {
 }
 
 /// The files of a run, open: those that give its plan, or its only one, and its second one.
-pub type OpenFiles<'a, 'n, R, F, S> = (
-    Sources<'n, Source<'a, R, F, S>>,
-    Option<Source<'a, R, F, S>>,
-);
+#[derive(Drop)]
+pub struct OpenFiles<'a, R, F, S> {
+    pub texts: Vec<OpenSource<'a, R, F, S>>,
+    pub second: Option<Source<'a, R, F, S>>,
+}
 
 /// Opens the files of a run for reading, in order, and says which they are. A path as `/dev/fd/3`, or standard input that is
 /// closed, may come to name the first file once that is open, so what later paths name is looked for before.
-pub fn open_files<'a, 'n, R: Files + Input + Eprint + Clock + AllocGlobal>(
+pub fn open_files<'a, R: Files + Input + Eprint + Clock + AllocGlobal>(
     rt: &'a R,
-    errand: Errand<'n>,
+    errand: Errand<'_>,
     ids: &mut Vec<FileId>,
-) -> Option<OpenFiles<'a, 'n, R, R::File, R::Reader>> {
+) -> Option<OpenFiles<'a, R, R::File, R::Reader>> {
     let (named, second, extras) = (errand.named(), errand.second(), errand.extras);
     if !are_there(rt, named, second, extras) {
         return None;
     }
-    let mut readers = Vec::new(rt.alloc());
+    let mut texts = Vec::new(rt.alloc());
     for number in 0..named.count() {
         let file = open(rt, named.at(number), ids, extras)?;
-        if readers.push(file).is_err() {
+        if texts.push(file).is_err() {
             refused(rt, RunError::NoMemory, Detail::Nothing, "", extras.format);
             return None;
         }
     }
-    let sources = Sources {
-        readers,
-        files: named.files(),
+    let second = match second {
+        Some(file) => Some(open(rt, file, ids, extras)?.source),
+        None => None,
     };
-    match second {
-        Some(file) => Some((sources, Some(open(rt, file, ids, extras)?))),
-        None => Some((sources, None)),
-    }
+    Some(OpenFiles { texts, second })
 }
 
 // Whether the paths after the first one name something.
@@ -138,9 +138,9 @@ fn open<'a, R: Files + Input + Eprint + Clock + AllocGlobal>(
     file: Named<'_>,
     ids: &mut Vec<FileId>,
     extras: Extras,
-) -> Option<Source<'a, R, R::File, R::Reader>> {
+) -> Option<OpenSource<'a, R, R::File, R::Reader>> {
     match open_file(rt, file.path, file.what, ids, extras.watcher) {
-        Ok(source) => Some(source),
+        Ok(open) => Some(open),
         Err(error) => {
             unopened(rt, file, &error, extras);
             None
@@ -178,25 +178,32 @@ pub struct Inputs<'a, F> {
 }
 
 impl<'a, F: Drop> Inputs<'a, Reread<F>> {
-    /// What a run over these files has read.
+    /// What a run over these files has read. The reading of this text failed so, where that of one has.
     pub fn of<R, S: Drop>(
         errand: Errand<'a>,
-        files: OpenFiles<'_, '_, R, F, S>,
+        texts: Vec<TextReader<Source<'_, R, F, S>>>,
+        failed: Option<FailedText>,
+        second: Option<Source<'_, R, F, S>>,
     ) -> Inputs<'a, Reread<F>> {
         let named = errand.named();
-        let (Sources { readers, .. }, second) = files;
         let mut inputs = Inputs {
             last: named.first,
             error: None,
             again: None,
         };
         let mut number = 0usize;
-        for reader in readers {
-            inputs.add(named.at(number), reader);
+        for text in texts {
+            if let Some(source) = unread_source(text) {
+                inputs.add(named.at(number), source);
+            }
             number = number.saturating_add(1);
         }
         if let (Some(file), Some(reader)) = (errand.second(), second) {
             inputs.add(file, reader);
+        }
+        if let Some(FailedText { number, error }) = failed {
+            inputs.last = named.at(number);
+            inputs.error = error;
         }
         inputs
     }

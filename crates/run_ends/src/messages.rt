@@ -1,6 +1,6 @@
 // Refusals as compilers write them.
 
-use crate::endings::RefusedSource;
+use crate::endings::{RefusedSource, UnreadFile};
 use crate::inputs::NamedSources;
 use crate::voices::push_words;
 use diagnostics::Messages;
@@ -11,7 +11,7 @@ use run_parts::RunError;
 use std::alloc::{AllocError, Global};
 use vcd_read::{VcdError, Wrong};
 
-/// The message of a refusal at its place in one of the texts that were to give a plan.
+/// The message of a refusal at its place in one of the texts that were to give a plan, and those of what else is wrong in these.
 ///
 /// # Errors
 ///
@@ -28,8 +28,17 @@ pub(crate) fn text_message(
         messages.add(alloc, text.as_slice())?;
     }
     messages.add(alloc, source.refused.text.as_slice())?;
+    for text in source.later.iter() {
+        messages.add(alloc, text.as_slice())?;
+    }
     let mut text = Text::new(alloc);
     messages.push(&mut text, &diagnostic);
+    // (without memory for what else is wrong the answer alone is told)
+    if let Ok(further) = source.diagnose_further(alloc, error, named) {
+        for diagnostic in further.iter() {
+            messages.push(&mut text, diagnostic);
+        }
+    }
     text.finish()
 }
 
@@ -57,6 +66,27 @@ pub(crate) fn dump_message(
     }
     text.push(": error: ");
     push_words(alloc, &mut text, RunError::Vcd(error), reason);
+    text.finish()
+}
+
+/// The same of a file that a brief names and that cannot be read, where it is named.
+///
+/// # Errors
+///
+/// Where an allocation fails.
+pub(crate) fn file_message(
+    alloc: Global,
+    file: &UnreadFile,
+    reason: &str,
+) -> Result<String, AllocError> {
+    let mut text = Text::new(alloc);
+    push_shown(&mut text, called(file.by.as_str()));
+    text.push(":");
+    text.push_number(file.line);
+    text.push(": error: ");
+    push_shown(&mut text, file.path.as_str());
+    text.push(": ");
+    push_words(alloc, &mut text, RunError::Read, reason);
     text.finish()
 }
 

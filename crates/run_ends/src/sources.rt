@@ -10,7 +10,8 @@ use given_plans::{GivenPlan, Halted, Provenance, find_among, find_in_briefs};
 use origins::{Head, Language};
 use plan_core::Plan;
 use plan_words::{BriefFiles, PlanWords};
-use run_parts::{Input, RunError};
+use run_parts::devices::reading::READS;
+use run_parts::{Input, RunError, read_within};
 use std::alloc::Global;
 
 /// The text that a run is over, or the briefs that give its plan, one after another.
@@ -84,6 +85,25 @@ impl<'a, I: Input> Sources<'a, I> {
                 Takes::One
             },
         )
+    }
+
+    /// Reads the texts after a brief that was refused, as far as they can be read, since what is wrong in these is told too.
+    pub fn read_on(&mut self, alloc: Global, halt: &mut Halt) {
+        let Halt::Text(_, source) = halt else {
+            return;
+        };
+        let Language::Brief = source.refused.language else {
+            return;
+        };
+        let read = (source.refused.file() as usize).saturating_add(1);
+        for reader in self.readers.iter_mut().skip(read) {
+            let Ok(text) = read_within(alloc, reader, READS) else {
+                return;
+            };
+            if source.later.push(text).is_err() {
+                return;
+            }
+        }
     }
 
     /// The plan that these give, in the words of people.

@@ -103,6 +103,13 @@ fn say_refusal<R: Eprint>(rt: &R, object: Result<String, AllocError>) {
     };
 }
 
+/// Writes the objects of further refusals. Without memory for them there are none.
+pub(crate) fn say_objects<R: Eprint>(rt: &R, objects: Result<String, AllocError>) {
+    if let Ok(objects) = objects {
+        let _ = eprint!(rt; "{objects}");
+    }
+}
+
 /// Writes the line of a refusal that is none of the libraries: this word, and the controller of which it speaks.
 pub(crate) fn refused_by_word<R: Eprint + AllocGlobal>(
     rt: &R,

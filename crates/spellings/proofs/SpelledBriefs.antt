@@ -18,7 +18,7 @@ use Rattle.plan_text.specs.Values.{address_by}
 use Rattle.spellings.proofs.CanonicalItems.{All-here, message_named, controller_named, sent_named, interrupt_named, both_named}
 use Rattle.lexer.specs.Lexemes.{lexemes_of}
 use Rattle.lexer.specs.declared.lexemes.Letters.TheVariants.{Brief}
-use Rattle.brief_tokens.specs.Heads.{opened}
+use Rattle.brief_tokens.specs.Heads.{begun, opened}
 use Rattle.brief_tokens.specs.declared.symbols.Keyword.{Keyword}
 use Rattle.brief_tokens.specs.declared.symbols.Keyword.TheVariants as keywords
 use Rattle.brief_tokens.specs.declared.symbols.Sign.TheVariants as signs
@@ -186,7 +186,7 @@ module _ (plan : Contents) (limits : IsWithinLimits plan) (free : has_brief_word
       (spelled_from interrupt_brief interrupt_line t (λ before x after e. interrupt_said x (interrupt_named plan limits before x after e) (All-here before x after t e (λ y. IsFree y.0) (free_entries t free_two.1))) [] t refl _ _ nevers))
 
   spelled : Spells (brief_spelled plan) (brief_items plan)
-  unfolding brief_spelled opened tokens_of token_of_word lexemes_of
+  unfolding brief_spelled opened begun tokens_of token_of_word lexemes_of
   spelled =
       let lines : List ℕ = flat_map message_line plan.messages ++ (flat_map (controller_line plan) plan.controllers ++ (flat_map interrupt_line plan.interrupts ++ flat_map (never_line plan) plan.nevers)) in
       let items = items_said 2 in

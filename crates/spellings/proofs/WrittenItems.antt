@@ -146,13 +146,13 @@ module _ (plan : Contents) where
       sendings_are : sendings here ≡ sending_count before
       sendings_are = sums 0 before
 
-      listing : (first : List (List ℕ)) (n : List ℕ) (k : ℕ) → number_of n plan.messages ≡ Some k → list_any (λ other. bytes_eq other n) first ≡ false → sending_count before + length first < MOST_SENDINGS → listing_refusal here (all_of here first) n ≡ None
+      listing : (first : List (List ℕ)) (n : List ℕ) (k : ℕ) → number_of n plan.messages ≡ Some k → list_any (λ other. bytes_eq other n) first ≡ false → sending_count before + length first < MOST_SENDINGS → listing_refusal here [] (all_of here first) n ≡ None
       unfolding listing_refusal
       listing first n k known new few =
           let room : nat_lt MOST_SENDINGS (sending_count before + length first + 1) ≡ false = le-ltb MOST_SENDINGS (sending_count before + length first + 1) (omega (arith, few)) in
           rw (known, all_are first, new, sendings_are, room) refl
 
-      may_list : (first names : List (List ℕ)) → list_refusal (up_to_controllers plan before) first names ≡ None → ListFits here first names
+      may_list : (first names : List (List ℕ)) → list_refusal (up_to_controllers plan before) first names ≡ None → ListFits here [] first names
       may_list first [] e = tt
       may_list first (n ∷ names) e =
           let a = name_allowed (up_to_controllers plan before) first n names e in

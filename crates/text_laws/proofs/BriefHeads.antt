@@ -10,7 +10,7 @@ use Rattle.brief_text.specs.Splitting.{plan_meant}
 use Rattle.brief_text.specs.Trees.{BriefItem}
 use Rattle.brief_text.proofs.SaysLemmas.{text_takes, start}
 use Rattle.brief_tokens.specs.declared.symbols.Keyword.{Keyword}
-use Rattle.brief_tokens.specs.Heads.{after_head, after_version, opened_by, opened}
+use Rattle.brief_tokens.specs.Heads.{after_head, after_version, begun_by, begun, opened}
 use Rattle.brief_tokens.specs.Tokens.{Tokens, next, keyword, keyword_of, token_of_word, tokens_from, tokens_of}
 use Rattle.layout.specs.Refusals.{brief_letters, brief_head, is_board, or_board, head_or, letters_in, refusal_by, refusal_of, no_version}
 use Rattle.lexer.specs.declared.lexemes.Letters.{Letters}
@@ -68,15 +68,15 @@ refused_head text e h = ap (λ r. (r >>= λ head. items_in head.0 (length text) 
 abbrev IsNoBoard : List ℕ → Type 0
 IsNoBoard text = is_board (lexemes_of boards 1 text) ≡ false
 
-opens_no_second : (first : Result Tokens PlanError) → is_second (opened_by first None) ≡ false
+opens_no_second : (first : Result Tokens PlanError) → is_second (begun_by first None) ≡ false
 opens_no_second (Ok rest) = refl
 opens_no_second (Err e) = refl
 
 begins_no_second : (text : List ℕ) → IsNoBoard text → begins_second text ≡ false
-unfolding opened
+unfolding begun
 begins_no_second text first =
     let head = after_head (tokens_of 1 text) in
-    ap (λ second. is_second (opened_by head second)) (second_none text first) ∙ opens_no_second head
+    ap (λ second. is_second (begun_by head second)) (second_none text first) ∙ opens_no_second head
 
 pub brief_refused : (text : List ℕ) (e : PlanError) → brief_head (lexemes_of briefs 1 text) ≡ Some (bad e) → IsNoBoard text → IsRefused text e
 unfolding tokens_of

@@ -3,9 +3,9 @@ use Rattle.std.proofs.Common.{◌≡◌, ℕ, List, [], ◌∷◌, Option, Some,
 use Rattle.brief_text.specs.declared.syntax.Lengths.{Lengths}
 use Rattle.brief_text.specs.Drafts.{Draft}
 use Rattle.brief_text.specs.Fitting.{Says}
-use Rattle.brief_text.specs.Grammar.{Phrase, one, SpellsName, SpellsAs, SpellsTo, SpellsData, SpellsMade, SpellsOften, SpellsFrame, SpellsBytes, SpellsNext, SpellsRefused, SpellsNames, SpellsItem, SpellsItems, Spells}
-use Rattle.brief_text.specs.Trees.{Said, spelled, named, Times, times, ranged, BriefFrame, write_to, read_from, BriefBytes, data_byte, made_byte, no_more, Made, header, packet_code, checksum, BriefTail, stop_here, go_on, BriefItem, device, byte, message, controller, interrupt, never_both}
-use Rattle.brief_text.specs.Words.{address_by, data_by, repetition_by, so_often, from_to, side_by}
+use Rattle.brief_text.specs.Grammar.{Phrase, one, SpellsName, SpellsAs, SpellsTo, SpellsData, SpellsExcepted, SpellsValues, SpellsChoice, SpellsMade, SpellsOften, SpellsFrame, SpellsBytes, SpellsNext, SpellsRefused, SpellsNames, SpellsItem, SpellsItems, Spells}
+use Rattle.brief_text.specs.Trees.{Said, spelled, named, Times, times, ranged, BriefFrame, write_to, read_from, BriefBytes, data_byte, made_byte, no_more, Made, header, packet_code, checksum, Choice, span, all_but, chosen, BriefTail, stop_here, go_on, BriefItem, device, byte, message, controller, extend, interrupt, never_both}
+use Rattle.brief_text.specs.Words.{address_by, data_by, known_byte_by, repetition_by, so_often, from_to, side_by}
 use Rattle.brief_tokens.specs.Tokens.{Token, Tokens, next, last}
 use Rattle.layout.specs.SameWords.{SameWords}
 use Rattle.lexer.specs.Lexemes.{text_end}
@@ -46,11 +46,24 @@ often_respects range (times n) = or_respects (also_respects nothing_respects) (a
 often_respects (Some range) ranged = also_respects (token _ >> as_respects repetition_by (from_to range.least range.greatest))
 often_respects None ranged = record { over = λ from to other s same. absurd s; ends = λ from to s. absurd s }
 
-made_respects : (made : Made) → Keeps (SpellsMade made)
-made_respects (header false to) = token _ >> token _ >> to_respects to >> token _
-made_respects (header true to) = token _ >> token _ >> to_respects to >> token _
-made_respects packet_code = token _
-made_respects checksum = token _
+excepted_respects : (least greatest : ℕ) → Keeps (SpellsExcepted least greatest)
+excepted_respects least greatest = or_respects (token _) (also_respects (as_respects known_byte_by least))
+
+values_respect : (choice : Choice) → Keeps (SpellsValues choice)
+values_respect (span least greatest) = token _
+values_respect (all_but least greatest) = token _ >> token _ >> excepted_respects least greatest
+
+choice_respects : (range : Option Lengths) (choice : Choice) → Keeps (SpellsChoice range choice)
+choice_respects range choice =
+    let values = values_respect choice in
+    record { over = λ from to other s same. let a = values.over from to other s.0 same in (a.0, a.1, (a.2, s.1, s.2)); ends = λ from to s. values.ends from to s.0 }
+
+made_respects : (range : Option Lengths) (made : Made) → Keeps (SpellsMade range made)
+made_respects range (header false to) = token _ >> token _ >> to_respects to >> token _
+made_respects range (header true to) = token _ >> token _ >> to_respects to >> token _
+made_respects range packet_code = token _
+made_respects range checksum = token _
+made_respects range (chosen choice) = choice_respects range choice
 
 -- ---- messages
 
@@ -62,7 +75,7 @@ module _ (range : Option Lengths) where
 
     bytes_respect : (bytes : BriefBytes) → Keeps (SpellsBytes range bytes)
     bytes_respect (data_byte bits often refused acked) = data_respects bits >> often_respects range often >> refused_respects refused >> bytes_respect acked
-    bytes_respect (made_byte made refused acked) = made_respects made >> refused_respects refused >> bytes_respect acked
+    bytes_respect (made_byte made refused acked) = made_respects range made >> refused_respects refused >> bytes_respect acked
     bytes_respect (no_more tail) = next_respects tail
 
     next_respects : (tail : BriefTail) → Keeps (SpellsNext range tail)
@@ -85,6 +98,7 @@ module _ (letters : Letters) where
   item_respects (byte name bits) = token _ >> name_respects name >> as_respects data_by bits >> token _
   item_respects (message name range frame) = token _ >> name_respects name >> frame_respects range frame >> token _
   item_respects (controller name messages) = token _ >> name_respects name >> names_respect messages >> token _
+  item_respects (extend name messages) = token _ >> name_respects name >> names_respect messages >> token _
   item_respects (interrupt name to) = token _ >> name_respects name >> to_respects to >> token _
   item_respects (never_both first second) = token _ >> as_respects (side_by letters) first >> as_respects (side_by letters) second >> token _
 

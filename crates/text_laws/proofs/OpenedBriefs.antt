@@ -4,10 +4,11 @@ use Rattle.std.proofs.lemmas.Grind.{common_steps}
 use Rattle.std.specs.Prelude.{Result, Ok, Err, if◌then◌else◌}
 use Rattle.std.specs.Str.{bytes_eq}
 use Rattle.plan_core.proofs.BuildingLemmas.{same-bytes_eq}
-use Rattle.brief_tokens.specs.Heads.{after_head, after_second_head, opened_by, opened}
+use Rattle.brief_tokens.specs.Heads.{after_head, after_second_head, begun_by, begun, past_files, with_board, is_file_name, after_files, after_with, after_string, opened}
 use Rattle.brief_tokens.specs.declared.symbols.Keyword.{Keyword}
 use Rattle.brief_tokens.specs.declared.symbols.Keyword.TheVariants as keywords
-use Rattle.brief_tokens.specs.Tokens.{Token, keyword, word, quoted, Tokens, next, last, keyword_of, further_keyword_of, or_keyword, board_keyword_of, string_of, token_of_word, board_token_of_word, told, board_told, tokens_by, tokens_from, tokens_of, board_tokens_of}
+use Rattle.brief_tokens.specs.declared.symbols.Sign.TheVariants as signs
+use Rattle.brief_tokens.specs.Tokens.{Token, keyword, word, sign, quoted, span, span_of, Tokens, next, last, keyword_of, further_keyword_of, or_keyword, board_keyword_of, string_of, token_of_word, board_token_of_word, told, board_told, tokens_by, tokens_from, tokens_of, board_tokens_of}
 use Rattle.layout.specs.Refusals.{alphabet_of, brief_letters, brief_head, is_board, is_second_version, or_board, head_or, letters_in, stranger}
 use Rattle.layout.specs.SameWords.{without_lines, SameWords}
 use Rattle.lexer.specs.declared.lexemes.Letters.{Letters}
@@ -127,11 +128,11 @@ Opened l rest = Ok (l, rest)
 pair_is : (p q : Letters × Tokens) → Opened p.0 p.1 ≡ Opened q.0 q.1 → (p.0 ≡ q.0) × (p.1 ≡ q.1)
 pair_is p q h = let same = ok_is (p.0, p.1) (q.0, q.1) h in (ap (λ (x : Letters × Tokens). x.0) same, ap (λ (x : Letters × Tokens). x.1) same)
 
-opens : (text : List ℕ) (l : Letters) (rest : Tokens) → opened text ≡ Opened l rest → Opens text l rest
-unfolding opened
+opens : (text : List ℕ) (l : Letters) (rest : Tokens) → begun text ≡ Opened l rest → Opens text l rest
+unfolding begun
 opens text l rest is = by (after_head (tokens_of 1 text)) refl (after_second_head (board_tokens_of 1 text)) refl is
   where
-    by : (a : Result Tokens PlanError) → after_head (tokens_of 1 text) ≡ a → (b : Option Tokens) → after_second_head (board_tokens_of 1 text) ≡ b → opened_by a b ≡ Opened l rest → Opens text l rest
+    by : (a : Result Tokens PlanError) → after_head (tokens_of 1 text) ≡ a → (b : Option Tokens) → after_second_head (board_tokens_of 1 text) ≡ b → begun_by a b ≡ Opened l rest → Opens text l rest
     by (Ok x) e b f h =
         let same = pair_is (Brief, x) (l, rest) h in
         subst (λ (m : Letters). Opens text m rest) same.0 (opens_first (e ∙ ap (λ (y : Tokens). Ok y) same.1))
@@ -140,17 +141,21 @@ opens text l rest is = by (after_head (tokens_of 1 text)) refl (after_second_hea
         subst (λ (m : Letters). Opens text m rest) same.0 (opens_second e (f ∙ ap (λ (y : Tokens). Some y) same.1))
     by (Err c) e None f h = absurd cc
 
-opened_first : (text : List ℕ) (rest : Tokens) → after_head (tokens_of 1 text) ≡ Ok rest → opened text ≡ Opened Brief rest
-unfolding opened
-opened_first text rest e = ap (λ a. opened_by a (after_second_head (board_tokens_of 1 text))) e
+begun_first : (text : List ℕ) (rest : Tokens) → after_head (tokens_of 1 text) ≡ Ok rest → begun text ≡ Opened Brief rest
+unfolding begun
+begun_first text rest e = ap (λ a. begun_by a (after_second_head (board_tokens_of 1 text))) e
 
-opened_second : (text : List ℕ) (rest : Tokens) (c : PlanError) → after_head (tokens_of 1 text) ≡ Err c → after_second_head (board_tokens_of 1 text) ≡ Some rest → opened text ≡ Opened Board rest
-unfolding opened
-opened_second text rest c e f = ap (λ a. opened_by a (after_second_head (board_tokens_of 1 text))) e ∙ ap (opened_by (Err c)) f
+begun_second : (text : List ℕ) (rest : Tokens) (c : PlanError) → after_head (tokens_of 1 text) ≡ Err c → after_second_head (board_tokens_of 1 text) ≡ Some rest → begun text ≡ Opened Board rest
+unfolding begun
+begun_second text rest c e f = ap (λ a. begun_by a (after_second_head (board_tokens_of 1 text))) e ∙ ap (begun_by (Err c)) f
+
+begun_none : (text : List ℕ) (c : PlanError) → after_head (tokens_of 1 text) ≡ Err c → after_second_head (board_tokens_of 1 text) ≡ None → begun text ≡ Err c
+unfolding begun
+begun_none text c e f = ap (λ a. begun_by a (after_second_head (board_tokens_of 1 text))) e ∙ ap (begun_by (Err c)) f
 
 pub opened_none : (text : List ℕ) (c : PlanError) → after_head (tokens_of 1 text) ≡ Err c → after_second_head (board_tokens_of 1 text) ≡ None → opened text ≡ Err c
 unfolding opened
-opened_none text c e f = ap (λ a. opened_by a (after_second_head (board_tokens_of 1 text))) e ∙ ap (opened_by (Err c)) f
+opened_none text c e f = ap past_files (begun_none text c e f)
 
 -- ---- the same words
 
@@ -165,17 +170,124 @@ refused_too from other same c e = by (after_head other) refl
         absurd cc
     by (Err d) h = (d, h)
 
-pub same_opened : (text other : List ℕ) (l : Letters) (rest : Tokens) → SameWords text other → opened text ≡ Opened l rest → (there : Tokens) × (opened other ≡ Opened l there) × (bare rest ≡ bare there)
-same_opened text other l rest same is = by l rest (opens text l rest is)
+same_begun : (text other : List ℕ) (l : Letters) (rest : Tokens) → SameWords text other → begun text ≡ Opened l rest → (there : Tokens) × (begun other ≡ Opened l there) × (bare rest ≡ bare there)
+same_begun text other l rest same is = by l rest (opens text l rest is)
   where
-    by : (l : Letters) (rest : Tokens) → Opens text l rest → (there : Tokens) × (opened other ≡ Opened l there) × (bare rest ≡ bare there)
+    by : (l : Letters) (rest : Tokens) → Opens text l rest → (there : Tokens) × (begun other ≡ Opened l there) × (bare rest ≡ bare there)
     by _ rest (opens_first h) =
         let f = front_over (tokens_of 1 text) (tokens_of 1 other) rest (keyword keywords.Brief) (word (codes "1")) (first_front (tokens_of 1 text) rest h) (bare_first text other same) in
-        (f.0, opened_first other f.0 (front_first (tokens_of 1 other) f.0 f.1), f.2)
+        (f.0, begun_first other f.0 (front_first (tokens_of 1 other) f.0 f.1), f.2)
     by _ rest (opens_second {e = c} h g) =
         let d = refused_too (tokens_of 1 text) (tokens_of 1 other) (bare_first text other same) c h in
         let f = front_over (board_tokens_of 1 text) (board_tokens_of 1 other) rest (keyword keywords.Brief) (word (codes "2")) (second_front (board_tokens_of 1 text) rest g) (bare_second text other same) in
-        (f.0, opened_second other f.0 d.0 d.1 (front_second (board_tokens_of 1 other) f.0 f.1), f.2)
+        (f.0, begun_second other f.0 d.0 d.1 (front_second (board_tokens_of 1 other) f.0 f.1), f.2)
+
+-- ---- the files that a head names
+
+bare_twice : (t : Tokens) → bare (bare t) ≡ bare t
+bare_twice (next token line rest) = ap (next token 0) (bare_twice rest)
+bare_twice (last ending line) = refl
+
+-- what is left, without lines
+abbrev passed : Result Tokens PlanError → Option Tokens
+passed (Ok rest) = Some (bare rest)
+passed (Err e) = None
+
+if_passed : (b : Bool) (one two : Result Tokens PlanError) (c d : PlanError) → passed one ≡ passed two → passed (if b then one else Err c) ≡ passed (if b then two else Err d)
+if_passed true one two c d h = h
+if_passed false one two c d h = refl
+
+mutual
+  files_bare : (t : Tokens) → passed (after_files t) ≡ passed (after_files (bare t))
+  files_bare (next (keyword keywords.With) line rest) = with_bare rest
+  files_bare t = ap (λ (x : Tokens). Some x) (sym (bare_twice t))
+
+  with_bare : (t : Tokens) → passed (after_with t) ≡ passed (after_with (bare t))
+  with_bare (next (quoted bytes) line rest) = if_passed (is_file_name bytes) (after_string rest) (after_string (bare rest)) (errors.Unexpected line) (errors.Unexpected 0) (string_bare rest)
+  with_bare t = refl
+
+  string_bare : (t : Tokens) → passed (after_string t) ≡ passed (after_string (bare t))
+  string_bare (next (sign signs.Semicolon) line rest) = files_bare rest
+  string_bare t = refl
+
+files_same : (from other rest : Tokens) → bare from ≡ bare other → after_files from ≡ Ok rest → (there : Tokens) × (after_files other ≡ Ok there) × (bare rest ≡ bare there)
+files_same from other rest same e = by (after_files other) refl
+  where
+    both : passed (after_files from) ≡ passed (after_files other)
+    both = files_bare from ∙ ap (λ t. passed (after_files t)) same ∙ sym (files_bare other)
+
+    by : (r : Result Tokens PlanError) → after_files other ≡ r → (there : Tokens) × (after_files other ≡ Ok there) × (bare rest ≡ bare there)
+    by (Ok there) f =
+        let all : Some (bare rest) ≡ Some (bare there) = sym (ap passed e) ∙ both ∙ ap passed f in
+        (there, f, cc)
+    by (Err d) f =
+        let none : Some (bare rest) ≡ None = sym (ap passed e) ∙ both ∙ ap passed f in
+        absurd cc
+
+-- the text ends as what follows these files
+abbrev EndsAs : Result Tokens PlanError → Option PlanError → Type 0
+EndsAs (Ok rest) end = end ≡ end_of rest
+EndsAs (Err e) end = Unit {0}
+
+if_ends : (b : Bool) (one : Result Tokens PlanError) (c : PlanError) (end : Option PlanError) → EndsAs one end → EndsAs (if b then one else Err c) end
+if_ends true one c end h = h
+if_ends false one c end h = tt
+
+mutual
+  files_end : (t : Tokens) → EndsAs (after_files t) (end_of t)
+  files_end (next (keyword keywords.With) line rest) = with_end rest
+  files_end t = refl
+
+  with_end : (t : Tokens) → EndsAs (after_with t) (end_of t)
+  with_end (next (quoted bytes) line rest) = if_ends (is_file_name bytes) (after_string rest) (errors.Unexpected line) (end_of rest) (string_end rest)
+  with_end t = tt
+
+  string_end : (t : Tokens) → EndsAs (after_string t) (end_of t)
+  string_end (next (sign signs.Semicolon) line rest) = files_end rest
+  string_end t = tt
+
+files_end_as : (t rest : Tokens) → after_files t ≡ Ok rest → end_of t ≡ end_of rest
+files_end_as t rest e = subst (λ r. EndsAs r (end_of t)) e (files_end t)
+
+-- the tokens after a head, by those after its version
+abbrev Passes : Letters → Tokens → Tokens → Type 0
+Passes Board from rest = after_files from ≡ Ok rest
+Passes l from rest = from ≡ rest
+
+opened_is : (text : List ℕ) (l : Letters) (rest : Tokens) → opened text ≡ Opened l rest → (from : Tokens) × (begun text ≡ Opened l from) × Passes l from rest
+unfolding opened
+opened_is text l rest is = by (begun text) refl is
+  where
+    by_board : (from : Tokens) (r : Result Tokens PlanError) → begun text ≡ Opened Board from → after_files from ≡ r → with_board r ≡ Opened l rest → (from : Tokens) × (begun text ≡ Opened l from) × Passes l from rest
+    by_board from (Ok after) e f h =
+        let same = pair_is (Board, after) (l, rest) h in
+        subst (λ (m : Letters). (from : Tokens) × (begun text ≡ Opened m from) × Passes m from rest) same.0 (from, e, f ∙ ap (λ (t : Tokens). Ok t) same.1)
+    by_board from (Err c) e f h = absurd cc
+
+    by_letters : (m : Letters) (from : Tokens) → begun text ≡ Opened m from → past_files (Opened m from) ≡ Opened l rest → (from : Tokens) × (begun text ≡ Opened l from) × Passes l from rest
+    by_letters Board from e h = by_board from (after_files from) e refl h
+    by_letters m from e h =
+        let same = pair_is (m, from) (l, rest) h in
+        subst (λ (n : Letters). (from : Tokens) × (begun text ≡ Opened n from) × Passes n from rest) same.0 (from, e, same.1)
+
+    by : (b : Result (Letters × Tokens) PlanError) → begun text ≡ b → past_files b ≡ Opened l rest → (from : Tokens) × (begun text ≡ Opened l from) × Passes l from rest
+    by (Ok pair) e h = by_letters pair.0 pair.1 e h
+    by (Err c) e h = absurd cc
+
+is_opened : (text : List ℕ) (l : Letters) (from rest : Tokens) → begun text ≡ Opened l from → Passes l from rest → opened text ≡ Opened l rest
+unfolding opened
+is_opened text Board from rest e p = ap past_files e ∙ ap with_board p
+is_opened text l from rest e p = ap past_files e ∙ ap (λ (t : Tokens). Opened l t) p
+
+pub same_opened : (text other : List ℕ) (l : Letters) (rest : Tokens) → SameWords text other → opened text ≡ Opened l rest → (there : Tokens) × (opened other ≡ Opened l there) × (bare rest ≡ bare there)
+same_opened text other l rest same is =
+    let o = opened_is text l rest is in
+    let b = same_begun text other l o.0 same o.1 in
+    by l o.0 b.0 b.2 b.1 o.2
+  where
+    by : (m : Letters) (from there : Tokens) → bare from ≡ bare there → begun other ≡ Opened m there → Passes m from rest → (there : Tokens) × (opened other ≡ Opened m there) × (bare rest ≡ bare there)
+    by Board from there alike e p = let f = files_same from there rest alike p in (f.0, is_opened other Board there f.0 e f.1, f.2)
+    by m from there alike e p = (there, is_opened other m there there e refl, sym (ap bare p) ∙ alike)
 
 -- ---- words and keywords
 
@@ -199,27 +311,32 @@ board_string : (bytes s : List ℕ) → string_of bytes ≡ Some s → board_tok
 unfolding board_token_of_word
 board_string bytes s e = rw e refl
 
-board_keyword : (bytes : List ℕ) (k : Keyword) → string_of bytes ≡ None → board_keyword_of bytes ≡ Some k → board_token_of_word bytes ≡ keyword k
+board_span : (bytes : List ℕ) (ends : ℕ × ℕ) → string_of bytes ≡ None → span_of bytes ≡ Some ends → board_token_of_word bytes ≡ span ends.0 ends.1
 unfolding board_token_of_word
-board_keyword bytes k e f = rw (e, f) refl
+board_span bytes ends e n = rw (e, n) refl
 
-board_word : (bytes : List ℕ) → string_of bytes ≡ None → board_keyword_of bytes ≡ None → board_token_of_word bytes ≡ word bytes
+board_keyword : (bytes : List ℕ) (k : Keyword) → string_of bytes ≡ None → span_of bytes ≡ None → board_keyword_of bytes ≡ Some k → board_token_of_word bytes ≡ keyword k
 unfolding board_token_of_word
-board_word bytes e f = rw (e, f) refl
+board_keyword bytes k e n f = rw (e, n, f) refl
+
+board_word : (bytes : List ℕ) → string_of bytes ≡ None → span_of bytes ≡ None → board_keyword_of bytes ≡ None → board_token_of_word bytes ≡ word bytes
+unfolding board_token_of_word
+board_word bytes e n f = rw (e, n, f) refl
 
 board_word_is : (bytes others : List ℕ) → board_token_of_word bytes ≡ word others → bytes ≡ others
-board_word_is bytes others h = by_string (string_of bytes) refl (board_keyword_of bytes) refl
+board_word_is bytes others h = by_string (string_of bytes) refl (span_of bytes) refl (board_keyword_of bytes) refl
   where
-    by_string : (s : Option (List ℕ)) → string_of bytes ≡ s → (k : Option Keyword) → board_keyword_of bytes ≡ k → bytes ≡ others
-    by_string (Some s) e k f = let token = sym (board_string bytes s e) ∙ h in absurd cc
-    by_string None e (Some k) f = let token = sym (board_keyword bytes k e f) ∙ h in absurd cc
-    by_string None e None f = let token = sym (board_word bytes e f) ∙ h in cc
+    by_string : (s : Option (List ℕ)) → string_of bytes ≡ s → (o : Option (ℕ × ℕ)) → span_of bytes ≡ o → (k : Option Keyword) → board_keyword_of bytes ≡ k → bytes ≡ others
+    by_string (Some s) e o n k f = let token = sym (board_string bytes s e) ∙ h in absurd cc
+    by_string None e (Some ends) n k f = let token = sym (board_span bytes ends e n) ∙ h in absurd cc
+    by_string None e None n (Some k) f = let token = sym (board_keyword bytes k e n f) ∙ h in absurd cc
+    by_string None e None n None f = let token = sym (board_word bytes e n f) ∙ h in cc
 
 further_no_brief : (bytes : List ℕ) → further_keyword_of bytes ≡ Some keywords.Brief → ⊥
 further_no_brief bytes h = grind arith
 
 board_brief_word : (bytes : List ℕ) → board_token_of_word bytes ≡ keyword keywords.Brief → bytes ≡ codes "brief"
-board_brief_word bytes h = by_string (string_of bytes) refl (board_keyword_of bytes) refl
+board_brief_word bytes h = by_string (string_of bytes) refl (span_of bytes) refl (board_keyword_of bytes) refl
   where
     first : (k : Option Keyword) → keyword_of bytes ≡ k → or_keyword k (further_keyword_of bytes) ≡ Some keywords.Brief → bytes ≡ codes "brief"
     first (Some k) e g =
@@ -227,13 +344,14 @@ board_brief_word bytes h = by_string (string_of bytes) refl (board_keyword_of by
         brief_word bytes (some_keyword bytes keywords.Brief (e ∙ ap (λ (m : Keyword). Some m) same))
     first None e g = absurd (further_no_brief bytes g)
 
-    by_string : (s : Option (List ℕ)) → string_of bytes ≡ s → (k : Option Keyword) → board_keyword_of bytes ≡ k → bytes ≡ codes "brief"
-    by_string (Some s) e k f = let token = sym (board_string bytes s e) ∙ h in absurd cc
-    by_string None e (Some k) f =
-        let token : keyword k ≡ keyword keywords.Brief = sym (board_keyword bytes k e f) ∙ h in
+    by_string : (s : Option (List ℕ)) → string_of bytes ≡ s → (o : Option (ℕ × ℕ)) → span_of bytes ≡ o → (k : Option Keyword) → board_keyword_of bytes ≡ k → bytes ≡ codes "brief"
+    by_string (Some s) e o n k f = let token = sym (board_string bytes s e) ∙ h in absurd cc
+    by_string None e (Some ends) n k f = let token = sym (board_span bytes ends e n) ∙ h in absurd cc
+    by_string None e None n (Some k) f =
+        let token : keyword k ≡ keyword keywords.Brief = sym (board_keyword bytes k e n f) ∙ h in
         let same : k ≡ keywords.Brief = cc in
         first (keyword_of bytes) refl (f ∙ ap (λ (m : Keyword). Some m) same)
-    by_string None e None f = let token = sym (board_word bytes e f) ∙ h in absurd cc
+    by_string None e None n None f = let token = sym (board_word bytes e n f) ∙ h in absurd cc
 
 -- ---- letters
 
@@ -319,9 +437,9 @@ unfolding letters_in
 letters_by text l e first = ap (λ o. head_or o (lexemes_of no_dots 1 text)) e ∙ plan_side l (lexemes_of no_dots 1 text) first
 
 -- where the text is opened, the layout has the same letters, and the text ends as what follows its head
-pub opened_letters : (text : List ℕ) (l : Letters) (rest : Tokens) → opened text ≡ Opened l rest → (letters_in text ≡ Ok l) × (stranger (lexemes_of (alphabet_of l) 1 text) ≡ end_of rest)
+begun_letters : (text : List ℕ) (l : Letters) (rest : Tokens) → begun text ≡ Opened l rest → (letters_in text ≡ Ok l) × (stranger (lexemes_of (alphabet_of l) 1 text) ≡ end_of rest)
 unfolding tokens_of board_tokens_of
-opened_letters text l rest is = by l rest (opens text l rest is)
+begun_letters text l rest is = by l rest (opens text l rest is)
   where
     by : (l : Letters) (rest : Tokens) → Opens text l rest → (letters_in text ≡ Ok l) × (stranger (lexemes_of (alphabet_of l) 1 text) ≡ end_of rest)
     by _ rest (opens_first h) =
@@ -336,6 +454,16 @@ opened_letters text l rest is = by l rest (opens text l rest is)
         let head = no_letters (lexemes_of briefs 1 text) c h (is_board (lexemes_of boards 1 text)) (ap is_board front.is) in
         let first = board_first text (first_begins (lexemes_of boards 1 text) (codes "2") front) in
         (letters_by text Board head first, sym (ends_alike board_told (lexemes_of boards 1 text)) ∙ front_ends (board_tokens_of 1 text) rest _ _ f)
+
+pub opened_letters : (text : List ℕ) (l : Letters) (rest : Tokens) → opened text ≡ Opened l rest → (letters_in text ≡ Ok l) × (stranger (lexemes_of (alphabet_of l) 1 text) ≡ end_of rest)
+opened_letters text l rest is =
+    let o = opened_is text l rest is in
+    let b = begun_letters text l o.0 o.1 in
+    (b.0, b.1 ∙ by l o.0 o.2)
+  where
+    by : (m : Letters) (from : Tokens) → Passes m from rest → end_of from ≡ end_of rest
+    by Board from p = files_end_as from rest p
+    by m from p = ap end_of p
 
 -- ---- heads that have no letters
 

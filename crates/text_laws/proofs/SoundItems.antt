@@ -1,6 +1,6 @@
 -- Each item that fits leaves a sound draft sound, so every draft that was read is.
-use Rattle.std.proofs.Common.{◌≡◌, ℕ, suc, ◌+◌, ◌*◌, ◌^◌, ◌<◌, ◌≤◌, ◌⊎◌, inl, inr, ◌&&◌, Bool, true, false, not, cond, List, [], ◌∷◌, ◌++◌, map, length, Option, Some, None, is_some, refl, ap, sym, ◌∙◌, subst, arith, true≢false, take, drop, codes}
-use Rattle.std.specs.Prelude.{if◌then◌else◌, nat_lt, nat_le}
+use Rattle.std.proofs.Common.{◌≡◌, ℕ, suc, ◌+◌, ◌*◌, ◌^◌, ◌<◌, ◌≤◌, ◌⊎◌, inl, inr, ◌&&◌, ◌||◌, Bool, true, false, not, cond, List, [], ◌∷◌, ◌++◌, map, length, Option, Some, None, is_some, refl, ap, sym, ◌∙◌, subst, arith, true≢false, take, drop, codes}
+use Rattle.std.specs.Prelude.{if◌then◌else◌, nat_lt, nat_le, unwrap_or}
 use Rattle.std.specs.List.{list_any, filter, flat_map, prefix_len}
 use Rattle.std.specs.Map.{lookup, keys_of}
 use Rattle.std.specs.Str.{bytes_eq}
@@ -20,18 +20,20 @@ use Rattle.plan_core.specs.declared.builder.BuildError.TheVariants.{Twice, Unkno
 use Rattle.plan_core.specs.declared.limits.TheConstants.{MOST_CONTROLLERS, MOST_SENDINGS}
 use Rattle.plan_core.proofs.BuildingLemmas.{passes, same-bytes_eq, limits-interrupt}
 use Rattle.brief_text.specs.declared.syntax.Lengths.{Lengths}
-use Rattle.brief_text.specs.Drafts.{Draft, members_or, stands_for, address_said, number_said, same_label, same_side, is_new_label, with_label, with_item, no_items}
-use Rattle.brief_text.specs.Fitting.{ListFits, Fits, MakeUp, frame_ranges, bytes_ranges, tail_ranges, often_ranges}
-use Rattle.brief_text.specs.Judging.{is_family, is_message, taken_names, is_taken, controller_refusal_of, all_of, have_one_of, sendings, listing_refusal, is_side, part_refusal, first_refusal, second_refusal}
-use Rattle.brief_text.specs.Splitting.{side_name, labels_of, parts}
-use Rattle.brief_text.specs.Trees.{Side, device, byte, controller, interrupt, never_both, Said, Times, BriefFrame, write_to, read_from, BriefBytes, data_byte, made_byte, no_more, BriefTail, stop_here, go_on, BriefItem, message}
+use Rattle.brief_text.specs.Drafts.{Draft, members_or, stands_for, extended, address_said, number_said, same_label, same_side, is_new_label, with_label, with_item, no_items}
+use Rattle.brief_text.specs.Fitting.{ListFits, Fits, MakeUp, frame_ranges, bytes_ranges, tail_ranges, often_ranges, made_ranges}
+use Rattle.brief_text.specs.Judging.{is_family, is_message, taken_names, is_taken, controller_refusal_of, extend_refusal_of, is_labelled, is_side_of, listed_by, all_of, have_one_of, sendings, listing_refusal, is_side, part_refusal, first_refusal, second_refusal}
+use Rattle.brief_text.specs.Splitting.{side_name, labels_of, parts_of, parts}
+use Rattle.brief_text.specs.Trees.{Side, device, byte, controller, extend, interrupt, never_both, Said, Times, BriefFrame, write_to, read_from, BriefBytes, data_byte, made_byte, no_more, BriefTail, stop_here, go_on, Made, header, packet_code, checksum, chosen, BriefItem, message}
 use Rattle.brief_text.specs.Words.{known_number, is_range, is_further_word, is_brief_name, is_no_slash, halves_at, around_slash, whole_side, label_side, side_from, side_by}
 use Rattle.text_laws.proofs.EntryNames.{has_name_in, keys_both, in_keys_left, in_keys_either, lookup_in}
-use Rattle.text_laws.proofs.Membership.{In, Distinct, in_left, in_right, in_either, in_last, distinct_both, distinct_push, in_map, any_in, in_any, is_false, not_both, true_or_false, or_either, in_among, holds, holds_in, in_holds}
-use Rattle.text_laws.proofs.SoundDrafts.{family_of, ListSound, LabelSound, SideSound, Sound}
+use Rattle.text_laws.proofs.Membership.{In, Distinct, in_left, in_right, in_either, in_last, distinct_both, distinct_push, in_map, any_in, in_any, is_false, not_both, true_or_false, or_either, or_neither, in_among, holds, holds_in, in_holds}
+use Rattle.text_laws.proofs.Extensions.{extended_keys, extended_in, extended_sum, extended_parts, same_parts_of, none_where, one_part_of}
+use Rattle.text_laws.proofs.SoundDrafts.{Listings, family_of, ListSound, LabelSound, SideSound, Sound}
 use Rattle.text_laws.proofs.PartLemmas.{one_side}
 use Rattle.plan_core.proofs.ContentsLemmas.{empty_within}
-use Rattle.brief_text.specs.Grammar.{SpellsFrame, SpellsBytes, SpellsNext, SpellsRefused, SpellsOften, SpellsItem, SpellsItems}
+use Rattle.brief_text.specs.Grammar.{SpellsFrame, SpellsBytes, SpellsNext, SpellsRefused, SpellsMade, SpellsOften, SpellsItem, SpellsItems}
+use Rattle.brief_text.proofs.BlockLemmas.{choice_range}
 use Rattle.brief_text.proofs.TakesLemmas.{le_from}
 use Rattle.lexer.specs.declared.lexemes.Letters.{Letters}
 use Rattle.brief_tokens.specs.Names.{is_brief_word}
@@ -101,31 +103,36 @@ module _ (draft : Draft) (sound : Sound draft) where
       by None e (inr k) = absurd k
       by (Some r) e g = sound.families.known m name r e g
 
-  record Listing (names : List (List ℕ)) : Type 0 where
-    whole : ListSound draft.plan.messages names
+  -- these are listed after those that the controller has already
+  record Listing (has names : List (List ℕ)) : Type 0 where
+    whole : ListSound draft.plan.messages (has ++ names)
     room : sendings draft + length names ≤ MOST_SENDINGS
 
-  listed_on : (before names : List (List ℕ)) → ListFits draft before names → Listing (all_of draft before) → Listing (all_of draft (before ++ names))
+  listed_on : (has before names : List (List ℕ)) → ListFits draft has before names → Listing has (all_of draft before) → Listing has (all_of draft (before ++ names))
   unfolding listing_refusal
-  listed_on before [] fits so_far = subst (λ (ns : List (List ℕ)). Listing (all_of draft ns)) (sym (append-nil before)) so_far
-  listed_on before (name ∷ names) fits so_far =
+  listed_on has before [] fits so_far = subst (λ (ns : List (List ℕ)). Listing has (all_of draft ns)) (sym (append-nil before)) so_far
+  listed_on has before (name ∷ names) fits so_far =
       let listed = all_of draft before in
       let first = passes (not (is_message draft name)) Unknown _ fits.0 in
-      let second = passes (have_one_of listed (stands_for draft name)) Twice _ first.1 in
+      let second = passes (have_one_of has (stands_for draft name) || have_one_of listed (stands_for draft name)) Twice _ first.1 in
+      let neither = or_neither (have_one_of has (stands_for draft name)) (have_one_of listed (stands_for draft name)) second.0 in
       let third = passes (nat_lt MOST_SENDINGS (sendings draft + length listed + length (stands_for draft name))) TooMany _ second.1 in
       let known = is_true (is_message draft name) first.0 in
       let split : all_of draft (before ++ name ∷ []) ≡ listed ++ stands_for draft name = flat_map-append (stands_for draft) before (name ∷ []) ∙ ap (λ (ns : List (List ℕ)). listed ++ ns) (append-nil (stands_for draft name)) in
-      let fresh : (m : List ℕ) → In m listed → In m (stands_for draft name) → ⊥ = λ m h g.
-      not_both (have_one_of listed (stands_for draft name)) (in_any (λ n. holds n listed) (stands_for draft name) m g (in_holds m listed h)) second.0 in
-      let all : ListSound draft.plan.messages (listed ++ stands_for draft name) = record {
-        once = distinct_both listed (stands_for draft name) so_far.whole.once (stands_once name) fresh;
-        known = λ m h. elim (in_either m listed (stands_for draft name) h) [ inl a ↦ so_far.whole.known m a | inr b ↦ stands_known name known m b ];
+      let fresh_of : (those : List (List ℕ)) (m : List ℕ) → have_one_of those (stands_for draft name) ≡ false → In m those → In m (stands_for draft name) → ⊥ = λ those m none h g.
+      not_both (have_one_of those (stands_for draft name)) (in_any (λ n. holds n those) (stands_for draft name) m g (in_holds m those h)) none in
+      let fresh : (m : List ℕ) → In m (has ++ listed) → In m (stands_for draft name) → ⊥ = λ m h g.
+      elim (in_either m has listed h) [ inl a ↦ fresh_of has m neither.0 a g | inr b ↦ fresh_of listed m neither.1 b g ] in
+      let both : ListSound draft.plan.messages ((has ++ listed) ++ stands_for draft name) = record {
+        once = distinct_both (has ++ listed) (stands_for draft name) so_far.whole.once (stands_once name) fresh;
+        known = λ m h. elim (in_either m (has ++ listed) (stands_for draft name) h) [ inl a ↦ so_far.whole.known m a | inr b ↦ stands_known name known m b ];
       } in
+      let all : ListSound draft.plan.messages (has ++ (listed ++ stands_for draft name)) = subst (ListSound draft.plan.messages) (append_assoc has listed (stands_for draft name)) both in
       let size = length-append listed (stands_for draft name) in
       let few = ltb-false MOST_SENDINGS (sendings draft + length listed + length (stands_for draft name)) third.0 in
-      let next : Listing (listed ++ stands_for draft name) = record { whole = all; room = omega (arith, size, few) } in
-      subst (λ (ns : List (List ℕ)). Listing (all_of draft ns)) (append_assoc before (name ∷ []) names)
-      (listed_on (before ++ name ∷ []) names fits.1 (subst Listing (sym split) next))
+      let next : Listing has (listed ++ stands_for draft name) = record { whole = all; room = omega (arith, size, few) } in
+      subst (λ (ns : List (List ℕ)). Listing has (all_of draft ns)) (append_assoc before (name ∷ []) names)
+      (listed_on has (before ++ name ∷ []) names fits.1 (subst (Listing has) (sym split) next))
     where
       is_true : (b : Bool) → not b ≡ false → b ≡ true
       is_true true e = refl
@@ -135,8 +142,8 @@ module _ (draft : Draft) (sound : Sound draft) where
     abbrev listed : List (List ℕ)
     listed = flat_map (stands_for draft) messages
 
-    abbrev extended : Draft
-    extended = record draft { controllers = draft.controllers ++ (name, listed) ∷ [] }
+    abbrev with_new : Draft
+    with_new = record draft { controllers = draft.controllers ++ (name, listed) ∷ [] }
 
     free : (is_taken draft name ≡ false) × (length (parts draft) < MOST_CONTROLLERS)
     unfolding controller_refusal_of
@@ -148,8 +155,8 @@ module _ (draft : Draft) (sound : Sound draft) where
     no_label : In name (map side_name draft.labels) → ⊥
     no_label h = not_both (is_taken draft name) (in_among name (taken_names draft) (in_right name (keys_of draft.controllers) (map side_name draft.labels) h)) free.0
 
-    all : Listing listed
-    all = listed_on [] messages fits.1 (record { whole = record { once = tt; known = λ m h. absurd h }; room = omega (arith, sound.controllers.few) })
+    all : Listing [] listed
+    all = listed_on [] [] messages fits.1 (record { whole = record { once = tt; known = λ m h. absurd h }; room = omega (arith, sound.controllers.few) })
 
     -- no label is of this controller
     unlabelled : labels_of draft name ≡ []
@@ -162,20 +169,20 @@ module _ (draft : Draft) (sound : Sound draft) where
             ap (λ (b : Bool). cond b (s ∷ filter (λ (side : Side). bytes_eq side.controller name) sides) (filter (λ (side : Side). bytes_eq side.controller name) sides)) other
             ∙ by sides (λ t h. within t (inr h))
 
-    one_part : length (parts extended) ≡ length (parts draft) + 1
+    one_part : length (parts with_new) ≡ length (parts draft) + 1
     unfolding parts
     one_part = grind (arith, common_steps, flat_map-append, unlabelled, length-append)
 
-    keys_are : keys_of extended.controllers ≡ keys_of draft.controllers ++ name ∷ []
+    keys_are : keys_of with_new.controllers ≡ keys_of draft.controllers ++ name ∷ []
     keys_are = keys_both draft.controllers ((name, listed) ∷ [])
 
-    key_kept : (n : List ℕ) → In n (keys_of draft.controllers) → In n (keys_of extended.controllers)
+    key_kept : (n : List ℕ) → In n (keys_of draft.controllers) → In n (keys_of with_new.controllers)
     key_kept n h = in_keys_left n draft.controllers ((name, listed) ∷ []) h
 
-    key_cases : (n : List ℕ) → In n (keys_of extended.controllers) → In n (keys_of draft.controllers) ⊎ (n ≡ name)
+    key_cases : (n : List ℕ) → In n (keys_of with_new.controllers) → In n (keys_of draft.controllers) ⊎ (n ≡ name)
     key_cases n h = elim (in_keys_either n draft.controllers ((name, listed) ∷ []) h) [ inl a ↦ inl a | inr b ↦ elim b [ inl e ↦ inr e | inr k ↦ absurd k ] ]
 
-    sound_extended : Sound extended
+    sound_extended : Sound with_new
     sound_extended = record {
       limits = sound.limits;
       no_controllers = sound.no_controllers;
@@ -202,7 +209,7 @@ module _ (draft : Draft) (sound : Sound draft) where
       nevers = λ n h. let two = sound.nevers n h in ((key_kept n.0.controller two.0.0, two.0.1), (key_kept n.1.controller two.1.0, two.1.1));
     }
       where
-        lists : (c : List ℕ × List (List ℕ)) → In c extended.controllers → ListSound draft.plan.messages c.1
+        lists : (c : List ℕ × List (List ℕ)) → In c with_new.controllers → ListSound draft.plan.messages c.1
         lists c h = by (in_either c draft.controllers ((name, listed) ∷ []) h)
           where
             by : In c draft.controllers ⊎ In c ((name, listed) ∷ []) → ListSound draft.plan.messages c.1
@@ -213,6 +220,86 @@ module _ (draft : Draft) (sound : Sound draft) where
   pub sound_controller : (name : List ℕ) (messages : List (List ℕ)) → IsName name → Fits draft (controller name messages) → Sound (with_item draft (controller name messages))
   unfolding with_item
   sound_controller name messages is fits = sound_extended name messages is fits
+
+  -- ---- what adds to a controller
+
+  module _ (name : List ℕ) (messages : List (List ℕ)) (fits : Fits draft (extend name messages)) where
+    abbrev added : List (List ℕ)
+    added = flat_map (stands_for draft) messages
+
+    abbrev already : List (List ℕ)
+    already = listed_by draft name
+
+    abbrev longer : Listings
+    longer = extended name added draft.controllers
+
+    may_extend : (is_some (lookup (bytes_eq name) draft.controllers) ≡ true) × (is_labelled draft name ≡ false)
+    unfolding extend_refusal_of
+    may_extend =
+        let first = passes (not (is_some (lookup (bytes_eq name) draft.controllers))) Unknown _ fits.0 in
+        let second = passes (is_labelled draft name || list_any (is_side_of name) draft.nevers) Twice None first.1 in
+        let neither = or_neither (is_labelled draft name) (list_any (is_side_of name) draft.nevers) second.0 in
+        (by (is_some (lookup (bytes_eq name) draft.controllers)) first.0, neither.0)
+      where
+        by : (b : Bool) → not b ≡ false → b ≡ true
+        by true e = refl
+        by false e = absurd (true≢false e)
+
+    stood : lookup (bytes_eq name) draft.controllers ≡ Some already
+    stood = by (lookup (bytes_eq name) draft.controllers) may_extend.0
+      where
+        by : (o : Option (List (List ℕ))) → is_some o ≡ true → o ≡ Some (unwrap_or o [])
+        by (Some x) e = refl
+        by None e = absurd (true≢false (sym e))
+
+    sound_already : ListSound draft.plan.messages already
+    sound_already = sound.controllers.listed (name, already) (lookup_in name draft.controllers already stood)
+
+    all_added : Listing already added
+    all_added = listed_on already [] messages fits.1 (record { whole = subst (ListSound draft.plan.messages) (sym (append-nil already)) sound_already; room = omega (arith, sound.controllers.few) })
+
+    longer_kept : (n : List ℕ) → In n (keys_of draft.controllers) → In n (keys_of longer)
+    longer_kept n h = subst (λ (keys : List (List ℕ)). In n keys) (sym (extended_keys name added draft.controllers)) h
+
+    longer_back : (n : List ℕ) → In n (keys_of longer) → In n (keys_of draft.controllers)
+    longer_back n h = subst (λ (keys : List (List ℕ)). In n keys) (extended_keys name added draft.controllers) h
+
+    same_parts : length (parts (record draft { controllers = longer })) ≡ length (parts draft)
+    unfolding parts
+    same_parts =
+        extended_parts (parts_of (record draft { controllers = longer })) (parts_of draft) (same_parts_of draft longer) name added
+        (λ listed. one_part_of draft name listed (none_where (λ (label : Side). bytes_eq label.controller name) draft.labels may_extend.1)) draft.controllers
+
+    sound_longer : Sound (record draft { controllers = longer })
+    sound_longer = record {
+      limits = sound.limits;
+      no_controllers = sound.no_controllers;
+      no_nevers = sound.no_nevers;
+      families = sound.families;
+      controllers = record {
+        keys = subst Distinct (sym (extended_keys name added draft.controllers)) sound.controllers.keys;
+        named = λ n h. sound.controllers.named n (longer_back n h);
+        listed = λ c h. elim (extended_in name added already c draft.controllers stood h) [ inl a ↦ sound.controllers.listed c a | inr e ↦ subst (ListSound draft.plan.messages) (sym e) all_added.whole ];
+        few = let sums = extended_sum name added already draft.controllers stood in omega (arith, sums, all_added.room);
+      };
+      labels = record {
+        once = sound.labels.once;
+        each = λ s h. let l = sound.labels.each s h in record {
+          named = l.named;
+          label = l.label;
+          is = l.is;
+          known = l.known;
+          owned = longer_kept s.controller l.owned;
+          new = λ g. l.new (longer_back (side_name s) g);
+        };
+      };
+      few_parts = omega (arith, same_parts, sound.few_parts);
+      nevers = λ n h. let two = sound.nevers n h in ((longer_kept n.0.controller two.0.0, two.0.1), (longer_kept n.1.controller two.1.0, two.1.1));
+    }
+
+  pub sound_extension : (name : List ℕ) (messages : List (List ℕ)) → Fits draft (extend name messages) → Sound (with_item draft (extend name messages))
+  unfolding with_item
+  sound_extension name messages fits = sound_longer name messages fits
 
   -- ---- `never`
 
@@ -428,6 +515,12 @@ module _ (range : Lengths) (none : is_range range.least range.greatest ≡ false
   often_range : (often : Times) (from to : Tokens) → SpellsOften R often from to → often_ranges often ≡ 0
   often_range often from to e = grind (arith, common_steps)
 
+  made_range : (made : Made) (from to : Tokens) → SpellsMade R made from to → made_ranges made ≡ 0
+  made_range (header reads target) from to s = refl
+  made_range packet_code from to s = refl
+  made_range checksum from to s = refl
+  made_range (chosen choice) from to s = let is = choice_range choice range s.1 s.2 in absurd (true≢false (sym is ∙ none))
+
   mutual
     frame_range : (f : BriefFrame) (from to : Tokens) → SpellsFrame R f from to → frame_ranges f ≡ 0
     frame_range (write_to target refused acked) from to s = omega (arith, refused_range refused s.2.0 s.2.2.0 s.2.2.1, bytes_range acked s.2.2.0 to s.2.2.2)
@@ -436,7 +529,7 @@ module _ (range : Lengths) (none : is_range range.least range.greatest ≡ false
     bytes_range : (b : BriefBytes) (from to : Tokens) → SpellsBytes R b from to → bytes_ranges b ≡ 0
     bytes_range (data_byte bits often refused acked) from to s =
         omega (arith, often_range often s.0 s.2.0 s.2.1, refused_range refused s.2.0 s.2.2.0 s.2.2.1, bytes_range acked s.2.2.0 to s.2.2.2)
-    bytes_range (made_byte made refused acked) from to s = omega (arith, refused_range refused s.0 s.2.0 s.2.1, bytes_range acked s.2.0 to s.2.2)
+    bytes_range (made_byte made refused acked) from to s = omega (arith, made_range made from s.0 s.1, refused_range refused s.0 s.2.0 s.2.1, bytes_range acked s.2.0 to s.2.2)
     bytes_range (no_more tail) from to s = next_range tail from to s
 
     next_range : (t : BriefTail) (from to : Tokens) → SpellsNext R t from to → tail_ranges t ≡ 0
@@ -460,6 +553,7 @@ sound_item letters draft (message name (Some range) frame) from to sound fits s 
     let small = range_small range frame s.2.0 s.2.2.0 s.2.2.1 fits.ranges in
     sound_message draft name (Some range) frame sound s.2.1.1 (λ r e. let same : range ≡ r = cc in subst (λ (l : Lengths). l.greatest ≤ 255) same small) fits
 sound_item letters draft (controller name messages) from to sound fits s = sound_controller draft sound name messages s.2.1.1 fits
+sound_item letters draft (extend name messages) from to sound fits s = sound_extension draft sound name messages fits
 sound_item letters draft (interrupt name target) from to sound fits s = sound_interrupt draft name target sound s.2.1.1 fits
 sound_item letters draft (never_both first second) from to sound fits s = sound_never draft first second sound (side_formed letters s.2.1.0 first s.2.1.2) (side_formed letters s.2.2.1.0 second s.2.2.1.2) fits
 

@@ -2,14 +2,14 @@
 
 use crate::captures::{after_transaction, below_transaction};
 use crate::counts::{push_stopped, push_tallies};
-use crate::drove::{below_drives, drives_line};
+use crate::drove::{GoingOn, drives_line, push_drives};
 use crate::moments::push_times;
 use crate::pulse_lines::pulse_line;
 use crate::written::Written;
 use bus_rows::{Labels, Paint, called_by, labels_of};
 use capture_check::{Transaction, Until};
 use decoding::{Ending, ExplainedSink};
-use drives::Judging;
+use drives::{Judging, Verdict};
 use dump_findings::{Layout, Selection, Tallies};
 use dump_tokens::Quiet;
 use growing_text::Text;
@@ -31,6 +31,7 @@ pub struct CaptureLines<'a, 'w, O> {
     tallies: Option<Tallies>,
     // where lines of controllers are followed
     judging: Option<Judging<'w>>,
+    going_on: GoingOn,
     // whether the last transaction was told
     was_told: bool,
     has_stopped: bool,
@@ -48,6 +49,7 @@ impl<O> Drop for CaptureLines<'_, '_, O> {
             called: _,
             tallies: _,
             judging: _,
+            going_on: _,
             was_told: _,
             has_stopped: _,
         } = self;
@@ -82,6 +84,7 @@ impl<'a, 'w, O: Output> CaptureLines<'a, 'w, O> {
             called,
             tallies,
             judging: None,
+            going_on: GoingOn::none(alloc),
             was_told: false,
             has_stopped: false,
         })
@@ -89,6 +92,12 @@ impl<'a, 'w, O: Output> CaptureLines<'a, 'w, O> {
 
     /// The same where lines of controllers are followed.
     pub fn with_drives(mut self, judging: Option<Judging<'w>>) -> CaptureLines<'a, 'w, O> {
+        if let Some(judging) = &judging {
+            match GoingOn::of(self.written.alloc, judging) {
+                Ok(going_on) => self.going_on = going_on,
+                Err(_) => self.written.text.cut(),
+            }
+        }
         self.judging = judging;
         self
     }
@@ -96,7 +105,7 @@ impl<'a, 'w, O: Output> CaptureLines<'a, 'w, O> {
     fn transaction(&mut self, transaction: &Transaction, participants: &[u32]) {
         self.follow(transaction.idle);
         self.was_told = self.selection.takes(transaction, !participants.is_empty());
-        let drove = self.drove(transaction, participants);
+        let verdict = self.judge(transaction, participants);
         if !self.was_told {
             return;
         }
@@ -114,23 +123,36 @@ impl<'a, 'w, O: Output> CaptureLines<'a, 'w, O> {
             );
             self.written.text.push_made(below);
         }
-        self.written.text.push_made(drove);
+        self.drove(&verdict);
     }
 
     // Who drove the bus in the next transaction, where that is known.
-    fn drove(
+    fn judge(
         &mut self,
         transaction: &Transaction,
         participants: &[u32],
-    ) -> Result<String, AllocError> {
+    ) -> Option<Result<Verdict, AllocError>> {
         let alloc = self.written.alloc;
-        let Some(judging) = &mut self.judging else {
-            return Ok(String::new(alloc));
-        };
         let plan = self.words.plan();
         let told = self.was_told;
-        let verdict = judging.judge_next(alloc, plan, transaction, participants, told)?;
-        below_drives(alloc, judging, &verdict)
+        match &mut self.judging {
+            Some(judging) => Some(judging.judge_next(alloc, plan, transaction, participants, told)),
+            None => None,
+        }
+    }
+
+    // Tells it.
+    fn drove(&mut self, verdict: &Option<Result<Verdict, AllocError>>) {
+        let Some(judging) = &self.judging else {
+            return;
+        };
+        let alloc = self.written.alloc;
+        let text = &mut self.written.text;
+        match verdict {
+            Some(Ok(verdict)) => push_drives(alloc, text, judging, &self.going_on, verdict),
+            Some(Err(_)) => text.cut(),
+            None => {}
+        }
     }
 
     // So many bits came on the free bus after the last transaction.
@@ -218,6 +240,7 @@ impl<'a, 'w, O: Output> CaptureLines<'a, 'w, O> {
             called: _,
             tallies,
             judging,
+            going_on: _,
             was_told: _,
             has_stopped: _,
         } = self;

@@ -2,26 +2,76 @@
 
 use bus_rows::say;
 use drives::{Does, Judged, Judging, Verdict};
-use growing_text::{Lines, Part};
+use growing_text::{Lines, Part, Text};
 use std::alloc::{AllocError, Global};
 
-/// What is said below a transaction of what the controllers did that are followed.
-pub(crate) fn below_drives(
+/// The lines of those who go on to the end, by the numbers of their controllers. Most transactions have such a line, so each is
+/// made once.
+#[derive(Drop)]
+pub(crate) struct GoingOn {
+    lines: Vec<String>,
+}
+
+impl GoingOn {
+    /// Where no controller is followed.
+    pub(crate) fn none(alloc: Global) -> GoingOn {
+        GoingOn {
+            lines: Vec::new(alloc),
+        }
+    }
+
+    /// Those of the controllers that are followed.
+    pub(crate) fn of(alloc: Global, judging: &Judging<'_>) -> Result<GoingOn, AllocError> {
+        let mut lines = Vec::new(alloc);
+        for number in 0..judging.followed() {
+            let does = Does::GoesOn;
+            lines.push(line_of(alloc, judging, Judged { number, does })?)?;
+        }
+        Ok(GoingOn { lines })
+    }
+
+    // The line of this, if it is one of them.
+    fn line(&self, judged: Judged) -> Option<&str> {
+        match judged.does {
+            Does::GoesOn => Some(self.lines.get(judged.number)?.as_str()),
+            _ => None,
+        }
+    }
+}
+
+/// Adds what is said below a transaction of what the controllers did that are followed.
+pub(crate) fn push_drives(
     alloc: Global,
+    text: &mut Text,
     judging: &Judging<'_>,
+    going_on: &GoingOn,
     verdict: &Verdict,
-) -> Result<String, AllocError> {
-    let mut lines = Lines::new(alloc);
+) {
     for judged in verdict.all.iter() {
-        tell(&mut lines, judging.controller(judged.number), *judged);
+        match going_on.line(*judged) {
+            Some(line) => text.push(line),
+            None => text.push_made(line_of(alloc, judging, *judged)),
+        }
     }
     if verdict.is_denied {
-        say(
-            &mut lines,
-            "none of the controllers that are followed pulls SDA, and no other sends this: against the plan",
-            &[],
-        );
+        text.push_made(denied_line(alloc));
     }
+}
+
+// What a controller did.
+fn line_of(alloc: Global, judging: &Judging<'_>, judged: Judged) -> Result<String, AllocError> {
+    let mut lines = Lines::new(alloc);
+    tell(&mut lines, judging.controller(judged.number), judged);
+    lines.finish()
+}
+
+fn denied_line(alloc: Global) -> Result<String, AllocError> {
+    let mut lines = Lines::new(alloc);
+    say(
+        &mut lines,
+        "none of the controllers that are followed pulls SDA, and no other sends this: against the plan",
+        &[],
+    );
     lines.finish()
 }
 

@@ -3,12 +3,16 @@
 use crate::tasks::run_over;
 use crate::versions::version_of;
 use command_words::{Asked, Format, Manner, Request, Rewriting, When, read_words};
-use files::{FilesRead, Form, Sheet, Watcher, is_standard_input};
+use files::{FilesRead, Form, Sheet, Source, Watcher, is_standard_input};
 use growing_text::visible;
 use language_server::serve;
 use refusal_objects::Detail;
-use run_ends::{Errand, Extras, Inputs, finish, open_files, refused};
+use run_ends::{
+    BoardNames, Errand, Extras, FailedText, Halt, Inputs, OpenFiles, Sources, TextReader, Texts,
+    finish, open_files, read_texts, refused,
+};
 use run_parts::{RunError, Watched};
+use std::alloc::{AllocError, Global};
 use std::env::{self, VarError};
 use std::io;
 use std::rt::{Env, Files};
@@ -61,6 +65,7 @@ fn run_words<R: Files + Env + Input + Print + Eprint + AllocGlobal + Threads + W
                 request: request.with_drives(drives.as_slice()),
                 further: further.as_slice(),
                 extras: extras_of(rt, manner, terminals),
+                board: None,
             };
             Ok(do_errand(rt, watched(rt, errand, terminals)))
         }
@@ -137,18 +142,99 @@ fn do_errand<R: Files + Input + Print + Eprint + AllocGlobal + Threads + Wait + 
     errand: Errand<'_>,
 ) -> u8 {
     let mut ids = Vec::new(rt.alloc());
-    let Some((mut texts, mut second)) = open_files(rt, errand, &mut ids) else {
+    let Some(OpenFiles { texts, second }) = open_files(rt, errand, &mut ids) else {
         return 2;
     };
-    let read = FilesRead {
+    let texts = read_texts(rt, errand, texts, &mut ids);
+    let Texts {
+        readers,
+        paths,
+        several,
+        failed,
+        halt,
+    } = texts;
+    let files = FilesRead {
         ids: ids.as_slice(),
     };
+    let read = RunTexts {
+        readers,
+        failed,
+        halt,
+    };
+    match paths {
+        None => do_over(rt, errand, read, second, files),
+        Some(paths) => match words_of(rt.alloc(), paths.as_slice()) {
+            Ok(paths) => {
+                let board = BoardNames {
+                    paths: paths.as_slice(),
+                    several,
+                };
+                let errand = Errand {
+                    board: Some(board),
+                    ..errand
+                };
+                do_over(rt, errand, read, second, files)
+            }
+            Err(_) => {
+                refused(
+                    rt,
+                    RunError::NoMemory,
+                    Detail::Nothing,
+                    "",
+                    errand.extras.format,
+                );
+                2
+            }
+        },
+    }
+}
+
+fn words_of(alloc: Global, paths: &[String]) -> Result<Vec<&str>, AllocError> {
+    let mut words = Vec::new(alloc);
+    for path in paths {
+        words.push(path.as_str())?;
+    }
+    Ok(words)
+}
+
+// The texts of a run, or why it goes no further.
+#[derive(Drop)]
+struct RunTexts<S> {
+    readers: Vec<TextReader<S>>,
+    failed: Option<FailedText>,
+    halt: Option<Halt>,
+}
+
+// What was asked for, over these texts, to the status.
+fn do_over<'a, R: Files + Input + Print + Eprint + AllocGlobal + Threads + Wait + Clock + Sync>(
+    rt: &'a R,
+    errand: Errand<'_>,
+    texts: RunTexts<Source<'a, R, R::File, R::Reader>>,
+    second: Option<Source<'a, R, R::File, R::Reader>>,
+    files: FilesRead<'_>,
+) -> u8 {
+    let RunTexts {
+        readers,
+        failed,
+        halt,
+    } = texts;
+    let mut second = second;
+    let mut sources = Sources {
+        readers,
+        files: errand.named().files(),
+    };
     let is_long = errand.rewrites(Rewriting::Certify);
-    let sheet = Sheet::telling(rt, errand.form(), read, errand.extras.watcher, is_long);
+    let sheet = Sheet::telling(rt, errand.form(), files, errand.extras.watcher, is_long);
     let mut out = Watched::new(sheet);
-    let ended = run_over(rt, errand, &mut texts, &mut second, &mut out);
-    let inputs = Inputs::of(errand, (texts, second));
-    finish(rt, inputs, out.into_inner(), ended, read, errand)
+    let mut ended = match halt {
+        Some(halt) => Err(halt),
+        None => run_over(rt, errand, &mut sources, &mut second, &mut out),
+    };
+    if let (Err(halt), true) = (&mut ended, errand.extras.says_why()) {
+        sources.read_on(rt.alloc(), halt);
+    }
+    let inputs = Inputs::of(errand, sources.readers, failed, second);
+    finish(rt, inputs, out.into_inner(), ended, files, errand)
 }
 
 // Serves the editor that has started the program, and answers the status.

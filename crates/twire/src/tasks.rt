@@ -11,11 +11,16 @@ use std::thread::Threads;
 use std::time::Clock;
 
 /// Runs what was asked for, over what gives a plan or the only text, and a second text where there is one.
-pub fn run_over<R: Eprint + AllocGlobal + Threads + Wait + Clock + Sync, I: Input, O: Output>(
+pub fn run_over<
+    R: Eprint + AllocGlobal + Threads + Wait + Clock + Sync,
+    I: Input,
+    J: Input,
+    O: Output,
+>(
     rt: &R,
     errand: Errand<'_>,
     texts: &mut Sources<'_, I>,
-    second: &mut Option<I>,
+    second: &mut Option<J>,
     out: &mut O,
 ) -> Result<Ended, Halt> {
     let (alloc, extras) = (rt.alloc(), errand.extras);

@@ -1,10 +1,9 @@
 // Who is told what a dump says, beside the two lines of the bus: of its tokens, or what further lines are. Nothing is
 // proved of either but that it is safe.
 
-use crate::dumps::{Context, Dump, Seen};
 use crate::probes::{Probe, Sought};
 use crate::samples::{Further, Level};
-use crate::words::{level_at, level_of};
+use crate::words::{code_number, level_at, level_of};
 use std::alloc::{AllocError, Global};
 
 // How many lines can be followed: a bit of a mask for each.
@@ -26,29 +25,51 @@ pub struct Nobody;
 
 impl Tokens for Nobody {}
 
-/// Who stands by while a dump takes tokens.
+/// Who is told of the changes in a dump as it takes them, and of its signals.
 pub(crate) trait Bystander {
-    /// A change of one value, `0` or `1`, whose code has at most three characters.
-    fn change_short(&mut self, token: &[u8]);
+    /// A `$var` of one bit, or of another number, has this reference and this code.
+    fn declare(&mut self, one_bit: bool, reference: &[u8], code: &[u8]);
 
-    /// Any other token, which stood in this context of the dump.
-    fn change_other(&mut self, token: &[u8], context: Context, dump: &Dump);
+    /// A change of one value: the whole token.
+    fn change(&mut self, token: &[u8], time: u64);
+
+    /// The digits of a vector, whose code comes next.
+    fn digits(&mut self, digits: &[u8]);
+
+    /// The code of a vector.
+    fn change_of_vector(&mut self, code: &[u8], time: u64);
 }
 
 impl Bystander for Nobody {
     #[inline(always)]
-    fn change_short(&mut self, _token: &[u8]) {}
+    fn declare(&mut self, _one_bit: bool, _reference: &[u8], _code: &[u8]) {}
 
     #[inline(always)]
-    fn change_other(&mut self, _token: &[u8], _context: Context, _dump: &Dump) {}
+    fn change(&mut self, _token: &[u8], _time: u64) {}
+
+    #[inline(always)]
+    fn digits(&mut self, _digits: &[u8]) {}
+
+    #[inline(always)]
+    fn change_of_vector(&mut self, _code: &[u8], _time: u64) {}
 }
 
-// One line: how its `$var` is found, the code that this gives it (empty until it has come), and its bit.
+// One line: how its `$var` is found, the code that this gives it (empty until it has come) and the number of that, if it has
+// one, and its bit.
 #[derive(Drop)]
 struct Line {
     sought: Sought,
     code: Vec<u8>,
+    number: u32,
     bit: u32,
+}
+
+impl Line {
+    // Whether it has this code, which has this number, or 0.
+    #[inline(always)]
+    fn has(&self, code: &[u8], number: u32) -> bool {
+        number == self.number && (number != 0 || code == self.code.as_slice())
+    }
 }
 
 // The levels of all lines: those in neither mask are high.
@@ -72,17 +93,23 @@ impl Levels {
 }
 
 /// Further lines, and what they have been.
+///
+/// Few tokens of a dump are changes of these lines, so nothing is done at any other but to see that: a time stamp is closed
+/// where a line changes after it, or what was read is asked for.
 pub(crate) struct FurtherLines {
     lines: Vec<Line>,
     // which bytes end the code of a line: a change of another signal is mostly passed over by this alone
     ends: [bool; BYTES],
-    // the levels before the time stamp, and now
+    // which lines have a code of this one character
+    of_byte: [u32; BYTES],
+    // the levels before the time stamp in which a line changed last, and since then
     before: Levels,
     now: Levels,
-    // the digits of the vector whose code comes next: all of them where a line is not the rightmost one of its signal
+    time: u64,
+    // the last digit of the vector whose code comes next, and all of them where a line is not the rightmost one of its signal
+    digit: u8,
     digits: Vec<u8>,
     is_wide: bool,
-    time: u64,
     pub(crate) given: Vec<Further>,
 }
 
@@ -92,11 +119,13 @@ impl Drop for FurtherLines {
         let Self {
             lines: _,
             ends: _,
+            of_byte: _,
             before: _,
             now: _,
+            time: _,
+            digit: _,
             digits: _,
             is_wide: _,
-            time: _,
             given: _,
         } = self;
     }
@@ -116,17 +145,20 @@ impl FurtherLines {
             lines.push(Line {
                 sought,
                 code: Vec::new(alloc),
+                number: 0,
                 bit,
             })?;
         }
         Ok(FurtherLines {
             lines,
             ends: [false; BYTES],
+            of_byte: [0; BYTES],
             before: unknown,
             now: unknown,
+            time: 0,
+            digit: b'x',
             digits: Vec::new(alloc),
             is_wide,
-            time: 0,
             given: Vec::new(alloc),
         })
     }
@@ -140,12 +172,11 @@ impl FurtherLines {
             }
         }
         self.digits.reserve(token)?;
-        // a time has two bytes at least, and the end of the dump gives one more
+        // a change has two bytes at least, and the end of the piece or of the dump gives one more
         self.given.reserve((bytes / 2).saturating_add(2))
     }
 
-    /// The end of the dump closes the last time stamp.
-    #[inline(always)]
+    /// The time stamp in which a line changed last is closed.
     pub(crate) fn end(&mut self) {
         if self.now != self.before {
             let Levels { low, unknown } = self.now;
@@ -159,39 +190,12 @@ impl FurtherLines {
         }
     }
 
-    // A `$var` of one bit, or of another number, has this reference and this code.
-    #[inline(never)]
-    fn declare(&mut self, one_bit: bool, reference: &[u8], code: &[u8]) {
-        for line in self.lines.iter_mut() {
-            if line.code.is_empty() && line.sought.is_declared_by(one_bit, reference, code) {
-                // (there is room)
-                let _ = line.code.extend_from_slice(code);
-                if let Some(last) = code.last() {
-                    self.ends[*last as usize] = true;
-                }
-            }
-        }
-    }
-
-    // A token outside commands, after the definitions, that is no later time.
+    /// The dump has come to this time: a later one closes the time stamp.
     #[inline(always)]
-    fn change(&mut self, token: &[u8]) {
-        match token.split_first() {
-            Some((b'b' | b'B', digits)) => self.keep(digits),
-            Some((b'#' | b'$' | b'r' | b'R' | b's' | b'S', _)) | None => {}
-            Some(_) => self.change_value(token),
-        }
-    }
-
-    // Keeps of the digits of a vector what lines need.
-    #[inline(always)]
-    fn keep(&mut self, digits: &[u8]) {
-        self.digits.clear();
-        // (there is room)
-        if self.is_wide {
-            let _ = self.digits.extend_from_slice(digits);
-        } else if let Some(last) = digits.last() {
-            let _ = self.digits.push(*last);
+    pub(crate) fn reach(&mut self, time: u64) {
+        if time != self.time {
+            self.end();
+            self.time = time;
         }
     }
 
@@ -204,42 +208,53 @@ impl FurtherLines {
         }
     }
 
-    // A change of one value.
+    // The lines that have this code.
     #[inline(always)]
-    fn change_value(&mut self, token: &[u8]) {
-        if self.may_change(token) {
-            self.put_value(token);
+    fn bits_of(&self, code: &[u8]) -> u32 {
+        match code {
+            [byte] => self.of_byte[*byte as usize],
+            _ => self.bits_of_longer(code),
         }
     }
 
-    // The same where a line may have the code.
+    // The same of a code of several characters.
+    fn bits_of_longer(&self, code: &[u8]) -> u32 {
+        let number = code_number(code);
+        let mut bits = 0u32;
+        for line in self.lines.iter() {
+            if line.has(code, number) {
+                bits |= line.bit;
+            }
+        }
+        bits
+    }
+
+    // A change of one value, where a line may have the code.
     #[inline(never)]
-    fn put_value(&mut self, token: &[u8]) {
+    fn put_value(&mut self, token: &[u8], time: u64) {
         if let Some((value, code)) = token.split_first()
             && let Some(level) = level_of(*value)
         {
-            for line in self.lines.iter() {
-                if code == line.code.as_slice() {
-                    self.now.put(line.bit, level);
-                }
+            let bits = self.bits_of(code);
+            if bits != 0 {
+                self.reach(time);
+                self.now.put(bits, level);
             }
-        }
-    }
-
-    // The code of a vector.
-    #[inline(always)]
-    fn change_of_vector(&mut self, code: &[u8]) {
-        if self.may_change(code) {
-            self.put_digits(code);
         }
     }
 
     // The lines with this code have the levels that the digits say of them.
     #[inline(never)]
-    fn put_digits(&mut self, code: &[u8]) {
+    fn put_digits(&mut self, code: &[u8], time: u64) {
+        let bits = self.bits_of(code);
+        if bits == 0 {
+            return;
+        }
+        self.reach(time);
         for line in self.lines.iter() {
-            if code == line.code.as_slice() {
-                let level = level_at(line.sought.place(), self.digits.as_slice());
+            if bits & line.bit != 0 {
+                let place = line.sought.place();
+                let level = level_in(place, self.digit, self.digits.as_slice());
                 self.now.put(line.bit, level);
             }
         }
@@ -247,27 +262,57 @@ impl FurtherLines {
 }
 
 impl Bystander for FurtherLines {
-    #[inline(always)]
-    fn change_short(&mut self, token: &[u8]) {
-        self.change_value(token);
+    #[inline(never)]
+    fn declare(&mut self, one_bit: bool, reference: &[u8], code: &[u8]) {
+        for line in self.lines.iter_mut() {
+            if line.code.is_empty() && line.sought.is_declared_by(one_bit, reference, code) {
+                // (there is room)
+                let _ = line.code.extend_from_slice(code);
+                line.number = code_number(code);
+                if let Some(last) = code.last() {
+                    self.ends[*last as usize] = true;
+                }
+                if let [byte] = code {
+                    self.of_byte[*byte as usize] |= line.bit;
+                }
+            }
+        }
     }
 
     #[inline(always)]
-    fn change_other(&mut self, token: &[u8], context: Context, dump: &Dump) {
-        if dump.time != self.time {
-            // a later time closes the time stamp
-            self.end();
-            self.time = dump.time;
-            return;
+    fn change(&mut self, token: &[u8], time: u64) {
+        if self.may_change(token) {
+            self.put_value(token, time);
         }
-        match context {
-            Context::Nothing if dump.defined => self.change(token),
-            Context::Change(_, Some(_)) => self.change_of_vector(token),
-            Context::Var(_, Seen::Code { one_bit }) => {
-                self.declare(one_bit, token, dump.code.as_slice());
-            }
-            _ => {}
+    }
+
+    #[inline(always)]
+    fn digits(&mut self, digits: &[u8]) {
+        if let Some(last) = digits.last() {
+            self.digit = *last;
         }
+        if self.is_wide {
+            self.digits.clear();
+            // (there is room)
+            let _ = self.digits.extend_from_slice(digits);
+        }
+    }
+
+    #[inline(always)]
+    fn change_of_vector(&mut self, code: &[u8], time: u64) {
+        if self.may_change(code) {
+            self.put_digits(code, time);
+        }
+    }
+}
+
+// What a vector says of the bit that stands so many places to the left of the rightmost, whose digit this is. Where all lines are
+// the rightmost ones of their signals, no more digits are kept.
+fn level_in(place: u32, last: u8, digits: &[u8]) -> Level {
+    if place == 0 {
+        level_at(0, &[last])
+    } else {
+        level_at(place, digits)
     }
 }
 

@@ -7,6 +7,7 @@ ghost use Rattle.vcd_read.specs.Views.{state_of, HasRoom, Leaves, Steps};
 ghost use Rattle.vcd_read.specs.Words.{binary_level_of, code_number};
 ghost use Rattle.vcd_read.specs.declared.dumps.Context.TheVariants.{Nothing};
 
+use crate::beside::Bystander;
 use crate::dumps::{Context, Dump, Levels};
 use crate::errors::Refusal;
 use crate::samples::{Level, Sample};
@@ -50,9 +51,14 @@ impl Dump {
         true
     }
 
-    /// A token outside commands, after the definitions.
+    /// A token outside commands, after the definitions. Another is told of changes.
     #[inline(always)]
-    pub(crate) fn change(&mut self, token: &[u8], line: u64) -> Result<Option<Sample>, Refusal>
+    pub(crate) fn change<B: Bystander>(
+        &mut self,
+        token: &[u8],
+        line: u64,
+        beside: &mut B,
+    ) -> Result<Option<Sample>, Refusal>
         ensures step { Steps result (change (state_of self.old) token.now line) (state_of self.new) }
         ensures room { (n : ℕ) → HasRoom n self.old → HasRoom n self.new }
     {
@@ -69,6 +75,7 @@ impl Dump {
             b'b' | b'B' => {
                 let to = self.vector_levels(rest).ok_or(bad)?;
                 self.context = Context::Change(line, Some(to));
+                beside.digits(rest);
             }
             b'r' | b'R' | b's' | b'S' => {
                 if rest.is_empty() {
@@ -76,7 +83,10 @@ impl Dump {
                 }
                 self.context = Context::Change(line, None);
             }
-            value => self.scalar_change(level_of(value), rest, line)?,
+            value => {
+                self.scalar_change(level_of(value), rest, line)?;
+                beside.change(token, self.time);
+            }
         }
         Ok(None)
     }

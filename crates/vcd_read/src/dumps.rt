@@ -2,6 +2,7 @@
 
 ghost use Rattle.std.specs.Prelude.{◌≡◌, ℕ, ◌≤◌, length, vec_len, vec_capacity, IfOk, OnOk};
 
+use crate::beside::Bystander;
 use crate::errors::Refusal;
 use crate::probes::Probe;
 use crate::samples::{Level, Sample};
@@ -101,10 +102,16 @@ impl Dump {
         self.sda.code.reserve(bytes)
     }
 
-    /// Reads the next token, which stands on this line. The sample is that of the time stamp which it closes.
+    /// Reads the next token, which stands on this line. The sample is that of the time stamp which it closes. Another is told of
+    /// changes and signals.
     #[tactic(auto, unfolding(crate::specs::Dumps::step))]
     #[inline(always)]
-    pub(crate) fn read(&mut self, token: &[u8], line: u64) -> Result<Option<Sample>, Refusal>
+    pub(crate) fn read<B: Bystander>(
+        &mut self,
+        token: &[u8],
+        line: u64,
+        beside: &mut B,
+    ) -> Result<Option<Sample>, Refusal>
         requires { HasRoom (length token.now) self.old }
         ensures step { Steps result (step (state_of self.old) token.now line) (state_of self.new) }
         ensures room { (n : ℕ) → HasRoom n self.old → HasRoom n self.new }
@@ -112,7 +119,7 @@ impl Dump {
         match self.context {
             Context::Nothing => {
                 if self.defined {
-                    return self.change(token, line);
+                    return self.change(token, line, beside);
                 }
                 self.define(token, line)?;
             }
@@ -121,7 +128,12 @@ impl Dump {
                     self.context = Context::Nothing;
                 }
             }
-            Context::Var(began, seen) => self.inside_var(began, seen, token, line)?,
+            Context::Var(began, seen) => {
+                self.inside_var(began, seen, token, line)?;
+                if let Seen::Code { one_bit } = seen {
+                    beside.declare(one_bit, token, self.code.as_slice());
+                }
+            }
             Context::EndDefinitions(_) => {
                 if is_end(token) {
                     self.end_definitions()?;
@@ -132,6 +144,9 @@ impl Dump {
                 if let Err(refusal) = self.change_of_code(to, token, line) {
                     self.context = Context::Change(began, to);
                     return Err(refusal);
+                }
+                if to.is_some() {
+                    beside.change_of_vector(token, self.time);
                 }
             }
         }

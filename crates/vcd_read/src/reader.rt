@@ -346,7 +346,11 @@ fn read<T: Tokens>(
     ensures samples_room { RoomForSamples 2 scanner.new }
 {
     match further {
-        Some(further) => scanner.read(piece, further, tokens),
+        Some(further) => {
+            let read = scanner.read(piece, further, tokens);
+            further.reach(scanner.time());
+            read
+        }
         None => scanner.read(piece, &mut Nobody, tokens),
     }
 }

@@ -141,14 +141,12 @@ impl Scanner {
             return Ok(());
         }
         if self.dump.change_short(rest) {
-            beside.change_short(rest);
+            beside.change(rest, self.dump.time);
             tokens.token(rest);
             return Ok(());
         }
-        let context = self.dump.context;
-        match self.dump.read(rest, self.line) {
+        match self.dump.read(rest, self.line, beside) {
             Ok(sample) => {
-                beside.change_other(rest, context, &self.dump);
                 tokens.token(rest);
                 keep(&mut self.samples, sample);
                 Ok(())
@@ -180,9 +178,7 @@ impl Scanner {
     {
         let _ = self.held.extend_from_slice(rest);
         self.refused_at = at;
-        let context = self.dump.context;
-        let sample = self.dump.read(self.held.as_slice(), self.line)?;
-        beside.change_other(self.held.as_slice(), context, &self.dump);
+        let sample = self.dump.read(self.held.as_slice(), self.line, beside)?;
         tokens.token(self.held.as_slice());
         self.held.clear();
         keep(&mut self.samples, sample);
@@ -205,6 +201,11 @@ impl Scanner {
             self.samples.push_reserved(sample);
         }
         Ok(())
+    }
+
+    /// The time of the dump.
+    pub(crate) fn time(&self) -> u64 {
+        self.dump.time
     }
 
     /// What is wrong, where the dump was refused so in this piece of it, and goes on in this line.

@@ -1,5 +1,6 @@
 //! The rows of docs/PLANS.md on the second version of briefs.
 
+use super::boards::{list_of, Text};
 use super::briefs::expansion_of;
 use super::commands::{expand, spelling, File};
 use super::layouts::laid_out;
@@ -10,16 +11,16 @@ use crate::slips::{PRELUDE, SLIPS};
 
 // The blocks of PLANS.md with a brief and the plan that it means: those of its section.
 #[test]
-fn the_example_means_its_plan() {
+fn each_example_means_its_plan() {
     let page = include_str!("../../../docs/PLANS.md");
-    let section = page.split("\n## Brief 2\n").nth(1).expect("the section");
-    let mut blocks = section.split("```");
-    let mut block = |language: &str| {
-        let block = blocks.nth(1).expect("a block");
-        block.strip_prefix(language).expect("its language").trim_start_matches('\n').to_owned()
-    };
-    let (brief, plan) = (block("brief"), block("plan"));
-    assert_eq!(expanded(&brief), Ok(plan));
+    let section = page.split("\n## Brief 2\n").nth(1).expect("the section").split("\n## ").next().expect("its text");
+    let blocks: Vec<&str> = section.split("```").skip(1).step_by(2).collect();
+    assert!(blocks.len() >= 4);
+    for pair in blocks.chunks(2) {
+        let block = |place: usize, language| pair[place].strip_prefix(language).expect("its language").to_owned();
+        let (brief, plan) = (block(0, "brief\n"), block(1, "plan\n"));
+        assert_eq!(expanded(&brief), Ok(plan));
+    }
 }
 
 fn expanded(text: &str) -> Result<String, String> {
@@ -152,6 +153,95 @@ fn texts_of_both_versions_make_up_a_board() {
     }
 }
 
+// The rows of PLANS.md with choices and their blocks.
+#[test]
+fn choices_are_cut_into_blocks() {
+    let seven = "0000001x 000001xx 00001xxx 0001xxxx 001xxxxx 01xxxxxx 1xxxxxxx";
+    let rows = [
+        ("0x02..0xFF", seven.to_owned()),
+        ("any but 0x01", format!("00000000 {seven}")),
+        ("any but 0b00000001", format!("00000000 {seven}")),
+        ("any but 0x00..0x01", seven.to_owned()),
+        ("0x00..0xff", "xxxxxxxx".to_owned()),
+        ("0x10..0x1F", "0001xxxx".to_owned()),
+        ("0x5a..0x5A", "01011010".to_owned()),
+        ("0x03..0x08", "00000011 000001xx 00001000".to_owned()),
+        (
+            "0x01..0xFE",
+            "00000001 0000001x 000001xx 00001xxx 0001xxxx 001xxxxx 01xxxxxx 10xxxxxx 110xxxxx 1110xxxx 11110xxx 111110xx \
+             1111110x 11111110"
+                .to_owned(),
+        ),
+        ("any but 0x55", "00xxxxxx 0100xxxx 010100xx 01010100 0101011x 01011xxx 011xxxxx 1xxxxxxx".to_owned()),
+        (
+            "any but 0x7F..0x80",
+            "00xxxxxx 010xxxxx 0110xxxx 01110xxx 011110xx 0111110x 01111110 10000001 1000001x 100001xx 10001xxx 1001xxxx \
+             101xxxxx 11xxxxxx"
+                .to_owned(),
+        ),
+        ("any but 0x00", "00000001 ".to_owned() + seven),
+        ("any but 0x80..0xFF", "0xxxxxxx".to_owned()),
+    ];
+    for (choice, wanted) in rows {
+        let plan = expanded(&format!("brief 2 message m write 0x20 {choice} ;")).expect(choice);
+        let messages: Vec<Vec<&str>> = plan.lines().skip(1).map(|line| line.split(' ').collect()).collect();
+        let blocks: Vec<&str> = messages.iter().map(|words| words[4]).collect();
+        assert_eq!(blocks.join(" "), wanted, "{choice}");
+        let names: Vec<String> = messages.iter().map(|words| words[1].to_owned()).collect();
+        assert_eq!(names, (1..=blocks.len()).map(|k| format!("m_{k}")).collect::<Vec<_>>(), "{choice}");
+    }
+}
+
+#[test]
+fn bytes_after_a_choice_follow_from_its_block() {
+    let rows = [
+        ("m write 0x20 0x01..0x03 sum", "01 BF 0000001x any"),
+        ("m write 0x50 0x01..0x01 pec", "01 1F"),
+        ("m write 0x20 0x01*2 else (write 0x20 0x04..0x06)", "01 01 0000010x 0000010x 01 01 06 06"),
+        ("m write 0x20 0x00..0x00 else (write 0x50 sum) 0x01", "00 01 20"),
+    ];
+    for (item, wanted) in rows {
+        assert_eq!(bytes(item).join(" "), wanted, "{item}");
+    }
+}
+
+#[test]
+fn extensions_add_to_controllers() {
+    let board = "device a 0x21 ; message k write a ; message l write a any*1..2 ; message m read a 1 ; \
+        controller u k ; controller v ; controller w k ;";
+    let listed = |items: &str| {
+        let plan = expanded(&format!("brief 2 {board}\n{items}"))?;
+        let line = plan.lines().find(|line| line.starts_with("controller u")).expect("u");
+        Ok(line.trim_start_matches("controller u").trim_end_matches(" ;").to_owned())
+    };
+    for (items, wanted) in [
+        ("extend u ;", Ok(" k")),
+        ("extend u m ;", Ok(" k m")),
+        ("extend u l_2 m ; extend v k ; extend u l_1 ;", Ok(" k l_2 m l_1")),
+        ("extend u l ; never v u ;", Ok(" k l_1 l_2")),
+        ("extend u l ; never v u/l_1 ;", Ok(" k l_2")),
+        ("never v w ; extend u m ;", Ok(" k m")),
+        ("extend u l\nl_1 ;", Err("P7 line 3")),
+        ("extend u l_1\nl ;", Err("P7 line 3")),
+        ("extend u\nk ;", Err("P7 line 3")),
+        ("extend u m\nm ;", Err("P7 line 3")),
+        ("extend u\nx ;", Err("P8 line 3")),
+        ("extend\nx k ;", Err("P8 line 3")),
+        ("extend\nk k ;", Err("P8 line 3")),
+        ("extend\nu/k m ;", Err("P3 line 3")),
+        ("extend\n; ", Err("P3 line 3")),
+        ("extend u\n0x01 ;", Err("P3 line 3")),
+        ("extend u\nu/k ;", Err("P3 line 3")),
+        ("never u v ; extend\nu m ;", Err("P7 line 3")),
+        ("never v u ; extend\nu m ;", Err("P7 line 3")),
+        ("never w/k u/k ; extend\nu ;", Err("P7 line 3")),
+        ("never w/k u/k ; extend\nw ;", Err("P7 line 3")),
+        ("never w/k u/k ; extend\nw_k ;", Err("P8 line 3")),
+    ] {
+        assert_eq!(listed(items), wanted.map(String::from).map_err(String::from), "{items}");
+    }
+}
+
 #[test]
 fn the_second_version_is_laid_out() {
     let text = "# \u{b5}s\nbrief 2\ngroup g  a b ; #\u{b0}C\ngroup longer a ;\nmessage m write 0x20 wr ( g ) rd (0x10)*2 \"a # b\" ;";
@@ -163,5 +253,66 @@ fn the_second_version_is_laid_out() {
         [("brief 2\n\"a", "P3 line 2"), ("brief 2 \"\\\"", "P3 line 1"), ("brief 1 # \u{b0}", "P1 line 1")]
     {
         assert_eq!(laid_out(text.as_bytes()), Err(refusal.to_owned()), "{text}");
+    }
+}
+
+// The texts of a list that these files make up, by their paths, where the first of them is given: each has a file of its own, but
+// for those that begin with another one's number.
+fn list(files: &[(&str, &str)]) -> Result<String, String> {
+    let look = |path: &str| {
+        let place = files.iter().position(|(name, _)| *name == path)?;
+        Some((place, files[place].1.to_owned()))
+    };
+    let (path, text) = files[0];
+    let given = [Text { path: path.to_owned(), file: 0, text: text.to_owned() }];
+    let list = list_of(&given, &look)?;
+    Ok(list.iter().map(|one| one.path.as_str()).collect::<Vec<_>>().join(" "))
+}
+
+#[test]
+fn heads_name_the_texts_of_a_board() {
+    let board = ("board", "brief 2 with \"a\" ; with \"sub/b\" ;");
+    let rows: [(&[(&str, &str)], &str); 8] = [
+        (&[("alone", "brief 2 device a 0x10 ;")], "alone"),
+        (&[("alone", "brief 1 with \"a\" ;")], "alone"),
+        (&[board, ("a", "brief 1"), ("sub/b", "brief 2")], "a sub/b board"),
+        (&[board, ("a", "brief 2 with \"sub/b\" ;"), ("sub/b", "brief 2")], "sub/b a board"),
+        (&[board, ("a", "brief 2 with \"board\" ; with \"a\" ;"), ("sub/b", "brief 2")], "a sub/b board"),
+        (&[board, ("a", "brief 2"), ("sub/b", "brief 2 with \"c\" ;"), ("sub/c", "brief 2")], "a sub/c sub/b board"),
+        (&[("x/y", "brief 2 with \"../a\" ;"), ("x/../a", "brief 2 with \"/b\" ;"), ("/b", "brief 2")], "/b x/../a x/y"),
+        (&[("-", "brief 2 with \"a\" ; # \" "), ("a", "brief 2")], "a -"),
+    ];
+    for (files, wanted) in rows {
+        assert_eq!(list(files), Ok(wanted.to_owned()));
+    }
+    let rows: [(&[(&str, &str)], &str); 10] = [
+        (&[("b", "brief 2 with ;")], "P3 line 1"),
+        (&[("b", "brief 2 with a ;")], "P3 line 1"),
+        (&[("b", "brief 2 with \"\" ;")], "P3 line 1"),
+        (&[("b", "brief 2 with \"b\"\noops")], "P3 line 2"),
+        (&[("b", "brief 2 with \"none\" oops")], "read"),
+        (&[("b", "brief 2 with \"a\" oops"), ("a", "brief 2")], "P3 line 1 of b"),
+        (&[("b", "brief 2 with \"a\" ;"), ("a", "plan 1")], "P2 line 1 of a"),
+        (&[("b", "brief 2 with \"a\" ;"), ("a", "")], "P2 line 1 of a"),
+        (&[("b", "brief 2 with \"a\" ;"), ("a", "brief 2\nwith 1 ;")], "P3 line 2 of a"),
+        (&[("b", "brief 2 with \"a\" ;"), ("a", "brief 1 \u{b0}")], "a b"),
+    ];
+    for (files, wanted) in rows {
+        match list(files) {
+            Ok(found) => assert_eq!(found, wanted),
+            Err(found) => assert_eq!(found, wanted),
+        }
+    }
+}
+
+#[test]
+fn a_list_has_64_texts() {
+    let named = |count: usize| (1..=count).map(|k| format!("with \"{k}\" ;\n")).collect::<String>();
+    for (count, wanted) in [(63, None), (64, Some("P6 line 65 of board"))] {
+        let board = format!("brief 2\n{}", named(count));
+        let names: Vec<String> = (1..=count).map(|k| k.to_string()).collect();
+        let mut files = vec![("board", board.as_str())];
+        files.extend(names.iter().map(|name| (name.as_str(), "brief 2")));
+        assert_eq!(list(&files).err().as_deref(), wanted);
     }
 }

@@ -55,11 +55,53 @@ pub fn is_board(text: &str) -> bool {
     opened(text).is_ok_and(|reading| reading.language() == Language::Board)
 }
 
-// The words after the head of a brief. What is none of the second version is judged as one of the first.
-fn opened(text: &str) -> Result<Reading<'_>, Refusal> {
+/// Whether its first two words are those of the second version, whatever its head names.
+pub fn begins_board(text: &str) -> bool {
+    begun(text).is_some()
+}
+
+// The words after these two.
+fn begun(text: &str) -> Option<Reading<'_>> {
     let mut board = Reading::new(text, Language::Board);
-    if board.takes("brief") && board.takes("2") {
-        return Ok(board);
+    (board.takes("brief") && board.takes("2")).then_some(board)
+}
+
+/// Says the files that the head of a brief of the second version names, each with the line of its name, before what follows
+/// that is looked at. An error is the refusal of the head, or what the listener answers.
+pub fn named_files<E>(
+    text: &str,
+    say: &mut dyn FnMut(&str, usize) -> Result<(), E>,
+) -> Result<(), Result<Refusal, E>> {
+    match begun(text) {
+        Some(mut reading) => pass_files(&mut reading, say),
+        None => Ok(()),
+    }
+}
+
+// Past the files that a head names.
+fn pass_files<E>(
+    reading: &mut Reading,
+    say: &mut dyn FnMut(&str, usize) -> Result<(), E>,
+) -> Result<(), Result<Refusal, E>> {
+    while reading.takes("with") {
+        let word = reading.next().map_err(Ok)?;
+        let name = word.text.strip_prefix('"').and_then(|rest| rest.strip_suffix('"')).unwrap_or("");
+        word.only_if((1..=255).contains(&name.len()), 3).map_err(Ok)?;
+        say(name, word.line).map_err(Err)?;
+        reading.expect(";").map_err(Ok)?;
+    }
+    Ok(())
+}
+
+/// The words after the head of a brief. What is none of the second version is judged as one of the first.
+pub fn opened(text: &str) -> Result<Reading<'_>, Refusal> {
+    if let Some(mut board) = begun(text) {
+        let passed = pass_files(&mut board, &mut |_, _| Ok::<(), std::convert::Infallible>(()));
+        return match passed {
+            Ok(()) => Ok(board),
+            Err(Ok(refusal)) => Err(refusal),
+            Err(Err(never)) => match never {},
+        };
     }
     let mut brief = Reading::new(text, Language::Brief);
     brief.version(&["brief"])?;
@@ -137,6 +179,7 @@ impl Board {
                 "byte" => read_known(&mut reading, &mut self.bytes, 8)?,
                 "message" => self.read_message(&mut reading)?,
                 "controller" => self.read_controller(&mut reading)?,
+                "extend" if reading.language() == Language::Board => self.read_extension(&mut reading)?,
                 "interrupt" => self.read_interrupt(&mut reading)?,
                 "never" => self.read_never(&mut reading)?,
                 _ => return Err(word.refused(3)),
@@ -191,17 +234,30 @@ impl Board {
         let word = reading.name()?;
         word.only_if(!self.is_taken(word.text), 7)?;
         word.only_if(self.parts().len() < MOST_CONTROLLERS, 6)?;
-        let mut controller = Listed { name: word.text.into(), messages: Vec::new() };
-        let before: usize = self.controllers.iter().map(|one| one.messages.len()).sum();
+        self.controllers.push(Listed { name: word.text.into(), messages: Vec::new() });
+        self.read_listed(reading, self.controllers.len() - 1)
+    }
+
+    // What adds to a controller.
+    fn read_extension(&mut self, reading: &mut Reading) -> Result<(), Refusal> {
+        let word = reading.name()?;
+        let place = self.controllers.iter().position(|one| one.name == word.text).ok_or(word.refused(8))?;
+        let names = |party: &Party| party.controller == word.text;
+        word.only_if(!self.nevers.iter().any(|(first, second)| names(first) || names(second)), 7)?;
+        self.read_listed(reading, place)
+    }
+
+    // Further messages of the controller at this place.
+    fn read_listed(&mut self, reading: &mut Reading, place: usize) -> Result<(), Refusal> {
         while !reading.takes(";") {
             let word = reading.name()?;
             word.only_if(self.has_message(word.text), 8)?;
             let further = self.named(word.text);
-            word.only_if(!further.iter().any(|one| controller.has(one)), 7)?;
-            controller.messages.extend(further);
-            word.only_if(before + controller.messages.len() <= MOST_SENDINGS, 6)?;
+            word.only_if(!further.iter().any(|one| self.controllers[place].has(one)), 7)?;
+            self.controllers[place].messages.extend(further);
+            let sendings: usize = self.controllers.iter().map(|one| one.messages.len()).sum();
+            word.only_if(sendings <= MOST_SENDINGS, 6)?;
         }
-        self.controllers.push(controller);
         Ok(())
     }
 

@@ -3,6 +3,7 @@
 
 use super::before::Before;
 use super::benches::Answers;
+use super::boards::{list_of, Text};
 use super::briefs::{expansion, expansion_of, has_brief_word, is_board};
 use super::captures::{Transaction, Until};
 use super::decoded::{bytes_of, calls_of};
@@ -300,13 +301,29 @@ pub struct File<'a> {
     pub text: &'a [u8],
 }
 
-/// `twire expand BRIEF..`. The refusal of one of several names its file.
+/// `twire expand BRIEF..`, where heads may name these files and no others. The refusal of one of several names its file.
 pub fn expand(briefs: &[File]) -> Answer {
-    let texts: Vec<_> = briefs.iter().map(|brief| String::from_utf8_lossy(brief.text)).collect();
-    match (expansion_of(&texts), briefs) {
-        (Ok(plan), _) => Answer::written(0, spelling(plan.as_bytes())),
-        (Err((_, refusal)), [_]) => Answer::refused(refusal),
-        (Err((number, refusal)), _) => Answer::refused(format!("{refusal} of {}", briefs[number].name)),
+    let given: Vec<_> = briefs
+        .iter()
+        .map(|brief| Text {
+            path: brief.name.to_owned(),
+            file: brief.name.to_owned(),
+            text: String::from_utf8_lossy(brief.text).into_owned(),
+        })
+        .collect();
+    let look = |path: &str| {
+        let one = given.iter().find(|one| one.path == path.trim_start_matches("./"))?;
+        Some((one.file.clone(), one.text.clone()))
+    };
+    let list = match list_of(&given, &look) {
+        Ok(list) => list,
+        Err(refusal) => return Answer::refused(refusal),
+    };
+    let texts: Vec<_> = list.iter().map(|one| one.text.as_str()).collect();
+    match expansion_of(&texts) {
+        Ok(plan) => Answer::written(0, spelling(plan.as_bytes())),
+        Err((_, refusal)) if list.len() == 1 && given.len() == 1 => Answer::refused(refusal),
+        Err((number, refusal)) => Answer::refused(format!("{refusal} of {}", list[number].path)),
     }
 }
 

@@ -6,7 +6,8 @@
 
 use super::messages::{Byte, Form, Frame, Times, What};
 
-/// The words of a message in a plan. In a family its number says how many bytes stand where the range does.
+/// The words of a message in a plan. In a family its number says how many bytes stand where the range does, or which block
+/// where the choice does.
 pub fn words_of(frames: &[Frame], number: u32) -> String {
     words(frames, number, &Path::default())
 }
@@ -64,6 +65,7 @@ impl Level {
         for _ in 0..times {
             let bits = match &byte.what {
                 What::Bits(bits) => bits.clone(),
+                What::Choice(blocks) => blocks[self.number as usize - 1].clone(),
                 What::Code => bits_or_any(self.path.code()),
                 What::Sum => bits_or_any(self.path.sum()),
             };

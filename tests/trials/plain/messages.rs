@@ -35,6 +35,8 @@ pub struct Byte {
 #[derive(Clone, Debug)]
 pub enum What {
     Bits(String),
+    /// Those of one block, by the number of the message in its family.
+    Choice(Vec<String>),
     Code,
     Sum,
 }
@@ -46,7 +48,7 @@ pub enum Times {
     Range,
 }
 
-/// How many bytes the messages of a family have, one of each number.
+/// How many bytes the messages of a family have, or which blocks, one of each number.
 #[derive(Clone, Copy, Debug)]
 pub struct Range {
     pub least: u32,
@@ -125,14 +127,24 @@ impl<'a> Message<'a> {
 
     fn read_byte(&mut self, reading: &mut Reading, level: &mut Level) -> Result<Byte, Refusal> {
         let word = reading.next()?;
-        let is_derived = reading.language() == Language::Board && DERIVED.contains(&word.text);
-        let (what, times) = if is_derived {
+        let is_board = reading.language() == Language::Board;
+        let (what, times) = if is_board && DERIVED.contains(&word.text) {
             self.count_bytes(word, level, 1)?;
             (self.read_derived(word, reading)?, Times::Number(1))
+        } else if let Some((least, greatest)) = span(word.text).filter(|_| is_board) {
+            word.only_if(self.range.is_none(), 3)?;
+            word.only_if(least <= greatest, 4)?;
+            let what = self.choice(word, |value| least <= value && value <= greatest)?;
+            self.count_bytes(word, level, 1)?;
+            (what, Times::Number(1))
         } else {
             let bits = self.bits_of_byte(word, reading)?;
             self.count_bytes(word, level, 1)?;
-            (What::Bits(bits), self.read_times(reading, level)?)
+            if is_board && word.is("any") && reading.is_next("but") {
+                (self.read_exception(reading)?, Times::Number(1))
+            } else {
+                (What::Bits(bits), self.read_times(reading, level)?)
+            }
         };
         let copies = level.copies.saturating_mul(self.most(times));
         let refused = self.read_refused(reading, Level { copies, ..*level })?;
@@ -144,6 +156,23 @@ impl<'a> Message<'a> {
             "any" => Ok("x".repeat(8)),
             _ => bits_said(word, reading.language(), &self.board.bytes, 8),
         }
+    }
+
+    // What follows `any`, where that is `but`.
+    fn read_exception(&mut self, reading: &mut Reading) -> Result<What, Refusal> {
+        reading.next()?.only_if(self.range.is_none(), 3)?;
+        let word = reading.next()?;
+        let one = || bits_of(word.text, 8).and_then(|bits| u8::from_str_radix(&bits, 2).ok()).map(|one| (one, one));
+        let (least, greatest) = span(word.text).or_else(one).ok_or(word.refused(3))?;
+        word.only_if(least <= greatest && (least, greatest) != (0, 255), 4)?;
+        self.choice(word, |value| value < least || greatest < value)
+    }
+
+    // A byte of these values makes a family of its blocks.
+    fn choice(&mut self, word: Word, is_chosen: impl Fn(u8) -> bool) -> Result<What, Refusal> {
+        let blocks = blocks(is_chosen);
+        self.make_family(word, Range { least: 1, greatest: blocks.len() as u32 })?;
+        Ok(What::Choice(blocks))
     }
 
     // What follows the first word of a byte that follows from others.
@@ -183,13 +212,18 @@ impl<'a> Message<'a> {
         let (least, greatest) = number(least).zip(number(greatest)).ok_or(word.refused(3))?;
         word.only_if(self.range.is_none(), 3)?;
         word.only_if(0 < greatest && greatest <= MOST_TIMES && least <= greatest, 4)?;
-        let range = Range { least, greatest };
+        self.make_family(word, Range { least, greatest })?;
+        Ok(Times::Range)
+    }
+
+    // The messages of this word's family are new, and there is room for them.
+    fn make_family(&mut self, word: Word, range: Range) -> Result<(), Refusal> {
         self.range = Some(range);
         let names = range.names(&self.name);
         word.only_if(names.iter().all(|name| name.len() <= MOST_CHARACTERS), 3)?;
         word.only_if(!names.iter().any(|name| self.board.has_message(name)), 7)?;
         word.only_if(self.board.messages.len() + names.len() <= MOST_MESSAGES, 6)?;
-        Ok(Times::Range)
+        Ok(())
     }
 
     // How often it stands there at most.
@@ -244,6 +278,39 @@ const NO_DATA: [&str; 15] = [
     "else",
     "stop",
 ];
+
+// ---- choices
+
+// The ends of a span.
+fn span(word: &str) -> Option<(u8, u8)> {
+    let byte = |digits: &str| {
+        let digits = digits.strip_prefix("0x").filter(|digits| digits.len() == 2)?;
+        digits.chars().all(|digit| digit.is_ascii_hexdigit()).then(|| u8::from_str_radix(digits, 16).ok())?
+    };
+    let (least, greatest) = word.split_once("..")?;
+    Some((byte(least)?, byte(greatest)?))
+}
+
+// The bits of the fewest blocks of these values. From the least value on that is left, the next block is the longest that
+// begins there: one that began before it would have that value.
+fn blocks(is_chosen: impl Fn(u8) -> bool) -> Vec<String> {
+    let mut blocks = Vec::new();
+    let mut first = 0;
+    while first < 256 {
+        let is_block = |size: &u32| {
+            first % size == 0 && first + size <= 256 && (first..first + size).all(|value| is_chosen(value as u8))
+        };
+        let sizes: Vec<u32> = (0..=8).map(|k| 1 << k).collect();
+        let size = sizes.into_iter().rev().find(is_block);
+        if let Some(size) = size {
+            let open = size.trailing_zeros() as usize;
+            let bits = format!("{first:08b}");
+            blocks.push(format!("{}{}", &bits[..8 - open], "x".repeat(open)));
+        }
+        first += size.unwrap_or(1);
+    }
+    blocks
+}
 
 // ---- bits
 

@@ -8,6 +8,7 @@ pub mod before;
 mod benches;
 #[cfg(test)]
 mod board_tests;
+mod boards;
 mod briefs;
 pub mod bytes;
 pub mod captures;

@@ -1,4 +1,4 @@
-use Rattle.std.proofs.Common.{◌≡◌, sym, ap, ◌∙◌}
+use Rattle.std.proofs.Common.{sym, ap, ◌∙◌}
 use Rattle.message_tree.specs.Bits.{bits_below}
 use Rattle.brief_text.specs.Codes.{exactly}
 use Rattle.brief_text.proofs.WordLemmas.{any_is, byte_is}

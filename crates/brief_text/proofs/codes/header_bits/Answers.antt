@@ -1,8 +1,8 @@
-use Rattle.std.proofs.Common.{◌≡◌, map, sym, ap, ◌∙◌}
+use Rattle.std.proofs.Common.{map, sym, ap, ◌∙◌}
 use Rattle.std.specs.Prelude.{unwrap_or}
 use Rattle.plan_text.specs.Symbols.{bit_symbol}
 use Rattle.plan_text.specs.Values.{pattern_of}
-use Rattle.brief_text.specs.Codes.{header_bits, header_word}
+use Rattle.brief_text.specs.Codes.{header_word}
 use Rattle.brief_text.specs.Words.{any_byte}
 use Rattle.brief_text.proofs.WordLemmas.{any_is, pattern_of_word, pattern_result}
 use Rattle.brief_text.proofs.codes.header_bits.Goals as goal

@@ -10,7 +10,7 @@ use Rattle.brief_text.proofs.items.listed.Given as goal
 abbrev pub invariant-names : goal.invariant-names
 invariant-names l =
     (names : List (List ℕ))
-    × (listed_from (draft l.board) names (place l.source).tokens (place l.source) ≡ listed_from (draft l.board) [] (place l.initial.source).tokens (place l.initial.source))
+    × (listed_from (draft l.board) (map name_bytes l.has) names (place l.source).tokens (place l.source) ≡ listed_from (draft l.board) (map name_bytes l.has) [] (place l.initial.source).tokens (place l.initial.source))
     × (map name_bytes l.messages.items ≡ all_of (draft l.board) names)
 
 abbrev pub decreases-names : goal.decreases-names

@@ -15,13 +15,22 @@ abbrev pub decreases-payload : goal.decreases-payload
 decreases-payload l = 4 * l.room.bytes + 3
 
 abbrev pub decreases-bytes : goal.decreases-bytes
-decreases-bytes l = 4 * l.room.bytes
+decreases-bytes l = 4 * l.room.bytes + 1
+
+abbrev pub decreases-any : goal.decreases-any
+decreases-any l = 4 * l.room.bytes + 1
+
+abbrev pub decreases-byte : goal.decreases-byte
+decreases-byte l = 4 * l.room.bytes
 
 abbrev pub decreases-following : goal.decreases-following
 decreases-following l = 4 * l.room.bytes + 2
 
 abbrev pub decreases-refused : goal.decreases-refused
 decreases-refused l = 4 * l.room.bytes + 2
+
+abbrev pub decreases-mades : goal.decreases-mades
+decreases-mades l = 4 * l.room.bytes + 1
 
 abbrev pub decreases-made : goal.decreases-made
 decreases-made l = 4 * l.room.bytes

@@ -1,0 +1,3 @@
+pub mod PastLemmas
+pub mod PathLemmas
+pub mod AddedLemmas

@@ -1,0 +1,4 @@
+pub mod Files
+pub mod Lists
+pub mod Given
+pub mod Progress
