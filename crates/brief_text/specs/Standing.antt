@@ -12,7 +12,10 @@ use Rattle.plan_text.specs.declared.errors.PlanError.{PlanError}
 use Rattle.plan_text.specs.declared.errors.PlanError.TheVariants.{TooLong}
 use Rattle.brief_text.specs.declared.boards.Board.{Board}
 use Rattle.brief_text.specs.declared.boards.Listing.{Listing}
+use Rattle.brief_text.specs.declared.boards.NameList.{NameList}
 use Rattle.brief_text.specs.declared.boards.Never.{Never}
+use Rattle.brief_text.specs.declared.groups.InPlace.{InPlace}
+use Rattle.message_tree.specs.declared.bits.Address.{Address}
 use Rattle.brief_text.specs.declared.frames.Within.{Within}
 use Rattle.brief_text.specs.declared.naming.Named.{Named}
 use Rattle.brief_text.specs.declared.sources.Source.{Source}
@@ -97,6 +100,14 @@ entries_of known = map (λ entry. (name_bytes entry.0, entry.1)) known.entries.e
 abbrev pub listing : Listing → List ℕ × List (List ℕ)
 listing it = (name_bytes it.name, map name_bytes it.messages.items)
 
+-- a name, and those that it makes or that stand in it
+abbrev pub naming : NameList → List ℕ × List (List ℕ)
+naming it = (name_bytes it.name, map name_bytes it.names.items)
+
+-- the device that stands in the place of a group
+abbrev pub in_place : InPlace → List ℕ × Address
+in_place it = (name_bytes it.group.now, it.address)
+
 abbrev pub sides : Never → Side × Side
 sides never = (side never.first, side never.second)
 
@@ -106,6 +117,8 @@ draft board = record {
   bytes = entries_of board.bytes;
   plan = builder_contents board.builder;
   families = entries_of board.families;
+  groups = map naming board.groups.items;
+  grouped = map naming board.grouped.items;
   controllers = map listing board.controllers.items;
   labels = map side board.labels.items;
   nevers = map sides board.nevers.items;

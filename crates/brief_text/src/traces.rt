@@ -2,7 +2,7 @@
 
 ghost use Rattle.std.specs.Prelude.{◌≡◌};
 
-use brief_tokens::{Sign, Symbol, Token};
+use brief_tokens::{Keyword, Sign, Symbol, Token};
 use plan_text::places::{Further, Kind, Over, Spot};
 use plan_text::{Expected, PlanError, Refused};
 
@@ -12,6 +12,7 @@ pub(crate) enum Wanted {
     Item,
     Name,
     Controller,
+    Device,
     Sending,
     Party,
     Address,
@@ -82,7 +83,7 @@ impl Trace {
             before: self.wanted,
             depth,
             item: match wanted {
-                Wanted::Item => token.kind().unwrap_or(self.item),
+                Wanted::Item => kind_of(token).unwrap_or(self.item),
                 _ => self.item,
             },
             made: self.made,
@@ -101,6 +102,7 @@ impl Trace {
             Wanted::Item => Expected::BriefItem,
             Wanted::Name => Expected::Name(self.item),
             Wanted::Controller => Expected::Controller,
+            Wanted::Device => Expected::Target,
             Wanted::Sending => Expected::Sending,
             Wanted::Party => Expected::Party,
             Wanted::Address => Expected::BriefAddress,
@@ -139,5 +141,13 @@ impl Trace {
             made: self.made,
             is_inner: self.depth != 0,
         })
+    }
+}
+
+// What an item that begins with this token gives a name to. Groups have names among those of devices.
+fn kind_of(token: Token<'_>) -> Option<Kind> {
+    match token.symbol {
+        Symbol::Keyword(Keyword::Group) => Some(Kind::Device),
+        _ => token.kind(),
     }
 }
