@@ -15,7 +15,7 @@ use Rattle.plan_text.specs.Values.{address_by}
 use Rattle.brief_text.specs.declared.syntax.Lengths.{Lengths}
 use Rattle.brief_text.specs.Trees.{Said, spelled, named, Times, times, ranged, BriefFrame, write_to, read_from, BriefBytes}
 use Rattle.brief_text.specs.Trees.{data_byte, made_byte, no_more, BriefTail, stop_here, go_on, Made, header, packet_code, checksum, chosen}
-use Rattle.brief_text.specs.Trees.{Side, BriefItem, device, byte, group, message, controller, extend, interrupt, never_both}
+use Rattle.brief_text.specs.Trees.{Side, BriefItem, device, byte, device_group, message, controller, extend, interrupt, never_both}
 use Rattle.brief_text.specs.Codes.{at_start, unknown, after_bits, header_bits, exactly, remaining}
 use Rattle.brief_text.specs.declared.codes.Path.{Path}
 use Rattle.std.specs.Option.{option_map}
@@ -103,7 +103,7 @@ devices_of draft group = unwrap_or (lookup (bytes_eq group) draft.groups) []
 
 -- `vout_psu0` of the message `vout`, and those of all devices of a group
 abbrev pub device_name : List ℕ → List ℕ → List ℕ
-device_name name device = name ++ codes "_" ++ device
+device_name name target = name ++ codes "_" ++ target
 
 abbrev pub device_names : Draft → List ℕ → List ℕ → List (List ℕ)
 device_names draft name group = map (device_name name) (devices_of draft group)
@@ -111,7 +111,7 @@ device_names draft name group = map (device_name name) (devices_of draft group)
 -- a device of this name with this address stands before all others, so that the name means it
 abbrev pub standing : Draft → Option (List ℕ × Address) → Draft
 standing draft None = draft
-standing draft (Some device) = record draft { devices = device ∷ draft.devices }
+standing draft (Some first) = record draft { devices = first ∷ draft.devices }
 
 -- the groups that stand in a message, as they are read
 abbrev pub group_said : Draft → Said Address → List (List ℕ)
@@ -222,8 +222,8 @@ messages_meant draft name (Some range) frame = family_meant draft name range fra
 
 -- the same for each device of a group, which stands in the place of that
 abbrev pub device_meant : Draft → List ℕ → Option Lengths → BriefFrame → List ℕ → List ℕ → List (List ℕ × FrameTree)
-device_meant draft name range frame group device =
-    messages_meant (standing draft (Some (group, address_said draft (named device)))) (device_name name device) range frame
+device_meant draft name range frame group target =
+    messages_meant (standing draft (Some (group, address_said draft (named target)))) (device_name name target) range frame
 
 abbrev pub grouped_meant : Draft → List ℕ → Option Lengths → BriefFrame → List ℕ → List (List ℕ × FrameTree)
 grouped_meant draft name range frame group = flat_map (device_meant draft name range frame group) (devices_of draft group)
@@ -285,7 +285,7 @@ extended name messages (first ∷ controllers) =
 unfoldable pub with_item : Draft → BriefItem → Draft
 with_item draft (device name address) = record draft { devices = draft.devices ++ (name, address) ∷ [] }
 with_item draft (byte name bits) = record draft { bytes = draft.bytes ++ (name, bits) ∷ [] }
-with_item draft (group name devices) =
+with_item draft (device_group name devices) =
     record draft { devices = draft.devices ++ (name, any_address) ∷ []; groups = draft.groups ++ (name, devices) ∷ [] }
 with_item draft (message name range frame) = with_made draft name range frame (frame_groups draft frame)
 with_item draft (controller name messages) =

@@ -12,7 +12,7 @@ use Rattle.brief_text.specs.Judging.{named_refusal, message_refusal_of, range_re
 use Rattle.brief_text.specs.Judging.{listed_by, grouped_refusal, device_refusal, first_refusal, second_refusal}
 use Rattle.brief_text.specs.Places.{is_known}
 use Rattle.brief_text.specs.Trees.{Times, times, ranged, BriefFrame, write_to, read_from, BriefBytes, data_byte, made_byte}
-use Rattle.brief_text.specs.Trees.{no_more, BriefTail, stop_here, go_on, Made, header, packet_code, checksum, chosen, BriefItem, device, group}
+use Rattle.brief_text.specs.Trees.{no_more, BriefTail, stop_here, go_on, Made, header, packet_code, checksum, chosen, BriefItem, device, device_group}
 use Rattle.brief_text.specs.Trees.{byte, message, controller, extend, interrupt, never_both}
 use Rattle.brief_text.specs.Words.{known_number}
 
@@ -99,7 +99,7 @@ ListFits refusal before (name ∷ names) = (refusal before name ≡ None) × Lis
 abbrev pub Fits : Draft → BriefItem → Type 0
 Fits draft (device name address) = named_refusal draft.devices name ≡ None
 Fits draft (byte name bits) = named_refusal draft.bytes name ≡ None
-Fits draft (group name devices) = (named_refusal draft.devices name ≡ None) × ListFits (device_refusal draft) [] devices
+Fits draft (device_group name devices) = (named_refusal draft.devices name ≡ None) × ListFits (device_refusal draft) [] devices
 Fits draft (message name range frame) = MessageFits draft name range frame
 Fits draft (controller name messages) = (controller_refusal_of draft name ≡ None) × ListFits (listed_refusal draft []) [] messages
 Fits draft (extend name messages) = (extend_refusal_of draft name ≡ None) × ListFits (listed_refusal draft (listed_by draft name)) [] messages

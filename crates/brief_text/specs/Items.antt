@@ -17,7 +17,7 @@ use Rattle.brief_text.specs.Judging.{named_refusal, device_refusal, grouped_refu
 use Rattle.brief_text.specs.Judging.{listing_refusal, all_of, first_refusal, second_refusal}
 use Rattle.brief_text.specs.Places.{Place, Reads, token_as, name_in, name_at, end_in, past, to_at}
 use Rattle.brief_tokens.specs.Tokens.{Token, keyword, word, sign, Tokens, next, last}
-use Rattle.brief_text.specs.Trees.{Side, BriefItem, device, byte, group, message, controller, extend, interrupt, never_both}
+use Rattle.brief_text.specs.Trees.{Side, BriefItem, device, byte, device_group, message, controller, extend, interrupt, never_both}
 use Rattle.brief_text.specs.Words.{address_by, data_by, known_number, side_by}
 
 -- `device` and then a name, an address and `;`
@@ -59,7 +59,7 @@ group_at draft at = do
   name ← name_at (named_refusal draft.devices) at
   first ← name_at (device_refusal draft []) name.1
   devices ← names_from (device_refusal draft) (first.0 ∷ []) first.1.tokens first.1
-  Ok (group name.0 devices.0, devices.1)
+  Ok (device_group name.0 devices.0, devices.1)
 
 -- `message` and then a name, frames and `;`, where what a group makes is judged
 unfoldable pub message_at : Draft → Place → Reads BriefItem

@@ -13,7 +13,7 @@ use Rattle.plan_text.specs.declared.errors.PlanError.TheVariants as errors
 use Rattle.brief_text.specs.declared.syntax.Lengths.{Lengths}
 use Rattle.brief_text.specs.Drafts.{Draft, lengths, member_name, members, stands_for, is_group, devices_of, device_names, frame_groups, same_side, is_new_label, with_label}
 use Rattle.brief_text.specs.Splitting.{parts, side_name}
-use Rattle.brief_text.specs.Trees.{BriefFrame, Side, BriefItem, device, byte, group, message}
+use Rattle.brief_text.specs.Trees.{BriefFrame, Side, BriefItem, device, byte, device_group, message}
 
 -- a name stands once among those of its kind
 abbrev pub named_refusal : {A : Type 0} → List (List ℕ × A) → List ℕ → Option BuildError
@@ -92,7 +92,7 @@ grouped_refusal draft name range frame line x = grouped_by draft name range (fra
 abbrev pub IsNew : Draft → BriefItem → Type 0
 IsNew draft (device name address) = named_refusal draft.devices name ≡ None
 IsNew draft (byte name bits) = named_refusal draft.bytes name ≡ None
-IsNew draft (group name devices) = named_refusal draft.devices name ≡ None
+IsNew draft (device_group name devices) = named_refusal draft.devices name ≡ None
 IsNew draft (message name (Some range) frame) = is_family draft name ≡ false
 IsNew draft item = Unit {0}
 

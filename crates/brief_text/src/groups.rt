@@ -449,7 +449,7 @@ fn repeats(names: &[Name]) -> bool
 
 // How many messages a name stands for.
 fn how_many(range: Option<Lengths>) -> u32
-    ensures { result ≡ how_many range }
+    ensures count { result ≡ how_many range }
     ensures small { result ≤ 256 }
 {
     match range {
