@@ -55,10 +55,10 @@ message_end draft name given = given >>= λ frames. token_as end_in frames.1 >>=
 -- no name that is made is refused
 grouped_again : (draft : Draft) (name : List ℕ) (range : Option Lengths) (groups : List (List ℕ)) (line : ℕ) (x : Place) → grouped_by draft name range groups 0 range ≡ Ok range → grouped_by draft name range groups line x ≡ Ok x
 grouped_again draft name range [] line x e = refl
-grouped_again draft name range (group ∷ others) line x e = 
+grouped_again draft name range (group ∷ others) line x e =
     by_tests (list_any (λ other. not (bytes_eq other group)) others) (nat_lt MOST_MESSAGES (length (devices_of draft group)))
-      (nat_lt MOST_MESSAGES (length draft.plan.messages + length (devices_of draft group) * how_many range)) (list_any (is_long range) (device_names draft name group))
-      (list_any (is_message draft) (further_names range (device_names draft name group))) (repeats (further_names range (device_names draft name group))) e
+    (nat_lt MOST_MESSAGES (length draft.plan.messages + length (devices_of draft group) * how_many range)) (list_any (is_long range) (device_names draft name group))
+    (list_any (is_message draft) (further_names range (device_names draft name group))) (repeats (further_names range (device_names draft name group))) e
   where
     by_tests : (a b c d k m : Bool) → (if a then Err (Unexpected 0) else if b then Err (errors.TooMany 0) else if c then Err (errors.TooMany 0) else if d then Err (Unexpected 0) else if k then Err (errors.Twice 0) else if m then Err (errors.Twice 0) else Ok range) ≡ done range
         → (if a then Err (Unexpected line) else if b then Err (errors.TooMany line) else if c then Err (errors.TooMany line) else if d then Err (Unexpected line) else if k then Err (errors.Twice line) else if m then Err (errors.Twice line) else Ok x) ≡ done x

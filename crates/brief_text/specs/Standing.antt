@@ -1,6 +1,6 @@
 -- What the functions of the reader say of the place at which they stand and of what they have. Only private contracts and
 -- proofs use this.
-use Rattle.std.specs.Prelude.{◌≡◌, ℕ, ◌-◌, ◌*◌, suc, List, map, nat_lt, Result, Ok, Err, if◌then◌else◌}
+use Rattle.std.specs.Prelude.{◌≡◌, ℕ, ◌-◌, ◌*◌, suc, List, Option, ◌∷◌, map, nat_lt, Result, Ok, Err, if◌then◌else◌}
 use Rattle.std.specs.Option.{option_map}
 use Rattle.message_tree.specs.Counts.{greatest_of}
 use Rattle.message_tree.specs.declared.bits.Pattern.{Pattern}
@@ -37,7 +37,7 @@ use Rattle.brief_text.specs.declared.syntax.TailSyntax.{TailSyntax}
 use Rattle.brief_text.specs.declared.syntax.TailSyntax.TheVariants.{Stop, Frames'}
 use Rattle.brief_text.specs.declared.syntax.Value.{Value}
 use Rattle.brief_text.specs.declared.syntax.Value.TheVariants as values
-use Rattle.brief_text.specs.Drafts.{Draft, with_item}
+use Rattle.brief_text.specs.Drafts.{Draft, standing, with_item}
 use Rattle.brief_text.specs.Frames.{Around, Opening, opens_header, opens_code, opens_checksum, opens_span, opens_but, opening_at, count_at, counted}
 use Rattle.brief_text.specs.Frames.{often_at, made_at, refused_by, next_by, payload_by, frame_in, byte_in, made_in}
 use Rattle.brief_text.specs.Places.{Place, Reads, Finds, to_at, data_at}
@@ -104,9 +104,12 @@ listing it = (name_bytes it.name, map name_bytes it.messages.items)
 abbrev pub naming : NameList → List ℕ × List (List ℕ)
 naming it = (name_bytes it.name, map name_bytes it.names.items)
 
--- the device that stands in the place of a group
-abbrev pub in_place : InPlace → List ℕ × Address
-in_place it = (name_bytes it.group.now, it.address)
+-- what stands in the place of a group, and the draft where it does
+abbrev pub placed : InPlace → List ℕ × Address
+placed it = (name_bytes it.group.now, it.address)
+
+abbrev pub with_device : Draft → Option InPlace → Draft
+with_device before given = standing before (option_map placed given)
 
 abbrev pub sides : Never → Side × Side
 sides never = (side never.first, side never.second)

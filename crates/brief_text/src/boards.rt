@@ -11,7 +11,7 @@ ghost use Rattle.plan_core.specs.BuilderContents.{builder_contents};
 ghost use Rattle.plan_core.specs.NameBytes.{name_bytes};
 ghost use Rattle.plan_core.specs.Building.{interrupt_refusal, with_interrupt};
 ghost use Rattle.plan_core.specs.declared.limits.TheConstants.{MOST_MESSAGES, MOST_SENDINGS};
-ghost use Rattle.brief_text.specs.Drafts.{no_items, address_said, bits_said, stands_for, stands_alone_for, standing, extended, with_label, is_new_label, same_side};
+ghost use Rattle.brief_text.specs.Drafts.{no_items, address_said, bits_said, stands_for, stands_alone_for, extended, with_label, is_new_label, same_side};
 ghost use Rattle.brief_text.specs.Splitting.{side_name};
 ghost use Rattle.brief_text.specs.Meanings.{is_twice};
 ghost use Rattle.brief_text.specs.Judging.{is_family, is_message, message_refusal_of, named_refusal, taken_names, is_taken};
@@ -110,7 +110,7 @@ impl Drop for Board {
 }
 
 impl Board {
-    ghost use Rattle.brief_text.specs.Standing.{draft, said, side, sides, in_place};
+    ghost use Rattle.brief_text.specs.Standing.{draft, said, side, sides, with_device};
 
     /// The messages and the interrupts of the plan.
     pub(crate) fn into_builder(self) -> Builder
@@ -177,7 +177,7 @@ impl Board {
 
     /// The address that is meant, with this device in the place of a group.
     pub(crate) fn address_with(&self, in_place: Option<InPlace<'_>>, to: &Value<Address>) -> Address
-        ensures { result ≡ address_said (standing (draft self.now) (option_map in_place in_place.entry)) (said to.now) }
+        ensures { result ≡ address_said (with_device (draft self.now) in_place.entry) (said to.now) }
     {
         if let (Some(device), Value::Named(named)) = (in_place, to) {
             if named.name == *device.group {

@@ -1,6 +1,6 @@
 // Groups of devices: one stands in a message, which means a message for each of its devices.
 
-ghost use Rattle.std.specs.Prelude.{◌≡◌, ◌+◌, ◌*◌, ◌++◌, ◌∷◌, [], length, map, not, true, None, IfOk, OnOk, if◌then◌else◌};
+ghost use Rattle.std.specs.Prelude.{◌≡◌, ◌≤◌, ◌++◌, ◌∷◌, [], ℕ, List, map, not, None, IfOk, OnOk};
 ghost use Rattle.std.specs.List.{flat_map, list_any};
 ghost use Rattle.std.specs.Map.{lookup};
 ghost use Rattle.std.specs.Option.{option_map};
@@ -8,14 +8,14 @@ ghost use Rattle.std.specs.Str.{bytes_eq};
 ghost use Rattle.std.specs.String.{string_bytes};
 ghost use Rattle.plan_core.specs.NameBytes.{name_bytes};
 ghost use Rattle.plan_text.specs.Places.{Passes};
-ghost use Rattle.brief_text.specs.Drafts.{any_address, is_group, devices_of, device_name, device_names, names_made, families_of};
+ghost use Rattle.brief_text.specs.Drafts.{any_address, is_group, devices_of, device_name, names_made, families_of};
 ghost use Rattle.brief_text.specs.Drafts.{group_said, made_groups, frame_groups, bytes_groups, tail_groups, members};
 ghost use Rattle.brief_text.specs.Drafts.{device_meant, grouped_meant, with_made, address_said};
 ghost use Rattle.brief_text.specs.Trees.{named};
-ghost use Rattle.brief_text.specs.Judging.{device_refusal, grouped_by, how_many, longest, is_long, further_names, repeats, is_message};
+ghost use Rattle.brief_text.specs.Judging.{device_refusal, grouped_by, how_many, longest, is_long, further_names, repeats};
 ghost use Rattle.brief_text.specs.Meanings.{message_of};
 ghost use Rattle.brief_text.specs.Places.{Place};
-ghost use Rattle.brief_text.specs.Standing.{draft, said, made_of, naming, in_place, brief_frame, brief_bytes, brief_tail};
+ghost use Rattle.brief_text.specs.Standing.{draft, said, made_of, naming, brief_frame, brief_bytes, brief_tail};
 
 use crate::boards::{Board, NameList};
 use crate::meanings::{Message, count};

@@ -1,6 +1,5 @@
 // What a message means: names are looked up, repetitions are written out, and a family is its messages.
 
-ghost use Rattle.std.specs.Option.{option_map};
 ghost use Rattle.std.specs.Prelude.{[], ◌≡◌, ◌<◌, ◌≤◌, ◌++◌, length, map, None, codes, decimal, false, IfOk, IfSome, OnOk};
 ghost use Rattle.std.specs.Map.{lookup};
 ghost use Rattle.std.specs.Str.{bytes_eq};
@@ -11,7 +10,7 @@ ghost use Rattle.plan_core.specs.Building.{with_message};
 ghost use Rattle.plan_core.specs.NameBytes.{name_bytes};
 ghost use Rattle.brief_text.specs.Judging.{is_family};
 ghost use Rattle.brief_text.specs.Drafts.{frame_on, bytes_on, tail_on, made_bits, after_made, how_often, member_name, members};
-ghost use Rattle.brief_text.specs.Drafts.{with_messages, with_made, messages_meant, family_meant, lengths, standing};
+ghost use Rattle.brief_text.specs.Drafts.{with_messages, with_made, messages_meant, family_meant, lengths};
 ghost use Rattle.brief_text.specs.Standing.{brief_frame, brief_bytes, brief_tail, made_of, times_of, draft};
 
 use crate::boards::Board;
@@ -34,7 +33,7 @@ pub(crate) struct Message {
 
 impl Board {
     ghost use Rattle.brief_text.specs.Meanings.{message_of};
-    ghost use Rattle.brief_text.specs.Standing.{in_place};
+    ghost use Rattle.brief_text.specs.Standing.{with_device};
 
     /// Adds a message, or the messages of a family, whose name no other family has.
     pub(crate) fn add_messages(
@@ -64,7 +63,7 @@ impl Board {
         frames: &FrameSyntax,
     ) -> Result<Vec<Message>, AllocError>
         ensures { IfOk result (λ it. map message_of it.items ≡
-            messages_meant (standing (draft self.now) (option_map in_place in_place.entry)) (name_bytes name.now) range
+            messages_meant (with_device (draft self.now) in_place.entry) (name_bytes name.now) range
             (brief_frame frames.now)) }
     {
         match range {
@@ -80,7 +79,7 @@ impl Board {
         frames: &FrameSyntax,
     ) -> Result<Vec<Message>, AllocError>
         ensures { IfOk result (λ it. map message_of it.items ≡
-            messages_meant (standing (draft self.now) (option_map in_place in_place.entry)) (name_bytes name.now) None
+            messages_meant (with_device (draft self.now) in_place.entry) (name_bytes name.now) None
             (brief_frame frames.now)) }
     {
         let mut messages = Vec::new(self.alloc);
@@ -98,7 +97,7 @@ impl Board {
         frames: &FrameSyntax,
     ) -> Result<Vec<Message>, AllocError>
         ensures { IfOk result (λ it. map message_of it.items ≡
-            family_meant (standing (draft self.now) (option_map in_place in_place.entry)) (name_bytes name.now) range
+            family_meant (with_device (draft self.now) in_place.entry) (name_bytes name.now) range
             (brief_frame frames.now)) }
     {
         let mut messages = Vec::new(self.alloc);
@@ -169,7 +168,7 @@ impl Board {
         frame: &FrameSyntax,
         path: Path,
     ) -> Result<Frame, AllocError>
-        ensures { IfOk result (λ it. frame_tree it ≡ frame_on (standing (draft self.now) (option_map in_place in_place.entry)) n
+        ensures { IfOk result (λ it. frame_tree it ≡ frame_on (with_device (draft self.now) in_place.entry) n
             (brief_frame frame.now) path) }
     {
         match frame {
@@ -212,7 +211,7 @@ impl Board {
         data: &DataSyntax,
         path: Path,
     ) -> Result<Payload, AllocError>
-        ensures { IfOk result (λ it. payload_tree it ≡ bytes_on (standing (draft self.now) (option_map in_place in_place.entry)) n
+        ensures { IfOk result (λ it. payload_tree it ≡ bytes_on (with_device (draft self.now) in_place.entry) n
             (brief_bytes «data».now) path) }
     {
         match data {
@@ -267,7 +266,7 @@ impl Board {
         tail: &TailSyntax,
         path: Path,
     ) -> Result<Tail, AllocError>
-        ensures { IfOk result (λ it. tail_tree it ≡ tail_on (standing (draft self.now) (option_map in_place in_place.entry)) n
+        ensures { IfOk result (λ it. tail_tree it ≡ tail_on (with_device (draft self.now) in_place.entry) n
             (brief_tail tail.now) path) }
     {
         match tail {
@@ -287,7 +286,7 @@ impl Board {
         made: &MadeSyntax,
         path: Path,
     ) -> Pattern
-        ensures { result ≡ made_bits (standing (draft self.now) (option_map in_place in_place.entry)) n (made_of made.now) path }
+        ensures { result ≡ made_bits (with_device (draft self.now) in_place.entry) n (made_of made.now) path }
     {
         match made {
             MadeSyntax::Header { reads, to } => header_bits(
