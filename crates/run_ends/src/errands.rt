@@ -1,13 +1,13 @@
 // What a run was asked for: which files it is over, where its report goes, and how it can be asked for once more.
 
-use crate::extras::Extras;
-use crate::inputs::NamedSources;
 use command_words::{Layout, Request, Rewriting};
 use dump_hints::Names;
 use dump_tokens::BusLines;
 use files::Form;
 use growing_text::Text;
 use hints::{Named, file_word};
+use run_refusals::NamedSources;
+use run_values::Extras;
 use std::alloc::{AllocError, Global};
 use vcd_read::Probe;
 
