@@ -79,11 +79,10 @@ fn due_of(case: &Case, run: &Run, said: &Said) -> (Answer, Option<&'static str>)
                 && (told.first.calls > 0 || case.is_unread());
             (wanted, fault(is_right, "not each call was interrupted so often"))
         }
-        // (the texts that give a plan are read before anything is judged, and the number of workers before what was read)
-        Due::NoFirst if told.first.failed && case.is_unread() => (wanted, None),
         Due::NoFirst if told.first.failed => {
             (refused("read", ""), fault(!told.second.failed, "the second file was read"))
         }
+        // (the texts that give a plan are read before the first is judged)
         Due::NoSecond if told.second.failed && case.refuses_first() => (wanted, None),
         Due::NoFirst => (wanted, fault(case.is_unread() || case.leaves_first(), "the read that is to fail did not")),
         Due::NoSecond if told.second.failed => (refused("read", ""), None),
