@@ -48,15 +48,22 @@ impl Asked {
     ///
     /// # Errors
     ///
-    /// The refusal of the first brief of several that is refused. A text that stands alone is not looked at.
+    /// The refusal of the first text of a board that is refused, or a file that its heads name in vain. A text that stands alone,
+    /// and names no files, is not looked at.
     pub fn plan(&self) -> Result<Cow<'_, [u8]>, Answer> {
-        if self.further.is_empty() {
+        if self.further.is_empty() && !self.gives_board() {
             return Ok(Cow::Borrowed(&self.first));
         }
         match plain::expand(&self.briefs()) {
             answer if answer.status == 0 => Ok(Cow::Owned(answer.out.into_bytes())),
             refused => Err(refused),
         }
+    }
+
+    // Whether the first text gives a plan, and its head may name files.
+    fn gives_board(&self) -> bool {
+        !matches!(self.command, Command::Brief | Command::Expand | Command::Decode { .. } | Command::Learn { .. })
+            && plain::begins_board(&String::from_utf8_lossy(&self.first))
     }
 
     /// What the program reads from the second file that it names after its options: a certificate, a capture or a script, or the
@@ -91,6 +98,15 @@ impl Case {
     pub fn leaves_first(&self) -> bool {
         matches!(self.asked.command, Command::Decode { .. } | Command::Learn { .. })
             && self.wanted.refusal.starts_with('V')
+    }
+
+    /// Whether the first of several briefs is refused before what was read of the second one is looked at. A brief of the second
+    /// version is not: all that its board names is read before.
+    pub fn refuses_first(&self) -> bool {
+        let Asked { command, first, .. } = &self.asked;
+        matches!(command, Command::Expand)
+            && self.wanted.refusal.ends_with(&format!(" of {}", NAMES[0]))
+            && !plain::begins_board(&String::from_utf8_lossy(first))
     }
 
     /// Whether the second file may be left before its end, or not be read at all: the refusal of a plan comes before it, and

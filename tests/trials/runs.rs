@@ -82,6 +82,8 @@ fn due_of(case: &Case, run: &Run, said: &Said) -> (Answer, Option<&'static str>)
         Due::NoFirst if told.first.failed => {
             (refused("read", ""), fault(!told.second.failed, "the second file was read"))
         }
+        // (the texts that give a plan are read before the first is judged)
+        Due::NoSecond if told.second.failed && case.refuses_first() => (wanted, None),
         Due::NoFirst => (wanted, fault(case.is_unread() || case.leaves_first(), "the read that is to fail did not")),
         Due::NoSecond if told.second.failed => (refused("read", ""), None),
         Due::NoSecond => (wanted, fault(case.leaves_second(), "the read that is to fail did not")),

@@ -1,11 +1,11 @@
 -- The status of a run over a dump, whatever form its report has, by what the transactions that it told of come to.
 use Rattle.std.specs.Prelude.{◌≡◌, ℕ, Option, Some, None}
 use Rattle.dump_runs.specs.declared.recordings.Told.{Told}
-use Rattle.run_ends.specs.declared.endings.Ended.{Ended}
-use Rattle.run_ends.specs.declared.endings.Findings.{Findings}
-use Rattle.run_ends.specs.declared.endings.Findings.TheVariants.{Recording}
-use Rattle.run_ends.specs.declared.endings.Recorded.{Recorded}
-use Rattle.run_ends.specs.declared.endings.Recorded.TheVariants.{Bus, Bytes}
+use Rattle.run_values.specs.declared.endings.Ended.{Ended}
+use Rattle.run_values.specs.declared.endings.Findings.{Findings}
+use Rattle.run_values.specs.declared.endings.Findings.TheVariants.{Recording}
+use Rattle.run_values.specs.declared.endings.Recorded.{Recorded}
+use Rattle.run_values.specs.declared.endings.Recorded.TheVariants.{Bus, Bytes}
 use Rattle.dump_findings.specs.Statuses.{JudgesSeen}
 use Rattle.dump_findings.specs.declared.selecting.Seen.{Seen}
 

@@ -7,8 +7,8 @@ use drives::{Drivers, Judging};
 use dump_tokens::{Bus, Drives};
 use plan_core::{Name, NameError, Participant, Plan};
 use plan_words::PlanWords;
-use run_ends::{Halt, NoDrive, open_dump};
 use run_parts::{Input, RunError};
+use run_values::{Halt, NoDrive, open_dump};
 use signals::{Dump, Sought};
 use std::alloc::{AllocError, Global};
 

@@ -12,8 +12,9 @@ use lint::{Oddity, oddities};
 use plan_core::Plan;
 use plan_words::{BriefFiles, PlanWords};
 use report::check_found;
-use run_ends::{Halt, NamedSources, Sources};
 use run_parts::Watched;
+use run_refusals::{NamedSources, RefusedNamed};
+use run_values::{Halt, Sources};
 use std::alloc::{AllocError, Global};
 use std::thread::Threads;
 use verdicts::{Checked, NoGate};
@@ -100,7 +101,7 @@ fn wrong_in<R: Threads + Sync>(rt: &R, alloc: Global, parts: &[Part]) -> Result<
         Err(mut halt) => {
             texts.read_on(alloc, &mut halt);
             Ok(Found {
-                all: refusals_of(alloc, halt, named(&texts))?,
+                all: refusals_of(alloc, &halt, named(&texts))?,
                 is_plan: false,
             })
         }
@@ -110,15 +111,20 @@ fn wrong_in<R: Threads + Sync>(rt: &R, alloc: Global, parts: &[Part]) -> Result<
 // What is refused in texts: the first refusal, and all others.
 fn refusals_of(
     alloc: Global,
-    halt: Halt,
+    halt: &Halt,
     named: NamedSources<'_>,
 ) -> Result<Vec<Diagnostic>, AllocError> {
     let Halt::Text(error, source) = halt else {
         return Err(AllocError);
     };
+    let refused = RefusedNamed {
+        error: *error,
+        source,
+        named,
+    };
     let mut all = Vec::new(alloc);
-    all.push(source.diagnose(alloc, error, named)?)?;
-    for diagnostic in source.diagnose_further(alloc, error, named)? {
+    all.push(refused.diagnose(alloc)?)?;
+    for diagnostic in refused.diagnose_further(alloc)? {
         all.push(diagnostic)?;
     }
     Ok(all)

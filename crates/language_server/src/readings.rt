@@ -6,7 +6,7 @@ use crate::plans::{Given, Part};
 use brief_tokens::record;
 use given_plans::GivenPlan;
 use origins::{Kind, NameAt, NamedTexts, Spans};
-use run_ends::{Halt, RefusedSource};
+use run_values::{Halt, RefusedSource};
 use std::alloc::{AllocError, Global};
 
 /// A name, and what it is the name of.

@@ -13,8 +13,8 @@ use given_runs::{
 };
 use growing_text::{Text, push_shown};
 use plan_text::NoBrief;
-use run_ends::{Ended, Findings, Halt, Sources, Takes};
 use run_parts::{Input, Output, RunError, Status, write_lines};
+use run_values::{Ended, Findings, Halt, Sources, Takes};
 use std::alloc::Global;
 
 /// Writes a text in another form: what gives a plan to certify and to print, and else briefs to expand, a plan text, or a text of

@@ -1,11 +1,8 @@
 // What is said to people on standard error of a run that has ended: made here of what it has found, or of why it was refused.
 
-use crate::endings::{Findings, Halt, NoDrive, Recorded, RefusedSource};
 use crate::errands::Errand;
-use crate::further::Further;
-use crate::inputs::{Inputs, NamedSources};
+use crate::inputs::Inputs;
 use crate::messages::{dump_message, file_message, text_message};
-use crate::sources::words_of;
 use crate::voices::{refused, refused_by_word, say, say_message, say_objects, say_these};
 use cert_check::{Answer, Answered};
 use command_words::Format;
@@ -22,7 +19,7 @@ use growing_text::Text;
 use hints::{
     Found, Hints, NoWaves, on_certificate, on_checked, on_fault, on_memory, on_named_file,
     on_no_answers, on_no_brief, on_no_timescale, on_no_waves, on_reading, on_safe, on_starters,
-    on_text, on_workers, on_writing,
+    on_workers, on_writing,
 };
 use lint::oddities;
 use plan_core::Plan;
@@ -32,6 +29,8 @@ use plays::RefusedStarters;
 use refusal_objects::{Detail, EarlierAt};
 use remedies::kept_apart;
 use run_parts::{RunError, Status};
+use run_refusals::{Further, RefusedNamed};
+use run_values::{Findings, Halt, NoDrive, Recorded, RefusedSource, words_of};
 use spellings::brief_word;
 use std::alloc::{AllocError, Global};
 use std::io::{self, Read, Seek};
@@ -211,11 +210,10 @@ pub(crate) fn refuse<R: Eprint + AllocGlobal, F: Read + Seek + Drop>(
 // The objects of what else is refused, where objects are wanted.
 fn further_objects(alloc: Global, halt: &Halt, errand: Errand<'_>) -> Result<String, AllocError> {
     let mut text = Text::new(alloc);
-    if let (Halt::Text(error, source), Format::Objects) = (halt, errand.extras.format) {
-        let named = errand.named();
-        let further = Further::after(alloc, *error, source, named)?;
-        for one in further.all(alloc, named)? {
-            text.push_made(one.object(alloc, named));
+    if let (Some(refused), Format::Objects) = (refused_named(halt, errand), errand.extras.format) {
+        let further = Further::after(alloc, refused)?;
+        for one in further.all(alloc, refused.named)? {
+            text.push_made(one.object(alloc, refused.named));
         }
     }
     text.finish()
@@ -224,14 +222,33 @@ fn further_objects(alloc: Global, halt: &Halt, errand: Errand<'_>) -> Result<Str
 // What hints say of it.
 fn further_hints(alloc: Global, halt: &Halt, errand: Errand<'_>) -> Result<Hints, AllocError> {
     let mut hints = Hints::new(alloc);
-    if let Halt::Text(error, source) = halt {
-        let named = errand.named();
-        let further = Further::after(alloc, *error, source, named)?;
-        for one in further.all(alloc, named)? {
+    if let Some(refused) = refused_named(halt, errand) {
+        let further = Further::after(alloc, refused)?;
+        for one in further.all(alloc, refused.named)? {
             hints.append(one.hints(alloc)?)?;
         }
     }
     Ok(hints)
+}
+
+// The text that is refused, where that is why a run goes no further.
+fn refused_named<'a>(halt: &'a Halt, errand: Errand<'a>) -> Option<RefusedNamed<'a>> {
+    match halt {
+        Halt::Text(error, source) => Some(of_text(*error, source, errand)),
+        _ => None,
+    }
+}
+
+fn of_text<'a>(
+    error: PlanError,
+    source: &'a RefusedSource,
+    errand: Errand<'a>,
+) -> RefusedNamed<'a> {
+    RefusedNamed {
+        error,
+        source,
+        named: errand.named(),
+    }
 }
 
 // The line of a refusal, or what stands for it. This file was read last.
@@ -242,7 +259,7 @@ fn tell<'x, R: Eprint + AllocGlobal>(
     reason: &str,
     errand: Errand<'_>,
 ) {
-    let (alloc, format, named) = (rt.alloc(), errand.extras.format, errand.named());
+    let (alloc, format) = (rt.alloc(), errand.extras.format);
     let detail = match halt {
         Halt::NoTimescale => return refused_by_word(rt, "timescale", None, reason, format),
         Halt::NoDrive(number, _) => {
@@ -250,7 +267,7 @@ fn tell<'x, R: Eprint + AllocGlobal>(
             return refused_by_word(rt, "drives", controller, reason, format);
         }
         Halt::Text(error, source) if format == Format::Messages => {
-            return say_message(rt, text_message(alloc, *error, source, named));
+            return say_message(rt, text_message(alloc, of_text(*error, source, errand)));
         }
         Halt::Dump(error, wrong) if format == Format::Messages => {
             let file = errand.last_path();
@@ -259,7 +276,7 @@ fn tell<'x, R: Eprint + AllocGlobal>(
                 dump_message(alloc, *error, wrong.as_ref(), file, reason),
             );
         }
-        Halt::Text(error, source) => Detail::Text(source.detail(alloc, *error, named)),
+        Halt::Text(error, source) => Detail::Text(of_text(*error, source, errand).detail(alloc)),
         Halt::Dump(_, Some(wrong)) => Detail::Dump(wrong),
         Halt::Starters(_, RefusedStarters::Unknown(label), _) => Detail::Label(label.as_str()),
         Halt::Run(RunError::Read) => Detail::File(last),
@@ -289,7 +306,7 @@ fn own_reason(
         Halt::Run(RunError::Read) => Some(reading_reason(alloc, why)),
         Halt::File(file) => Some(reading_reason(alloc, file.error.as_ref())),
         Halt::Text(..) if errand.extras.format == Format::Messages => Some(String::new(alloc)),
-        Halt::Text(error, source) => match source.diagnose(alloc, *error, errand.named()) {
+        Halt::Text(error, source) => match of_text(*error, source, errand).diagnose(alloc) {
             Ok(diagnostic) => Some(diagnostic.message),
             Err(_) => Some(String::new(alloc)),
         },
@@ -319,7 +336,7 @@ fn hints_on<F: Read + Seek + Drop>(
     errand: Errand<'_>,
 ) -> Result<Hints, AllocError> {
     match halt {
-        Halt::Text(error, source) => on_refused_text(alloc, *error, source, errand.named()),
+        Halt::Text(error, source) => of_text(*error, source, errand).hints(alloc),
         Halt::Dump(error, wrong) => {
             let (command, vcd) = (errand.command(alloc)?, errand.vcd(alloc)?);
             let names = errand.names(command.as_str(), vcd.as_str());
@@ -350,19 +367,6 @@ fn hints_on<F: Read + Seek + Drop>(
         Halt::Run(RunError::Workers) => on_workers(alloc),
         Halt::Run(_) => on_memory(alloc),
     }
-}
-
-fn on_refused_text(
-    alloc: Global,
-    error: PlanError,
-    source: &RefusedSource,
-    named: NamedSources<'_>,
-) -> Result<Hints, AllocError> {
-    let earlier = source.earlier(alloc, named)?;
-    on_text(
-        alloc,
-        source.refused_in(error, source.file(named), earlier.as_slice()),
-    )
 }
 
 fn on_no_drive(alloc: Global, drive: Drive<'_>, why: &NoDrive) -> Result<Hints, AllocError> {

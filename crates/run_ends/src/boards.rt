@@ -2,9 +2,7 @@
 
 ghost use Rattle.board_files.specs.Files.{any_files};
 
-use crate::endings::{Halt, RefusedSource, Takes, UnreadFile};
 use crate::errands::Errand;
-use crate::inputs::NamedSources;
 use board_files::{FileId, GivenText, Listed, Opener, Unlisted, Why, folder_of, list_texts};
 use brief_tokens::{begin, record};
 use files::{OpenSource, Source, Watcher, closed, is_standard_input, open_path};
@@ -13,6 +11,8 @@ use lexer::Letters;
 use origins::{Language, Spans};
 use run_parts::devices::reading::READS;
 use run_parts::{Opened, RunError, Watched, read_within};
+use run_refusals::NamedSources;
+use run_values::{Halt, RefusedSource, Takes, UnreadFile};
 use std::alloc::{AllocError, Global};
 use std::io::{self, Cursor, ErrorKind, Read};
 use std::rt::Files;

@@ -1,15 +1,16 @@
 // What a run was asked for: which files it is over, where its report goes, and how it can be asked for once more.
 
-use crate::extras::Extras;
-use crate::inputs::NamedSources;
 use command_words::{Layout, Request, Rewriting};
 use dump_hints::Names;
 use dump_tokens::BusLines;
 use files::Form;
 use growing_text::Text;
 use hints::{Named, file_word};
+use run_refusals::NamedSources;
+use run_values::Extras;
 use std::alloc::{AllocError, Global};
 use vcd_read::Probe;
+use verdicts::MOST_WORKERS;
 
 /// What was asked for, with further files of a brief, and what people get beside the exact report.
 #[derive(Clone, Copy)]
@@ -54,8 +55,9 @@ impl<'a> Errand<'a> {
     /// Whether what gives its plan may be a brief that names further files.
     pub(crate) fn takes_board(self) -> bool {
         match self.request {
-            Request::Check { .. }
-            | Request::Verify { .. }
+            // (a number of workers that cannot be is refused before anything is read)
+            Request::Check { look, .. } => look.workers >= 1 && look.workers <= MOST_WORKERS,
+            Request::Verify { .. }
             | Request::Page { .. }
             | Request::Order { .. }
             | Request::Capture { .. }

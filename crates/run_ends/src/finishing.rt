@@ -4,12 +4,12 @@ ghost use Rattle.std.specs.Prelude.{◌≡◌, ◌⊎◌, IsOkAnd};
 ghost use Rattle.run_parts.specs.Statuses.{status_code};
 
 use crate::advice::{advise, advise_on_waves, refuse};
-use crate::endings::{Ended, Findings, Halt};
 use crate::errands::Errand;
 use crate::inputs::Inputs;
 use files::{FilesRead, Form, Reread, Sheet};
 use hints::NoWaves;
 use run_parts::{RunError, Status, Watched, write_lines};
+use run_values::{Ended, Findings, Halt};
 use std::io;
 use std::rt::Files;
 use std::time::Clock;

@@ -1,13 +1,12 @@
 // Refusals as compilers write them.
 
-use crate::endings::{RefusedSource, UnreadFile};
-use crate::inputs::NamedSources;
 use crate::voices::push_words;
 use diagnostics::Messages;
 use growing_text::{Text, push_shown};
-use plan_text::PlanError;
 use plan_words::called;
 use run_parts::RunError;
+use run_refusals::RefusedNamed;
+use run_values::UnreadFile;
 use std::alloc::{AllocError, Global};
 use vcd_read::{VcdError, Wrong};
 
@@ -16,14 +15,10 @@ use vcd_read::{VcdError, Wrong};
 /// # Errors
 ///
 /// Where an allocation fails.
-pub(crate) fn text_message(
-    alloc: Global,
-    error: PlanError,
-    source: &RefusedSource,
-    named: NamedSources<'_>,
-) -> Result<String, AllocError> {
-    let diagnostic = source.diagnose(alloc, error, named)?;
-    let mut messages = Messages::new(alloc, named.files());
+pub(crate) fn text_message(alloc: Global, refused: RefusedNamed<'_>) -> Result<String, AllocError> {
+    let source = refused.source;
+    let diagnostic = refused.diagnose(alloc)?;
+    let mut messages = Messages::new(alloc, refused.named.files());
     for text in source.refused.before.iter() {
         messages.add(alloc, text.as_slice())?;
     }
@@ -34,7 +29,7 @@ pub(crate) fn text_message(
     let mut text = Text::new(alloc);
     messages.push(&mut text, &diagnostic);
     // (without memory for what else is wrong the answer alone is told)
-    if let Ok(further) = source.diagnose_further(alloc, error, named) {
+    if let Ok(further) = refused.diagnose_further(alloc) {
         for diagnostic in further.iter() {
             messages.push(&mut text, diagnostic);
         }

@@ -1,12 +1,12 @@
 // What goes to standard error: refusals, and hints for people.
 
-use crate::extras::Extras;
 use command_words::Format;
 use growing_text::{Text, push_shown, shown, visible};
 use hints::Hints;
 use plan_words::called;
 use refusal_objects::{Detail, TextDetail, code_of, hint_objects, refusal_object, word_object};
 use run_parts::RunError;
+use run_values::Extras;
 use std::alloc::{AllocError, Global};
 
 /// Writes the line of a refusal. An object also has the other things that are known of it, and its reason in

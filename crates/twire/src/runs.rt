@@ -8,10 +8,11 @@ use growing_text::visible;
 use language_server::serve;
 use refusal_objects::Detail;
 use run_ends::{
-    BoardNames, Errand, Extras, FailedText, Halt, Inputs, OpenFiles, Sources, TextReader, Texts,
-    finish, open_files, read_texts, refused,
+    BoardNames, Errand, FailedText, Inputs, OpenFiles, TextReader, Texts, finish, open_files,
+    read_texts, refused,
 };
 use run_parts::{RunError, Watched};
+use run_values::{Extras, Halt, Sources};
 use std::alloc::{AllocError, Global};
 use std::env::{self, VarError};
 use std::io;

@@ -43,6 +43,7 @@ mod wires;
 mod words;
 mod writing;
 
+pub use briefs::begins_board;
 pub use certificates::{read_certificate, Certificate, Wrong};
 pub use commands::{
     bench, brief, capture, capture_on, captured_so_far, certify, check, decode, decode_on, decode_summary,

@@ -1,22 +1,18 @@
-// How runs end: by values, of which `advice` makes what is said to people.
+// How runs end: by values, of which `run_ends` makes what is said to people.
 
 ghost use Rattle.std.specs.Prelude.{◌≡◌};
 
-use crate::further::Further;
-use crate::inputs::NamedSources;
 use capture_check::Rises;
 use cert_check::Answered;
-use diagnostics::{Diagnostic, diagnose_refusal};
 use dump_findings::Seen;
 use dump_tokens::Window;
 use given_plans::{GivenPlan, Halted, Provenance, RefusedText};
-use hints::{Earlier, Found, NoWaves, RefusedIn, first_stand, missing_semicolon_at};
+use hints::{Found, NoWaves};
 use plan_core::Plan;
 use plan_text::{NoBrief, PlanError};
 use plays::RefusedStarters;
-use refusal_objects::{EarlierAt, TextDetail};
 use run_parts::{RunError, Status};
-use std::alloc::{AllocError, Global};
+use std::alloc::AllocError;
 use std::io;
 use vcd_read::{VcdError, Wrong};
 use verdicts::Checked;
@@ -127,7 +123,7 @@ impl Halt {
     }
 
     /// What the libraries call it. What they have no word for is a file that cannot be used.
-    pub(crate) fn error(&self) -> RunError {
+    pub fn error(&self) -> RunError {
         match self {
             Halt::Run(error) | Halt::Starters(error, ..) => *error,
             Halt::Dump(error, _) => RunError::Vcd(*error),
@@ -178,122 +174,4 @@ pub struct RefusedSource {
 pub enum Takes {
     One,
     Either,
-}
-
-impl RefusedSource {
-    /// The name of its file, where several give the plan.
-    pub(crate) fn file<'a>(&self, named: NamedSources<'a>) -> Option<&'a str> {
-        named.path(self.refused.file())
-    }
-
-    /// The texts before it, with the names of their files.
-    pub(crate) fn earlier<'a>(
-        &'a self,
-        alloc: Global,
-        named: NamedSources<'a>,
-    ) -> Result<Vec<Earlier<'a>>, AllocError> {
-        let mut earlier = Vec::new(alloc);
-        let mut number = 0u32;
-        for text in self.refused.before.iter() {
-            if let Some(file) = named.path(number) {
-                earlier.push(Earlier {
-                    text: text.as_slice(),
-                    file,
-                })?;
-            }
-            number = number.saturating_add(1);
-        }
-        Ok(earlier)
-    }
-
-    /// The same for hints.
-    pub(crate) fn refused_in<'a>(
-        &'a self,
-        error: PlanError,
-        file: Option<&'a str>,
-        earlier: &'a [Earlier<'a>],
-    ) -> RefusedIn<'a> {
-        RefusedIn {
-            error,
-            place: self.refused.place,
-            language: self.refused.language,
-            text: self.refused.text.as_slice(),
-            file,
-            earlier,
-            spans: &self.refused.spans,
-            takes_either: self.takes == Takes::Either,
-        }
-    }
-
-    /// What is wrong with it, as a value with its place.
-    ///
-    /// # Errors
-    ///
-    /// Where an allocation fails.
-    pub fn diagnose(
-        &self,
-        alloc: Global,
-        error: PlanError,
-        named: NamedSources<'_>,
-    ) -> Result<Diagnostic, AllocError> {
-        let earlier = self.earlier(alloc, named)?;
-        let refused = self.refused_in(error, self.file(named), earlier.as_slice());
-        diagnose_refusal(alloc, refused, self.refused.file())
-    }
-
-    /// The same of what else is wrong, in it and in the texts after it.
-    ///
-    /// # Errors
-    ///
-    /// Where an allocation fails.
-    pub fn diagnose_further(
-        &self,
-        alloc: Global,
-        error: PlanError,
-        named: NamedSources<'_>,
-    ) -> Result<Vec<Diagnostic>, AllocError> {
-        let further = Further::after(alloc, error, self, named)?;
-        let mut all = Vec::new(alloc);
-        for one in further.all(alloc, named)? {
-            all.push(one.diagnose(alloc)?)?;
-        }
-        Ok(all)
-    }
-
-    /// What is known of the refusal. Where there is no memory for what stands already, that is not told.
-    pub(crate) fn detail<'a>(
-        &'a self,
-        alloc: Global,
-        error: PlanError,
-        named: NamedSources<'a>,
-    ) -> TextDetail<'a> {
-        let file = self.file(named);
-        let mut detail = TextDetail {
-            place: self.refused.place,
-            file,
-            semicolon: None,
-            earlier: None,
-            is_further: false,
-        };
-        if let Ok(earlier) = self.earlier(alloc, named) {
-            let refused = self.refused_in(error, file, earlier.as_slice());
-            detail.semicolon = missing_semicolon_at(refused);
-            detail.earlier = earlier_at(alloc, refused, named);
-        }
-        detail
-    }
-}
-
-/// The line on which that stands already which may stand once, and the name of its file. Where there is no memory for it, that is
-/// not told.
-pub(crate) fn earlier_at<'a>(
-    alloc: Global,
-    refused: RefusedIn<'_>,
-    named: NamedSources<'a>,
-) -> Option<EarlierAt<'a>> {
-    let spot = first_stand(alloc, refused).ok()??;
-    Some(EarlierAt {
-        file: named.path(spot.file),
-        line: spot.line,
-    })
 }

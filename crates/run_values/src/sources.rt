@@ -116,7 +116,7 @@ impl<'a, I: Input> Sources<'a, I> {
 }
 
 /// The plan that these files give, in the words of people.
-pub(crate) fn words_of<'p>(
+pub fn words_of<'p>(
     files: BriefFiles<'p>,
     plan: &'p Plan,
     provenance: &'p Provenance,

@@ -1,18 +1,19 @@
 // What else is refused, after a text that is refused: in that text, and in those after it.
 
-use crate::endings::{RefusedSource, earlier_at};
-use crate::inputs::NamedSources;
+use crate::names::NamedSources;
+use crate::refusals::{RefusedNamed, earlier_at};
 use brief_text::{Slip, Slips, slips_in};
 use diagnostics::{Diagnostic, diagnose_refusal};
 use hints::{Earlier, Hints, RefusedIn, missing_semicolon_at, on_further_text};
 use plan_text::{Language, PlanError, Refused};
 use refusal_objects::{Detail, TextDetail, refusal_object};
 use run_parts::RunError;
+use run_values::RefusedSource;
 use std::alloc::{AllocError, Global};
 
 /// The refusals that are not the answer of the run, and the texts in which they stand.
 #[derive(Drop)]
-pub(crate) struct Further<'a> {
+pub struct Further<'a> {
     // with the names of their files, where there are several
     texts: Vec<Earlier<'a>>,
     slips: Slips,
@@ -20,7 +21,7 @@ pub(crate) struct Further<'a> {
 
 /// One of them, in the text of this number.
 #[derive(Clone, Copy)]
-pub(crate) struct FurtherOne<'a> {
+pub struct FurtherOne<'a> {
     file: u32,
     refused: RefusedIn<'a>,
 }
@@ -31,12 +32,12 @@ impl<'a> Further<'a> {
     /// # Errors
     ///
     /// Where an allocation fails.
-    pub(crate) fn after(
-        alloc: Global,
-        error: PlanError,
-        source: &'a RefusedSource,
-        named: NamedSources<'a>,
-    ) -> Result<Further<'a>, AllocError> {
+    pub fn after(alloc: Global, answer: RefusedNamed<'a>) -> Result<Further<'a>, AllocError> {
+        let RefusedNamed {
+            error,
+            source,
+            named,
+        } = answer;
         let texts = texts_of(alloc, source, named)?;
         let mut bytes = Vec::new(alloc);
         if let Language::Brief = source.refused.language {
@@ -52,7 +53,7 @@ impl<'a> Further<'a> {
     }
 
     /// All of them, in the order of the texts.
-    pub(crate) fn all<'s>(
+    pub fn all<'s>(
         &'s self,
         alloc: Global,
         named: NamedSources<'s>,
@@ -134,7 +135,7 @@ impl<'a> FurtherOne<'a> {
     /// # Errors
     ///
     /// Where an allocation fails.
-    pub(crate) fn diagnose(self, alloc: Global) -> Result<Diagnostic, AllocError> {
+    pub fn diagnose(self, alloc: Global) -> Result<Diagnostic, AllocError> {
         diagnose_refusal(alloc, self.refused, self.file)
     }
 
@@ -143,7 +144,7 @@ impl<'a> FurtherOne<'a> {
     /// # Errors
     ///
     /// Where an allocation fails.
-    pub(crate) fn hints(self, alloc: Global) -> Result<Hints, AllocError> {
+    pub fn hints(self, alloc: Global) -> Result<Hints, AllocError> {
         on_further_text(alloc, self.refused)
     }
 
@@ -152,11 +153,7 @@ impl<'a> FurtherOne<'a> {
     /// # Errors
     ///
     /// Where an allocation fails.
-    pub(crate) fn object(
-        self,
-        alloc: Global,
-        named: NamedSources<'_>,
-    ) -> Result<String, AllocError> {
+    pub fn object(self, alloc: Global, named: NamedSources<'_>) -> Result<String, AllocError> {
         let refused = self.refused;
         let detail = TextDetail {
             place: refused.place,

@@ -1,0 +1,16 @@
+//! What a run of the program is over, and how it ends, as values.
+//!
+//! `sources` has what gives a plan: one text, or several briefs; `dumps` opens a dump. `endings` has how a run has ended: with what it
+//! has found, or why it goes no further. `extras` has what people get beside the exact report. No run waits for what is then said to
+//! people, which `run_refusals` and `run_ends` make of these values.
+#![tactic(auto)]
+
+mod dumps;
+mod endings;
+mod extras;
+mod sources;
+
+pub use dumps::{halted, halted_by, open_dump};
+pub use endings::{Ended, Findings, Halt, NoDrive, Recorded, RefusedSource, Takes, UnreadFile};
+pub use extras::{Extras, Style};
+pub use sources::{Sources, words_of};
