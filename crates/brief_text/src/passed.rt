@@ -22,6 +22,9 @@ pub(crate) struct Passed<'a> {
     names: Vec<PassedName<'a>>,
     // whether there are others, of which nothing is known
     has_others: bool,
+    // whether messages may make names by groups, and by one that was passed over
+    has_groups: bool,
+    has_lost_group: bool,
     told: Limits,
 }
 
@@ -52,6 +55,8 @@ impl<'a> Passed<'a> {
         Passed {
             names: Vec::new(alloc),
             has_others: false,
+            has_groups: false,
+            has_lost_group: false,
             told: Limits {
                 messages: false,
                 controllers: false,
@@ -79,6 +84,17 @@ impl<'a> Passed<'a> {
         self.has_others = true;
     }
 
+    /// There are groups, by which a message that is refused would have made names.
+    pub(crate) fn know_groups(&mut self) {
+        self.has_groups = true;
+    }
+
+    /// A group was passed over, by which messages would have made names.
+    pub(crate) fn lose_group(&mut self) {
+        self.has_groups = true;
+        self.has_lost_group = true;
+    }
+
     /// Whether a refusal follows from what was passed over, or from one that was told.
     pub(crate) fn explains(&mut self, wrong: &Wrong<'_>) -> bool {
         match wrong.error {
@@ -95,11 +111,13 @@ impl<'a> Passed<'a> {
     fn has_unknown(&self, wrong: &Wrong<'_>) -> bool {
         let word = wrong.word;
         match wrong.place.expected {
-            Some(Expected::Sending) => self.has(Kind::Message, word),
-            Some(Expected::Target | Expected::KnownTarget) => self.has(Kind::Device, word),
+            Some(Expected::Sending) => self.has_message(word),
+            Some(Expected::Target | Expected::KnownTarget | Expected::Device { .. }) => {
+                self.has(Kind::Device, word)
+            }
             Some(Expected::Party) => match halves(word) {
                 Some((controller, label)) => {
-                    self.has(Kind::Controller, controller) || self.has(Kind::Message, label)
+                    self.has(Kind::Controller, controller) || self.has_message(label)
                 }
                 None => self.has(Kind::Controller, word),
             },
@@ -109,6 +127,11 @@ impl<'a> Passed<'a> {
         }
     }
 
+    // Whether a message would have had this name, or have made it by a group that was passed over.
+    fn has_message(&self, word: &[u8]) -> bool {
+        self.has_lost_group && word.contains(&b'_') || self.has(Kind::Message, word)
+    }
+
     // Whether one of this kind would have had this name. A message may be one of a family.
     fn has(&self, kind: Kind, word: &[u8]) -> bool {
         for one in self.names.iter() {
@@ -116,12 +139,17 @@ impl<'a> Passed<'a> {
                 Some(other) => other == kind,
                 None => true,
             };
-            let is_name = one.name == word || kind == Kind::Message && is_member(one.name, word);
+            let is_name = one.name == word || kind == Kind::Message && self.makes(one.name, word);
             if is_kind && is_name {
                 return true;
             }
         }
         false
+    }
+
+    // Whether a message of this name may have made this one: by its range, or by a group.
+    fn makes(&self, message: &[u8], word: &[u8]) -> bool {
+        is_member(message, word) || self.has_groups && after(message, word).is_some()
     }
 
     // ---- P7

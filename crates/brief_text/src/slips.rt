@@ -247,6 +247,9 @@ impl<'a> Finder<'a> {
             over,
             may_be_name,
         };
+        if !self.board.groups.is_empty() {
+            self.passed.know_groups();
+        }
         if !is_again && !self.passed.explains(&wrong) {
             self.add(text.file, refused)?;
         }
@@ -274,13 +277,21 @@ impl<'a> Finder<'a> {
                 self.passed.add(None, over.first, false)?;
                 self.passed.add(None, over.second, false)
             }
-            Gives::One(kind) => match name_of(self.alloc, over.second)? {
-                Some(name) => {
-                    let stands = self.board.stand_in(kind, NameFound { name, line })?;
-                    self.passed.add(Some(kind), over.second, stands)
-                }
-                None => Ok(()),
-            },
+            Gives::Group => {
+                self.passed.lose_group();
+                self.keep_name(Kind::Device, over.second, line)
+            }
+            Gives::One(kind) => self.keep_name(kind, over.second, line),
+        }
+    }
+
+    fn keep_name(&mut self, kind: Kind, word: &'a [u8], line: u64) -> Result<(), AllocError> {
+        match name_of(self.alloc, word)? {
+            Some(name) => {
+                let stands = self.board.stand_in(kind, NameFound { name, line })?;
+                self.passed.add(Some(kind), word, stands)
+            }
+            None => Ok(()),
         }
     }
 }

@@ -7,7 +7,7 @@ use plan_text::places::{Further, Kind, Over, Spot};
 use plan_text::{Expected, PlanError, Refused};
 
 /// What a token is to be, where it is taken.
-#[derive(Clone, Copy)]
+#[derive(Clone, Copy, PartialEq, Eq)]
 pub(crate) enum Wanted {
     Item,
     Name,
@@ -102,7 +102,9 @@ impl Trace {
             Wanted::Item => Expected::BriefItem,
             Wanted::Name => Expected::Name(self.item),
             Wanted::Controller => Expected::Controller,
-            Wanted::Device => Expected::Target,
+            Wanted::Device => Expected::Device {
+                ends: self.before == Wanted::Device,
+            },
             Wanted::Sending => Expected::Sending,
             Wanted::Party => Expected::Party,
             Wanted::Address => Expected::BriefAddress,
