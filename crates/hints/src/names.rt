@@ -243,7 +243,7 @@ fn stands_in(alloc: Global, refused: &RefusedIn<'_>) -> Result<Stands, AllocErro
 fn stands_among(known: &[Known<'_>], refused: &RefusedIn<'_>) -> Stands {
     let word = refused.token();
     match refused.place.expected {
-        _ if word == b";" => Stands::Made,
+        _ if word == b";".as_slice() => Stands::Made,
         Some(Expected::Device { .. }) => Stands::Grouped,
         Some(Expected::Name(kind)) => Stands::Named(
             kind,

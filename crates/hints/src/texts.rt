@@ -411,7 +411,7 @@ fn push_fault(alloc: Global, lines: &mut Lines, refused: &RefusedIn<'_>, fault: 
     match (fault, refused.place.expected) {
         (Fault::NoSemicolon(span), _) => push_semicolon(lines, refused, span),
         // (the `;` itself is as it should be)
-        (_, Some(expected)) if refused.token() == b";" && takes_semicolon(expected) => {
+        (_, Some(expected)) if refused.token() == b";".as_slice() && takes_semicolon(expected) => {
             lines.say(GROUPED);
         }
         (Fault::Range(_), _) => {
