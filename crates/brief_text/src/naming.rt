@@ -1,6 +1,6 @@
 // Values by their names.
 
-ghost use Rattle.std.specs.Prelude.{◌≡◌, [], ◌∷◌, ◌++◌, None, is_some, IfOk, OnOk};
+ghost use Rattle.std.specs.Prelude.{◌≡◌, [], ◌∷◌, ◌++◌, map, None, is_some, IfOk, OnOk};
 ghost use Rattle.std.specs.Map.{lookup};
 ghost use Rattle.std.specs.Str.{bytes_eq};
 ghost use Rattle.plan_core.specs.Building.{has_name};
@@ -41,6 +41,32 @@ impl<T: Copy> Named<T> {
     {
         self.entries.insert(name, value)?;
         Ok(())
+    }
+
+    /// The same value for each of these names. None has one by then.
+    pub(crate) fn add_all(
+        &mut self,
+        alloc: Global,
+        names: &[Name],
+        value: T,
+    ) -> Result<(), AllocError>
+        ensures { OnOk result (entries_of self.new ≡
+            entries_of self.old ++ map (λ name. (name_bytes name, value)) names.now) }
+    {
+        for name in names {
+            self.add_copied(alloc, name, value)?;
+        }
+        Ok(())
+    }
+
+    fn add_copied(&mut self, alloc: Global, name: &Name, value: T) -> Result<(), AllocError>
+        ensures { OnOk result (entries_of self.new ≡ entries_of self.old ++ (name_bytes name.now, value) ∷ []) }
+    {
+        if self.get(name).is_some() {
+            return Err(AllocError);
+        }
+        let name = copied(alloc, name)?;
+        self.add(name, value)
     }
 
     /// All names, in the order of the text.
