@@ -195,6 +195,6 @@ module _ {A : Type 0} (draft : Draft) (name : List ℕ) (range : Option Lengths)
   grouped_judged differ many full long stand twice they_differ are_many are_full are_long one_stands are_twice =
       λ i. if they_differ i then Err (errors.Unexpected line) else if are_many i then Err (errors.TooMany line) else if are_full i then Err (errors.TooMany line) else if are_long i then Err (errors.Unexpected line) else if one_stands i then Err (errors.Twice line) else if are_twice i then Err (errors.Twice line) else Ok x
 
-pub names_over : (f : List ℕ → List ℕ) (names : List Name) → map f (map name_bytes names) ≡ map (λ name. f (name_bytes name)) names
+pub names_over : {B : Type 0} (f : List ℕ → B) (names : List Name) → map f (map name_bytes names) ≡ map (λ name. f (name_bytes name)) names
 names_over f [] = refl
 names_over f (name ∷ names) = ap (λ them. f (name_bytes name) ∷ them) (names_over f names)

@@ -283,7 +283,7 @@ impl Board {
     // Those that these names stand for.
     fn all_named(&self, names: &[Name]) -> Result<Vec<Name>, AllocError>
         ensures { IfOk result (λ it. map name_bytes it.items ≡
-            flat_map (λ name. stands_alone_for (draft self.now) (name_bytes name)) names.now) }
+            flat_map (stands_alone_for (draft self.now)) (map name_bytes names.now)) }
     {
         let mut all = Vec::new(self.alloc);
         for name in names {

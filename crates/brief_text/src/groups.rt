@@ -282,7 +282,7 @@ impl Board {
         names: &[Name],
     ) -> Result<(), AllocError>
         ensures { OnOk result (map name_bytes further.new.items ≡ map name_bytes further.old.items ++
-            flat_map (λ name. members (name_bytes name) range) names.now) }
+            flat_map (λ name. members name range) (map name_bytes names.now)) }
     {
         for name in names {
             self.push_members_of(further, range, name)?;
@@ -317,11 +317,28 @@ impl Board {
         let messages = self.grouped_meant(&named.name, range, frames, group)?;
         let names = self.device_names(&named.name, self.devices_of(group))?;
         self.push_messages(messages, named.line)?;
+        self.use_devices(group);
         self.add_families(range, names.as_slice())?;
-        self.grouped.push(NameList {
-            name: named.name,
-            names,
-        })?;
+        self.push_grouped(named.name, names)?;
+        Ok(())
+    }
+
+    // The devices of a group are used: a message has the group.
+    fn use_devices(&mut self, group: &Name)
+        ensures { draft self.new ≡ draft self.old }
+    {
+        if let Some(devices) = listed(self.groups.as_slice(), group) {
+            self.uses.devices(devices.names.as_slice());
+        }
+    }
+
+    // A message of this name makes these by a group.
+    fn push_grouped(&mut self, name: Name, names: Vec<Name>) -> Result<(), AllocError>
+        ensures { OnOk result (draft self.new ≡ record (draft self.old) {
+          grouped = (draft self.old).grouped ++ (name_bytes name, map name_bytes names.items) ∷ [];
+        }) }
+    {
+        self.grouped.push(NameList { name, names })?;
         Ok(())
     }
 

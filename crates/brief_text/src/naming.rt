@@ -6,6 +6,7 @@ ghost use Rattle.std.specs.Str.{bytes_eq};
 ghost use Rattle.plan_core.specs.Building.{has_name};
 ghost use Rattle.plan_core.specs.NameBytes.{name_bytes};
 
+use crate::passed::{after, is_number};
 use indexmap::IndexMap;
 use plan_core::Name;
 use std::alloc::{AllocError, Global};
@@ -51,7 +52,7 @@ impl<T: Copy> Named<T> {
         value: T,
     ) -> Result<(), AllocError>
         ensures { OnOk result (entries_of self.new ≡
-            entries_of self.old ++ map (λ name. (name_bytes name, value)) names.now) }
+            entries_of self.old ++ map (λ name. (name, value)) (map name_bytes names.now)) }
     {
         for name in names {
             self.add_copied(alloc, name, value)?;
@@ -67,6 +68,16 @@ impl<T: Copy> Named<T> {
         }
         let name = copied(alloc, name)?;
         self.add(name, value)
+    }
+
+    /// Whether a text is one of these names, or one with `_` and a number after it.
+    pub(crate) fn has_front_of(&self, text: &[u8]) -> bool {
+        for name in self.entries.keys() {
+            if is_front(name.as_str().as_bytes(), text) {
+                return true;
+            }
+        }
+        false
     }
 
     /// All names, in the order of the text.
@@ -93,5 +104,16 @@ pub(crate) fn spelled(alloc: Global, text: &str) -> Result<Name, AllocError>
     match Name::new(alloc, text) {
         Ok(name) => Ok(name),
         Err(_) => Err(AllocError),
+    }
+}
+
+// Whether a text is this name, or has `_` and a number after it.
+fn is_front(name: &[u8], text: &[u8]) -> bool {
+    if name == text {
+        return true;
+    }
+    match after(name, text) {
+        Some(number) => is_number(number),
+        None => false,
     }
 }

@@ -263,8 +263,8 @@ impl Board {
 
     // Whether a message is in the part of a label, which stands for these.
     fn is_in_part(&self, label: &Party, named: &[Name], message: &Name) -> Result<bool, AllocError>
-        ensures { map name_bytes named.now ≡ label_messages (draft self.now) (side label.now) →
-            IfOk result (λ it. it ≡ is_in_part (draft self.now) (labels_of (draft self.now) (side label.now).controller)
+        requires { map name_bytes named.now ≡ label_messages (draft self.now) (side label.now) }
+        ensures { IfOk result (λ it. it ≡ is_in_part (draft self.now) (labels_of (draft self.now) (side label.now).controller)
             (side label.now) (name_bytes message.now)) }
     {
         let is_of_device = self.is_of_device(label, message)?;

@@ -1,6 +1,7 @@
-use Rattle.std.proofs.Common.{[], ap, ◌∙◌}
+use Rattle.std.proofs.Common.{[], ap, sym, ◌∙◌}
 use Rattle.std.specs.List.{flat_map}
 use Rattle.std.proofs.lemmas.List.{take_all}
+use Rattle.std.proofs.lemmas.List.Folds.{flat_map-map}
 use Rattle.plan_core.specs.NameBytes.{name_bytes}
 use Rattle.plan_core.specs.declared.names.Name.{Name}
 use Rattle.brief_text.specs.Drafts.{stands_alone_for}
@@ -16,3 +17,4 @@ pub returns : goal.returns
 returns c =
     c.loop-name.invariant
     ∙ ap (flat_map (λ (it : Name). stands_alone_for (draft c.args.self.now) (name_bytes it))) (take_all c.loop-name.name-index c.args.names.now c.loop-name-test.false)
+    ∙ sym (flat_map-map (stands_alone_for (draft c.args.self.now)) name_bytes c.args.names.now)

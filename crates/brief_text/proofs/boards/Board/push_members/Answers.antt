@@ -1,6 +1,7 @@
-use Rattle.std.proofs.Common.{◌++◌, map, ap, ◌∙◌}
+use Rattle.std.proofs.Common.{ℕ, List, ◌++◌, map, ap, sym, ◌∙◌}
 use Rattle.std.specs.List.{flat_map}
 use Rattle.std.proofs.lemmas.List.{take_all}
+use Rattle.std.proofs.lemmas.List.Folds.{flat_map-map}
 use Rattle.plan_core.specs.NameBytes.{name_bytes}
 use Rattle.plan_core.specs.declared.names.Name.{Name}
 use Rattle.brief_text.specs.Drafts.{members}
@@ -14,4 +15,5 @@ loop-name-preserved c =
 pub returns : goal.returns
 returns c =
     c.loop-name.invariant
-    ∙ ap (λ (them : _). map name_bytes c.args.further.now.items ++ flat_map (λ (it : Name). members (name_bytes it) c.args.range) them) (take_all c.loop-name.name-index c.args.names.now c.loop-name-test.false)
+    ∙ ap (λ (them : List Name). map name_bytes c.args.further.now.items ++ flat_map (λ (it : Name). members (name_bytes it) c.args.range) them) (take_all c.loop-name.name-index c.args.names.now c.loop-name-test.false)
+    ∙ ap (λ them. map name_bytes c.args.further.now.items ++ them) (sym (flat_map-map (λ (name : List ℕ). members name c.args.range) name_bytes c.args.names.now))
