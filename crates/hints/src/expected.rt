@@ -36,6 +36,7 @@ pub(crate) fn words_of(
 const SECOND_ITEMS: &[&str] = &[
     "'device'",
     "'byte'",
+    "'group'",
     "'message'",
     "'controller'",
     "'extend'",

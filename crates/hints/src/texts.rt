@@ -222,6 +222,8 @@ fn push_refused(alloc: Global, lines: &mut Lines, refused: &RefusedIn<'_>, fault
     match refused.error {
         PlanError::NotAscii(_) => lines.say(foreign(refused.language)),
         PlanError::Version(_) => push_version(lines, refused),
+        PlanError::Unexpected(_) if is_of_groups(refused) => lines.say(GROUPS),
+        PlanError::Twice(_) if is_of_groups(refused) => lines.say(GROUPED),
         PlanError::Unexpected(_) => push_fault(alloc, lines, refused, fault),
         PlanError::BadCount(_) => lines.say(bad_count(refused.place.expected)),
         PlanError::TooLong(_) => push_over(lines, refused.place.over),
@@ -333,7 +335,7 @@ fn ends_item(refused: &RefusedIn<'_>) -> bool {
     match refused.token() {
         b"message" | b"controller" | b"interrupt" | b"never" => true,
         b"device" | b"byte" => matches!(refused.language, Language::Brief),
-        b"extend" => refused.is_second(),
+        b"extend" | b"group" => refused.is_second(),
         b"" => true,
         _ => false,
     }
@@ -341,6 +343,22 @@ fn ends_item(refused: &RefusedIn<'_>) -> bool {
 
 fn feeds_in(text: &[u8]) -> u64 {
     text.iter().filter(|byte| **byte == b'\n').count() as u64
+}
+
+const GROUPS: &str = "a message has one group of devices at most, and the names that it makes by that have 32 characters at most";
+
+const GROUPED: &str = "by its group the message makes a name that an earlier message has, or makes one twice";
+
+// Whether the `;` of a message is refused: by what that makes with its groups.
+fn is_of_groups(refused: &RefusedIn<'_>) -> bool {
+    refused.token() == b";".as_slice()
+        && matches!(
+            refused.place.expected,
+            Some(Expected::Further(Further {
+                is_inner: false,
+                ..
+            }))
+        )
 }
 
 // A count with dots after it. In the first version of plans the count was taken alone.
@@ -451,7 +469,20 @@ fn last_word(bytes: &[u8]) -> &str {
     str::from_utf8(word).unwrap_or("")
 }
 
+// Whether the item is a group of devices.
+fn is_in_group(refused: &RefusedIn<'_>) -> bool {
+    let item = refused.before().rsplit(is_semicolon).next().unwrap_or(&[]);
+    item.trim_ascii_start().starts_with(b"group")
+}
+
+fn is_semicolon(byte: &u8) -> bool {
+    *byte == b';'
+}
+
 fn push_token(alloc: Global, lines: &mut Lines, refused: &RefusedIn<'_>, expected: Expected) {
+    if expected == Expected::Target && is_in_group(refused) {
+        return lines.say("expected here: the name of a device");
+    }
     match words_of(alloc, expected, refused.is_second()) {
         Ok(words) => {
             let words = words.as_slice();
