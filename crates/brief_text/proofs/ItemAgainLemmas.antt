@@ -22,7 +22,7 @@ use Rattle.brief_text.specs.Frames.{Around, frames_at}
 use Rattle.brief_text.specs.Grammar.{one, SpellsNames, SpellsItem}
 use Rattle.brief_text.specs.Items.{address_in, pattern_in, device_at, byte_at, message_at, group_at, names_from, listed_refusal, controller_at, extend_at, interrupt_at, side_in, never_at, item_in, item_at}
 use Rattle.brief_text.specs.Judging.{named_refusal, device_refusal, is_message, how_many, is_long, further_names, repeats, grouped_by, grouped_refusal, message_refusal_of, controller_refusal_of, extend_refusal_of, listed_by}
-use Rattle.brief_text.specs.Places.{Place, Reads, token_as, end_in, past}
+use Rattle.brief_text.specs.Places.{Place, Reads, token_as, end_in}
 use Rattle.brief_tokens.specs.Tokens.{keyword, word, sign, Tokens}
 use Rattle.brief_text.specs.Trees.{BriefFrame, BriefItem, device, byte, device_group, message, controller, extend, interrupt, never_both}
 use Rattle.brief_text.specs.Words.{known_number}

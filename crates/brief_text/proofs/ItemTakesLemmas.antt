@@ -1,6 +1,6 @@
 -- Each item that is read is spelled so, and fits.
 use Rattle.std.proofs.Common.{◌≡◌, ℕ, ◌+◌, ◌<◌, ◌≤◌, List, [], ◌∷◌, ◌++◌, Option, Some, None, is_some, refl, ap, sym, ◌∙◌, subst, arith, append-nil, append_assoc}
-use Rattle.std.specs.Prelude.{◌*◌, Bool, true, false, not, nat_lt, length, Result, Ok, Err, if◌then◌else◌}
+use Rattle.std.specs.Prelude.{◌*◌, Bool, true, false, not, nat_lt, length, Ok, Err, if◌then◌else◌}
 use Rattle.std.specs.List.{list_any}
 use Rattle.std.specs.Str.{bytes_eq}
 use Rattle.message_tree.specs.Patterns.{address_bits}
@@ -11,7 +11,6 @@ use Rattle.plan_core.specs.Building.{interrupt_refusal}
 use Rattle.plan_core.specs.declared.limits.TheConstants.{MOST_BYTES, MOST_NODES, MOST_MESSAGES}
 use Rattle.plan_core.proofs.BuildingLemmas.{size_fits}
 use Rattle.plan_text.specs.Reader.{◌>>=◌, or_refused, unless_refused}
-use Rattle.plan_text.specs.declared.errors.PlanError.{PlanError}
 use Rattle.plan_text.specs.declared.errors.PlanError.TheVariants.{Unexpected}
 use Rattle.plan_text.specs.declared.errors.PlanError.TheVariants as errors
 use Rattle.plan_core.specs.declared.builder.BuildError.{BuildError}
@@ -24,7 +23,7 @@ use Rattle.brief_tokens.specs.declared.symbols.Sign.TheVariants as signs
 use Rattle.brief_text.specs.Drafts.{Draft, address_said, frame_meant, frame_groups, devices_of, device_names, with_label}
 use Rattle.brief_text.specs.Fitting.{Fits, ListFits}
 use Rattle.brief_text.specs.Frames.{Around, frames_at}
-use Rattle.brief_text.specs.Grammar.{one, SpellsName, SpellsNames, SpellsSome, SpellsAs, SpellsItem}
+use Rattle.brief_text.specs.Grammar.{one, SpellsName, SpellsNames, SpellsAs, SpellsItem}
 use Rattle.brief_text.specs.Items.{address_in, pattern_in, device_at, byte_at, message_at, group_at, names_from, listed_refusal, controller_at, extend_at, interrupt_at, side_in, never_at, item_in, item_at}
 use Rattle.brief_text.specs.Judging.{named_refusal, device_refusal, is_message, how_many, is_long, further_names, repeats, grouped_by, grouped_refusal, message_refusal_of, controller_refusal_of, extend_refusal_of, listed_by, first_refusal, second_refusal}
 use Rattle.brief_text.specs.Places.{Place, Reads, token_as, end_in, past, name_in, name_at, to_at}

@@ -108,10 +108,13 @@ device_name name target = name ++ codes "_" ++ target
 abbrev pub device_names : Draft → List ℕ → List ℕ → List (List ℕ)
 device_names draft name group = map (device_name name) (devices_of draft group)
 
--- a device of this name with this address stands before all others, so that the name means it
+-- the draft where this device stands before all others, so that its name means it
+abbrev pub put_first : Option (List ℕ × Address) → List (List ℕ × Address) → List (List ℕ × Address)
+put_first None devices = devices
+put_first (Some first) devices = first ∷ devices
+
 abbrev pub standing : Draft → Option (List ℕ × Address) → Draft
-standing draft None = draft
-standing draft (Some first) = record draft { devices = first ∷ draft.devices }
+standing draft first = record draft { devices = put_first first draft.devices }
 
 -- the groups that stand in a message, as they are read
 abbrev pub group_said : Draft → Said Address → List (List ℕ)

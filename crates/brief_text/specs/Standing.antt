@@ -1,6 +1,6 @@
 -- What the functions of the reader say of the place at which they stand and of what they have. Only private contracts and
 -- proofs use this.
-use Rattle.std.specs.Prelude.{◌≡◌, ℕ, ◌-◌, ◌*◌, suc, List, Option, ◌∷◌, map, nat_lt, Result, Ok, Err, if◌then◌else◌}
+use Rattle.std.specs.Prelude.{◌≡◌, ℕ, ◌-◌, ◌*◌, suc, List, Option, map, nat_lt, Result, Ok, Err, if◌then◌else◌}
 use Rattle.std.specs.Option.{option_map}
 use Rattle.message_tree.specs.Counts.{greatest_of}
 use Rattle.message_tree.specs.declared.bits.Pattern.{Pattern}

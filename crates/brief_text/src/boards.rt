@@ -283,14 +283,21 @@ impl Board {
     // Those that these names stand for.
     fn all_named(&self, names: &[Name]) -> Result<Vec<Name>, AllocError>
         ensures { IfOk result (λ it. map name_bytes it.items ≡
-            flat_map (λ name. stands_alone_for (draft self.now) (name_bytes name)) names.now) }
+            flat_map (stands_alone_for (draft self.now)) (map name_bytes names.now)) }
     {
         let mut all = Vec::new(self.alloc);
         for name in names {
-            let named = self.named_alone(name)?;
-            push_all(self.alloc, &mut all, named.as_slice())?;
+            self.push_named_alone(&mut all, name)?;
         }
         Ok(all)
+    }
+
+    fn push_named_alone(&self, all: &mut Vec<Name>, name: &Name) -> Result<(), AllocError>
+        ensures { OnOk result (map name_bytes all.new.items ≡ map name_bytes all.old.items ++
+            stands_alone_for (draft self.now) (name_bytes name.now)) }
+    {
+        let named = self.named_alone(name)?;
+        push_all(self.alloc, all, named.as_slice())
     }
 
     /// All of the family with this name, or the message with it.

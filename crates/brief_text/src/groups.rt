@@ -1,6 +1,6 @@
 // Groups of devices: one stands in a message, which means a message for each of its devices.
 
-ghost use Rattle.std.specs.Prelude.{◌≡◌, ◌≤◌, ◌++◌, ◌∷◌, [], ℕ, List, map, not, None, IfOk, OnOk};
+ghost use Rattle.std.specs.Prelude.{◌≡◌, ◌≤◌, ◌++◌, ◌∷◌, [], map, not, None, IfOk, OnOk};
 ghost use Rattle.std.specs.List.{flat_map, list_any};
 ghost use Rattle.std.specs.Map.{lookup};
 ghost use Rattle.std.specs.Option.{option_map};
@@ -20,7 +20,7 @@ ghost use Rattle.brief_text.specs.Standing.{draft, said, made_of, naming, brief_
 use crate::boards::{Board, NameList};
 use crate::meanings::{Message, count};
 use crate::naming::{copied, spelled};
-use crate::splitting::push_all;
+use crate::splitting::{is_among, push_all};
 use crate::syntax::{DataSyntax, FrameSyntax, Lengths, MadeSyntax, NameFound, TailSyntax, Value};
 use message_tree::Address;
 use plan_core::limits::MOST_MESSAGES;
@@ -52,7 +52,7 @@ impl Board {
     {
         if !self.has_device(name) || self.is_group(name) {
             Some(BuildError::Unknown)
-        } else if before.contains(name) {
+        } else if is_among(before, name) {
             Some(BuildError::Twice)
         } else {
             None
@@ -68,7 +68,7 @@ impl Board {
         }) }
     {
         let among = copied(self.alloc, &name)?;
-        self.devices.add(among, Address::new(0, 0))?;
+        self.devices.add(among, open_address())?;
         self.groups.push(NameList {
             name,
             names: devices,
@@ -234,7 +234,7 @@ impl Board {
         if self.messages + devices.len() as u32 * how_many(range) > MOST_MESSAGES {
             return Err(PlanError::TooMany(line));
         }
-        if self.has_long(name, devices, range)? {
+        if has_long(self.alloc, name, devices, range)? {
             return Err(PlanError::Unexpected(line));
         }
         let names = self.device_names(name, devices)?;
@@ -248,25 +248,6 @@ impl Board {
         Ok(())
     }
 
-    // Whether one of the names that a message makes for these devices is too long.
-    fn has_long(
-        &self,
-        name: &Name,
-        devices: &[Name],
-        range: Option<Lengths>,
-    ) -> Result<bool, AllocError>
-        ensures { IfOk result (λ it. it ≡ list_any (λ device. is_long range (device_name (name_bytes name.now) (name_bytes device)))
-            devices.now) }
-    {
-        let mut is_any = false;
-        for device in devices {
-            if longest_text(self.alloc, name, device, range)?.len() > 32 {
-                is_any = true;
-            }
-        }
-        Ok(is_any)
-    }
-
     // The names that a message makes for these devices.
     fn device_names(&self, name: &Name, devices: &[Name]) -> Result<Vec<Name>, AllocError>
         ensures { IfOk result (λ it. map name_bytes it.items ≡
@@ -274,7 +255,7 @@ impl Board {
     {
         let mut names = Vec::new(self.alloc);
         for device in devices {
-            names.push(named_for(self.alloc, name, device)?)?;
+            push_device_name(self.alloc, &mut names, name, device)?;
         }
         Ok(names)
     }
@@ -301,13 +282,25 @@ impl Board {
         names: &[Name],
     ) -> Result<(), AllocError>
         ensures { OnOk result (map name_bytes further.new.items ≡ map name_bytes further.old.items ++
-            flat_map (λ name. members (name_bytes name) range) names.now) }
+            flat_map (λ name. members name range) (map name_bytes names.now)) }
     {
         for name in names {
-            let members = self.members(name, range)?;
-            push_all(self.alloc, further, members.as_slice())?;
+            self.push_members_of(further, range, name)?;
         }
         Ok(())
+    }
+
+    fn push_members_of(
+        &self,
+        further: &mut Vec<Name>,
+        range: Lengths,
+        name: &Name,
+    ) -> Result<(), AllocError>
+        ensures { OnOk result (map name_bytes further.new.items ≡ map name_bytes further.old.items ++
+            members (name_bytes name.now) range) }
+    {
+        let members = self.members(name, range)?;
+        push_all(self.alloc, further, members.as_slice())
     }
 
     /// Adds what a message makes by a group.
@@ -318,17 +311,34 @@ impl Board {
         frames: &FrameSyntax,
         group: &Name,
     ) -> Result<(), AllocError>
-        ensures { OnOk result ((others : List (List ℕ)) → draft self.new ≡
-            with_made (draft self.old) (name_bytes named.name) range (brief_frame frames.now) (name_bytes group.now ∷ others)) }
+        ensures { OnOk result (draft self.new ≡
+            with_made (draft self.old) (name_bytes named.name) range (brief_frame frames.now) (name_bytes group.now ∷ [])) }
     {
         let messages = self.grouped_meant(&named.name, range, frames, group)?;
         let names = self.device_names(&named.name, self.devices_of(group))?;
         self.push_messages(messages, named.line)?;
+        self.use_devices(group);
         self.add_families(range, names.as_slice())?;
-        self.grouped.push(NameList {
-            name: named.name,
-            names,
-        })?;
+        self.push_grouped(named.name, names)?;
+        Ok(())
+    }
+
+    // The devices of a group are used: a message has the group.
+    fn use_devices(&mut self, group: &Name)
+        ensures { draft self.new ≡ draft self.old }
+    {
+        if let Some(devices) = listed(self.groups.as_slice(), group) {
+            self.uses.devices(devices.names.as_slice());
+        }
+    }
+
+    // A message of this name makes these by a group.
+    fn push_grouped(&mut self, name: Name, names: Vec<Name>) -> Result<(), AllocError>
+        ensures { OnOk result (draft self.new ≡ record (draft self.old) {
+          grouped = (draft self.old).grouped ++ (name_bytes name, map name_bytes names.items) ∷ [];
+        }) }
+    {
+        self.grouped.push(NameList { name, names })?;
         Ok(())
     }
 
@@ -345,10 +355,27 @@ impl Board {
     {
         let mut messages = Vec::new(self.alloc);
         for device in self.devices_of(group) {
-            let mut further = self.device_meant(name, range, frames, group, device)?;
-            messages.append(&mut further)?;
+            self.push_device_meant(&mut messages, name, range, frames, group, device)?;
         }
         Ok(messages)
+    }
+
+    fn push_device_meant(
+        &self,
+        messages: &mut Vec<Message>,
+        name: &Name,
+        range: Option<Lengths>,
+        frames: &FrameSyntax,
+        group: &Name,
+        device: &Name,
+    ) -> Result<(), AllocError>
+        ensures { OnOk result (map message_of messages.new.items ≡ map message_of messages.old.items ++
+            device_meant (draft self.now) (name_bytes name.now) range (brief_frame frames.now) (name_bytes group.now)
+            (name_bytes device.now)) }
+    {
+        let mut further = self.device_meant(name, range, frames, group, device)?;
+        messages.append(&mut further)?;
+        Ok(())
     }
 
     // Those for one device.
@@ -377,7 +404,7 @@ impl Board {
     {
         match self.devices.get(device) {
             Some(address) => address,
-            None => Address::new(0, 0),
+            None => open_address(),
         }
     }
 
@@ -389,31 +416,8 @@ impl Board {
     {
         match range {
             None => Ok(()),
-            Some(range) => self.add_all_families(range, names),
+            Some(range) => self.families.add_all(self.alloc, names, range),
         }
-    }
-
-    fn add_all_families(&mut self, range: Lengths, names: &[Name]) -> Result<(), AllocError>
-        ensures { OnOk result (draft self.new ≡ record (draft self.old) {
-          families = (draft self.old).families ++ map (λ name. (name_bytes name, range)) names.now;
-        }) }
-    {
-        for name in names {
-            self.add_family(name, range)?;
-        }
-        Ok(())
-    }
-
-    fn add_family(&mut self, name: &Name, range: Lengths) -> Result<(), AllocError>
-        ensures { OnOk result (draft self.new ≡ record (draft self.old) {
-          families = (draft self.old).families ++ (name_bytes name.now, range) ∷ [];
-        }) }
-    {
-        if self.families.get(name).is_some() {
-            return Err(AllocError);
-        }
-        let name = copied(self.alloc, name)?;
-        self.families.add(name, range)
     }
 }
 
@@ -430,6 +434,13 @@ pub(crate) fn listed<'l>(lists: &'l [NameList], name: &Name) -> Option<&'l NameL
     None
 }
 
+// An address of which no bit is known.
+fn open_address() -> Address
+    ensures { result ≡ any_address }
+{
+    Address::new(0, 0)
+}
+
 // Whether one of these is another name.
 fn has_other(names: &[Name], name: &Name) -> bool
     ensures { result ≡ list_any (λ other. not (bytes_eq (name_bytes other) (name_bytes name.now))) names.now }
@@ -443,8 +454,43 @@ fn repeats(names: &[Name]) -> bool
 {
     match names {
         [] => false,
-        [first, rest @ ..] => rest.contains(first) || repeats(rest),
+        [first, rest @ ..] => {
+            let is_again = is_among(rest, first);
+            let is_later = repeats(rest);
+            is_again || is_later
+        }
     }
+}
+
+// Whether one of the names that a message makes for these devices is too long.
+fn has_long(
+    alloc: Global,
+    name: &Name,
+    devices: &[Name],
+    range: Option<Lengths>,
+) -> Result<bool, AllocError>
+    ensures { IfOk result (λ it. it ≡ list_any (is_long range)
+        (map (λ device. device_name (name_bytes name.now) (name_bytes device)) devices.now)) }
+{
+    match devices {
+        [] => Ok(false),
+        [device, others @ ..] => {
+            let one_is = is_long(alloc, name, device, range)?;
+            let others_are = has_long(alloc, name, others, range)?;
+            Ok(one_is || others_are)
+        }
+    }
+}
+
+fn is_long(
+    alloc: Global,
+    name: &Name,
+    device: &Name,
+    range: Option<Lengths>,
+) -> Result<bool, AllocError>
+    ensures { IfOk result (λ it. it ≡ is_long range (device_name (name_bytes name.now) (name_bytes device.now))) }
+{
+    Ok(longest_text(alloc, name, device, range)?.len() > 32)
 }
 
 // How many messages a name stands for.
@@ -456,6 +502,19 @@ fn how_many(range: Option<Lengths>) -> u32
         None => 1,
         Some(range) => count(range),
     }
+}
+
+fn push_device_name(
+    alloc: Global,
+    names: &mut Vec<Name>,
+    name: &Name,
+    device: &Name,
+) -> Result<(), AllocError>
+    ensures { OnOk result (map name_bytes names.new.items ≡ map name_bytes names.old.items ++
+        device_name (name_bytes name.now) (name_bytes device.now) ∷ []) }
+{
+    names.push(named_for(alloc, name, device)?)?;
+    Ok(())
 }
 
 // The name that a message makes for a device. It has the form of a name by then.

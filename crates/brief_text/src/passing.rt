@@ -33,7 +33,7 @@ pub(crate) struct Next {
 pub(crate) enum Gives {
     Nothing,
     One(Kind),
-    /// A group of devices, and with it names to what messages make by it.
+    /// A group of devices.
     Group,
     /// Its first word is none of items.
     Anything,

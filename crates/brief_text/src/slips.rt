@@ -247,10 +247,7 @@ impl<'a> Finder<'a> {
             over,
             may_be_name,
         };
-        if !self.board.groups.is_empty() {
-            self.passed.know_groups();
-        }
-        if !is_again && !self.passed.explains(&wrong) {
+        if !is_again && !self.passed.explains(&wrong, &self.board.devices) {
             self.add(text.file, refused)?;
         }
         self.keep(over, item.line)?;
@@ -277,15 +274,16 @@ impl<'a> Finder<'a> {
                 self.passed.add(None, over.first, false)?;
                 self.passed.add(None, over.second, false)
             }
+            Gives::One(kind) => self.keep_one(kind, over.second, line),
             Gives::Group => {
-                self.passed.lose_group();
-                self.keep_name(Kind::Device, over.second, line)
+                self.passed.add_group();
+                self.keep_one(Kind::Device, over.second, line)
             }
-            Gives::One(kind) => self.keep_name(kind, over.second, line),
         }
     }
 
-    fn keep_name(&mut self, kind: Kind, word: &'a [u8], line: u64) -> Result<(), AllocError> {
+    // Of this kind and this name.
+    fn keep_one(&mut self, kind: Kind, word: &'a [u8], line: u64) -> Result<(), AllocError> {
         match name_of(self.alloc, word)? {
             Some(name) => {
                 let stands = self.board.stand_in(kind, NameFound { name, line })?;

@@ -263,12 +263,13 @@ impl Board {
 
     // Whether a message is in the part of a label, which stands for these.
     fn is_in_part(&self, label: &Party, named: &[Name], message: &Name) -> Result<bool, AllocError>
-        ensures { map name_bytes named.now ≡ label_messages (draft self.now) (side label.now) →
-            IfOk result (λ it. it ≡ is_in_part (draft self.now) (labels_of (draft self.now) (side label.now).controller)
+        requires { map name_bytes named.now ≡ label_messages (draft self.now) (side label.now) }
+        ensures { IfOk result (λ it. it ≡ is_in_part (draft self.now) (labels_of (draft self.now) (side label.now).controller)
             (side label.now) (name_bytes message.now)) }
     {
         let is_of_device = self.is_of_device(label, message)?;
-        Ok(is_among(named, message) && (self.is_left_to(label, message) && !is_of_device))
+        let is_left = self.is_left_to(label, message) && !is_of_device;
+        Ok(is_among(named, message) && is_left)
     }
 
     // Whether a device for which the label stands has a label of its own, which stands for the message.
@@ -276,13 +277,27 @@ impl Board {
         ensures { IfOk result (λ it. it ≡ is_of_device (draft self.now)
             (labels_of (draft self.now) (side label.now).controller) (side label.now) (name_bytes message.now)) }
     {
-        let mut is_any = false;
-        for name in self.label_names(label) {
-            if self.is_of_labelled(&label.controller, message, name)? {
-                is_any = true;
+        self.is_of_one(&label.controller, message, self.label_names(label))
+    }
+
+    // Whether a label of this controller is one of these names, which stands for the message.
+    fn is_of_one(
+        &self,
+        controller: &Name,
+        message: &Name,
+        names: &[Name],
+    ) -> Result<bool, AllocError>
+        ensures { IfOk result (λ it. it ≡ list_any (is_of_labelled (draft self.now)
+            (labels_of (draft self.now) (name_bytes controller.now)) (name_bytes message.now)) (map name_bytes names.now)) }
+    {
+        match names {
+            [] => Ok(false),
+            [name, others @ ..] => {
+                let is_first = self.is_of_labelled(controller, message, name)?;
+                let is_other = self.is_of_one(controller, message, others)?;
+                Ok(is_first || is_other)
             }
         }
-        Ok(is_any)
     }
 
     // Whether a label of this controller is this name, which stands for the message.
@@ -295,8 +310,11 @@ impl Board {
         ensures { IfOk result (λ it. it ≡ is_of_labelled (draft self.now)
             (labels_of (draft self.now) (name_bytes controller.now)) (name_bytes message.now) (name_bytes name.now)) }
     {
+        if !self.has_label_of(controller, name) {
+            return Ok(false);
+        }
         let named = self.named_alone(name)?;
-        Ok(self.has_label_of(controller, name) && is_among(named.as_slice(), message))
+        Ok(is_among(named.as_slice(), message))
     }
 
     // The names of devices for which a label stands.
@@ -606,8 +624,8 @@ fn all_copied(alloc: Global, names: &[Name]) -> Result<Vec<Name>, AllocError>
     Ok(copies)
 }
 
-// Whether one of these is this name.
-fn is_among(names: &[Name], name: &Name) -> bool
+/// Whether one of these is this name.
+pub(crate) fn is_among(names: &[Name], name: &Name) -> bool
     ensures { result ≡ list_any (λ other. bytes_eq other (name_bytes name.now)) (map name_bytes names.now) }
 {
     names.contains(name)

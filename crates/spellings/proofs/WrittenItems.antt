@@ -24,16 +24,17 @@ use Rattle.plan_core.proofs.BuildingLemmas.{position-None, message_parts, contro
 use Rattle.plan_text.specs.Values.{address_by}
 use Rattle.spellings.proofs.CanonicalItems.{up_to_messages, up_to_controllers, message_fits, controller_fits, interrupt_fits}
 use Rattle.brief_text.specs.Codes.{at_start}
-use Rattle.brief_text.specs.Drafts.{Draft, with_item}
+use Rattle.brief_text.specs.Drafts.{Draft, with_item, with_made}
 use Rattle.brief_text.specs.Fitting.{Fits, ListFits, MakeUp}
-use Rattle.brief_text.specs.Judging.{message_refusal_of, is_taken, controller_refusal_of, all_of, sendings, listing_refusal}
+use Rattle.brief_text.specs.Items.{listed_refusal}
+use Rattle.brief_text.specs.Judging.{grouped_by, message_refusal_of, is_taken, controller_refusal_of, all_of, sendings, listing_refusal}
 use Rattle.brief_text.specs.Splitting.{Part, whole, parts}
 use Rattle.brief_text.specs.Trees.{Side, BriefItem}
 use Rattle.brief_text.specs.Words.{known_number}
 use Rattle.spellings.specs.Writing.{frame_brief, message_brief, controller_brief, interrupt_brief}
 use Rattle.brief_text.proofs.GrowLemmas.{each_within}
 use Rattle.brief_text.proofs.PathLemmas.{outline_of}
-use Rattle.spellings.proofs.WrittenFrames.{frame_said, frame_known, frame_free}
+use Rattle.spellings.proofs.WrittenFrames.{frame_said, frame_known, frame_free, frame_plain}
 
 -- ---- items of one kind, each of which fits what those before it make up
 
@@ -92,6 +93,8 @@ module _ (plan : Contents) where
     bytes = [];
     plan = record { messages = ms; controllers = []; interrupts = is; nevers = [] };
     families = [];
+    groups = [];
+    grouped = [];
     controllers = map listed cs;
     labels = [];
     nevers = map sides ns;
@@ -127,12 +130,15 @@ module _ (plan : Contents) where
             knows = frame_known d x.1;
             ranges = frame_free x.1;
             members = tt;
+            grouped = ap (λ (groups : List (List ℕ)). grouped_by d x.0 None groups 0 None) (frame_plain d x.1);
             each = each_within d x.0 None (frame_brief x.1) (outline_of d 1 (frame_brief x.1) (ap size_refusal (frame_said d 1 x.1 at_start) ∙ fit.1));
           }
 
       pub message_adds_here : with_item (staged before [] [] []) (message_brief x) ≡ staged (before ++ (x ∷ [])) [] [] []
       unfolding with_item with_message
-      message_adds_here = λ i. staged (before ++ ((x.0, frame_said (staged before [] [] []) 1 x.1 at_start i) ∷ [])) [] [] []
+      message_adds_here =
+          ap (with_made (staged before [] [] []) x.0 None (frame_brief x.1)) (frame_plain (staged before [] [] []) x.1)
+          ∙ (λ i. staged (before ++ ((x.0, frame_said (staged before [] [] []) 1 x.1 at_start i) ∷ [])) [] [] [])
 
     -- ---- controllers
 
@@ -152,7 +158,7 @@ module _ (plan : Contents) where
           let room : nat_lt MOST_SENDINGS (sending_count before + length first + 1) ≡ false = le-ltb MOST_SENDINGS (sending_count before + length first + 1) (omega (arith, few)) in
           rw (known, all_are first, new, sendings_are, room) refl
 
-      may_list : (first names : List (List ℕ)) → list_refusal (up_to_controllers plan before) first names ≡ None → ListFits here [] first names
+      may_list : (first names : List (List ℕ)) → list_refusal (up_to_controllers plan before) first names ≡ None → ListFits (listed_refusal here []) first names
       may_list first [] e = tt
       may_list first (n ∷ names) e =
           let a = name_allowed (up_to_controllers plan before) first n names e in
