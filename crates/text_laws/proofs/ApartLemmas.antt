@@ -86,7 +86,7 @@ module _ (draft : Draft) (sound : Sound draft) where
             listed = all m (subst (λ (q : Part). In m q.messages) e inside);
             rest = λ none s k same i. subst (λ (ls : List Side). In s ls) are (own_label c.0 s k (same ∙ ap (λ (q : Part). q.side.controller) e));
             labelled = λ l is. let none : None ≡ Some l = sym (ap (λ (q : Part). q.side.label) e) ∙ is in absurd cc;
-            nearest = λ l is. let none : None ≡ Some l = sym (ap (λ (q : Part). q.side.label) e) ∙ is in absurd cc;
+                    nearest = λ l is. let none : None ≡ Some l = sym (ap (λ (q : Part). q.side.label) e) ∙ is in absurd cc;
           }
           by [] are (inr k) = absurd k
           by (t ∷ ts) are k = split (from_filter sends_any (rest_part draft (t ∷ ts) c.1 c.0 ∷ map (label_part draft (t ∷ ts) c.1) (t ∷ ts)) p k).0
@@ -104,7 +104,6 @@ module _ (draft : Draft) (sound : Sound draft) where
                         not_both (holds m (flat_map (label_messages draft) (t ∷ ts))) (in_holds m _ (in_flat (label_messages draft) (t ∷ ts) s m (own s i (same ∙ ap (λ (q : Part). q.side.controller) e)) j)) (not_true _ f.1);
                     labelled = λ l is. let none : None ≡ Some l = sym (ap (λ (q : Part). q.side.label) e) ∙ is in absurd cc;
                     nearest = λ l is. let none : None ≡ Some l = sym (ap (λ (q : Part). q.side.label) e) ∙ is in absurd cc;
-            nearest = λ l is. let none : None ≡ Some l = sym (ap (λ (q : Part). q.side.label) e) ∙ is in absurd cc;
                   }
               split (inr i) = of_label f.0 f.1 f.2
                 where

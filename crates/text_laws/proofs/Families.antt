@@ -19,7 +19,7 @@ use Rattle.plan_core.specs.declared.builder.BuildError.TheVariants.{Twice}
 use Rattle.plan_core.specs.Contents.{Contents}
 use Rattle.plan_core.specs.Limits.{IsWithinLimits}
 use Rattle.plan_core.specs.Names.{IsName, is_name_byte}
-use Rattle.plan_core.specs.declared.limits.TheConstants.{MOST_MESSAGES, MOST_CONTROLLERS}
+use Rattle.plan_core.specs.declared.limits.TheConstants.{MOST_MESSAGES, MOST_CONTROLLERS, MOST_BYTES, MOST_NODES}
 use Rattle.plan_core.proofs.BuildingLemmas.{passes, message_name_allowed, size_allowed, size_fits, message_fits, limits-message, same-bytes_eq, bytes_eq-same}
 use Rattle.brief_text.specs.declared.syntax.Lengths.{Lengths}
 use Rattle.brief_text.specs.Codes.{at_start}
@@ -81,13 +81,13 @@ name_free plan name new few = rw (new, lt-leb MOST_MESSAGES (length plan.message
 messages_within : (made : Messages) (plan : Contents) → IsWithinLimits plan → ((m : List ℕ) → In m (keys_of made) → IsName m) → Distinct (keys_of made) → ((m : List ℕ) → In m (keys_of made) → In m (keys_of plan.messages) → ⊥)
     → length plan.messages + length made ≤ MOST_MESSAGES → ((x : List ℕ × FrameTree) → In x made → IsWithin x) → IsWithinLimits (with_messages plan made)
 unfolding with_message
-messages_within [] plan limits named once new room each = limits
-messages_within (m ∷ made) plan limits named once new room each =
+messages_within [] plan limits names_of once new room each = limits
+messages_within (m ∷ made) plan limits names_of once new room each =
     let sized = size_allowed m.1 (each m (inl refl)) in
     let free = name_free plan m.0 (number_none m.0 plan.messages (new m.0 (inl refl))) (omega (arith, room)) in
-    let next = limits-message plan m.0 m.1 limits (named m.0 (inl refl)) (message_fits plan m.0 m.1 free sized.0 sized.1) in
+    let next = limits-message plan m.0 m.1 limits (names_of m.0 (inl refl)) (message_fits plan m.0 m.1 free sized.0 sized.1) in
     let size = length_push plan.messages (m.0, m.1) in
-    messages_within made (with_message plan m.0 m.1) next (λ n h. named n (inr h)) once.1 later (omega (arith, size, room)) (λ x h. each x (inr h))
+    messages_within made (with_message plan m.0 m.1) next (λ n h. names_of n (inr h)) once.1 later (omega (arith, size, room)) (λ x h. each x (inr h))
   where
     later : (n : List ℕ) → In n (keys_of made) → In n (keys_of (plan.messages ++ (m.0, m.1) ∷ [])) → ⊥
     later n h g = by (in_keys_either n plan.messages ((m.0, m.1) ∷ []) g)
@@ -154,7 +154,7 @@ in_families a None heads r e = absurd cc
 in_families a (Some q) [] r e = absurd cc
 in_families a (Some q) (h ∷ heads) r e = by (bytes_eq a h) refl e (in_families a (Some q) heads r)
   where
-    by : (t : Bool) → bytes_eq a h ≡ t → cond t (Some q) (family_of a (families_of (Some q) heads)) ≡ Some r → (family_of a (families_of (Some q) heads) ≡ Some r → In a heads × (some q ≡ Some r)) → In a (h ∷ heads) × (some q ≡ Some r)
+    by : (t : Bool) → bytes_eq a h ≡ t → cond t (Some q) (family_of a (families_of (Some q) heads)) ≡ Some r → (family_of a (families_of (Some q) heads) ≡ Some r → In a heads × (Some q ≡ Some r)) → In a (h ∷ heads) × (Some q ≡ Some r)
     by true is g later = (inl (same-bytes_eq a h is), g)
     by false is g later = let f = later g in (inr f.0, f.1)
 
@@ -539,7 +539,7 @@ module _ (draft : Draft) (first : List ℕ × Address) (frame : BriefFrame) wher
       let before = size_allowed (frame_meant draft n frame) (outline_of draft n frame e) in
       let same = frame_same draft None (Some first) n frame in
       on_outline (standing draft (Some first)) n frame
-      (size_fits (frame_meant (standing draft (Some first)) n frame) (subst (λ k. k ≤ _) same.1 before.0) (subst (λ k. k ≤ _) same.0 before.1))
+      (size_fits (frame_meant (standing draft (Some first)) n frame) (subst (λ (k : ℕ). k ≤ MOST_BYTES) same.1 before.0) (subst (λ (k : ℕ). k ≤ MOST_NODES) same.0 before.1))
 
   each_fits : (name made : List ℕ) (range : Option Lengths) → ((x : List ℕ × FrameTree) → In x (messages_meant draft name range frame) → IsWithin x) → (x : List ℕ × FrameTree) → In x (messages_meant (standing draft (Some first)) made range frame) → IsWithin x
   each_fits name made None all x (inl e) = subst IsWithin (sym e) (frame_fits 1 (all (name, frame_on draft 1 frame at_start) (inl refl)))
@@ -675,7 +675,7 @@ members_count h None = refl
 members_count h (Some range) = length-map (lengths range) (member_name h)
 
 all_count : (range : Option Lengths) (heads : List (List ℕ)) → length (all_made range heads) ≡ length heads * how_many range
-all_count range [] = refl
+all_count range [] = omega (arith)
 all_count range (h ∷ heads) =
     let sum = length-append (members_or h range) (all_made range heads) in
     let rest = all_count range heads in

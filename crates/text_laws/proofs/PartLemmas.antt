@@ -1,5 +1,5 @@
 -- Each message that a controller lists is in exactly one of its parts; the parts of a sound draft.
-use Rattle.std.proofs.Common.{◌≡◌, ℕ, ◌⊎◌, inl, inr, ◌&&◌, Bool, true, false, not, cond, List, [], ◌∷◌, map, Option, Some, None, refl, ap, sym, ◌∙◌, subst, arith, true≢false, ◌+◌, length}
+use Rattle.std.proofs.Common.{◌≡◌, ℕ, ◌⊎◌, inl, inr, ◌&&◌, ◌||◌, Bool, true, false, not, cond, List, [], ◌∷◌, map, Option, Some, None, refl, ap, sym, ◌∙◌, subst, arith, true≢false, ◌+◌, length}
 use Rattle.std.proofs.lemmas.Grind.{common_steps}
 use Rattle.std.specs.List.{list_any, filter, flat_map, count_by, sum_by}
 use Rattle.std.specs.Str.{bytes_eq}
@@ -140,11 +140,11 @@ module _ (draft : Draft) (labels : List Side) (m : List ℕ) (several : Several 
             both_parts false q e = absurd cc
 
             label_of : (t : Side) (n : List ℕ) → is_label n t ≡ true → t.label ≡ Some n
-            label_of t n h = by t.label refl h
+            label_of t n h = option_of t.label refl h
               where
-                by : (o : Option (List ℕ)) → t.label ≡ o → (elim o [ None ↦ false | Some label ↦ bytes_eq label n ]) ≡ true → t.label ≡ Some n
-                by None e g = absurd (true≢false (sym g))
-                by (Some label) e g = e ∙ ap (λ (x : List ℕ). Some x) (same-bytes_eq label n g)
+                option_of : (o : Option (List ℕ)) → t.label ≡ o → (elim o [ None ↦ false | Some label ↦ bytes_eq label n ]) ≡ true → t.label ≡ Some n
+                option_of None e g = absurd (true≢false (sym g))
+                option_of (Some label) e g = e ∙ ap (λ (x : List ℕ). Some x) (same-bytes_eq label n g)
 
     few_there : (sides : List Side) → ((s : Side) → In s sides → In s labels) → Distinct sides → AtMostOne there sides
     few_there [] within once = tt

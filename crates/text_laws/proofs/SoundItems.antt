@@ -380,7 +380,7 @@ module _ (draft : Draft) (sound : Sound draft) where
                 no_nevers = sound.no_nevers;
                 families = sound.families;
                 grouped = sound.grouped;
-      devices = sound.devices;
+                devices = sound.devices;
                 controllers = sound.controllers;
                 labels = record {
                   once = subst Distinct (sym (map-append side_name draft.labels (side ∷ []))) (distinct_push (map side_name draft.labels) (side_name side) sound.labels.once (λ g. taken (in_right (side_name side) (keys_of draft.controllers) (map side_name draft.labels) g)));
