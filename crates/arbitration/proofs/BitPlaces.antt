@@ -28,7 +28,7 @@ is_within xs k b h = slice_get_within xs k b h
 one_bit : (bs : List Bit) (k : ℕ) (b c : Bit) → slice_get bs k ≡ Some b → slice_get bs k ≡ Some c → b ≡ c
 one_bit bs k b c e f = let g : Some b ≡ Some c = sym e ∙ f in cc
 
-never_part : (bs : List Bit) → NeverSplit bs bs
+pub never_part : (bs : List Bit) → NeverSplit bs bs
 never_part bs k (inl h) = let e = one_bit bs k Zero One h.0 h.1 in cc
 never_part bs k (inr h) = let e = one_bit bs k One Zero h.0 h.1 in cc
 
@@ -116,13 +116,9 @@ module _ (bs cs : List Bit) (c d : Choices) (is : AreChoices bs c) (are : AreCho
   splits_at : (x y : Bit) (agree : ℕ) → slice_get bs k ≡ Some x → slice_get cs k ≡ Some y → agree ≡ max (min (zero_of x) (zero_of y)) (min (one_of x) (one_of y)) → 1 - agree ≡ 1 → SplitAt bs cs k
   splits_at Zero One agree e f g h = inl (e, f)
   splits_at One Zero agree e f g h = inr (e, f)
-  splits_at Zero Zero agree e f g h = absurd (omega (arith, g, h))
-  splits_at Zero Either agree e f g h = absurd (omega (arith, g, h))
-  splits_at One One agree e f g h = absurd (omega (arith, g, h))
-  splits_at One Either agree e f g h = absurd (omega (arith, g, h))
   splits_at Either Zero agree e f g h = absurd (omega (arith, g, h))
   splits_at Either One agree e f g h = absurd (omega (arith, g, h))
-  splits_at Either Either agree e f g h = absurd (omega (arith, g, h))
+  splits_at x y agree e f g h = absurd (omega (arith, g, h))
 
   split_digit : Agree < 2 ^ 8 → SplitAt bs cs k → HasDigit (bit_not w8 Agree) k
   split_digit l (inl h) =

@@ -22,7 +22,7 @@ use Rattle.arbitration.specs.declared.spans.Outcomes.{Outcomes}
 use Rattle.arbitration.specs.Spans.{IsSpan, union_of, after_of, After}
 use Rattle.arbitration.specs.Ways.{Way, both_end, first_wins, second_wins, put_first, put_second, Goes, span_of, AreOutcomes, AllHaveRoom, PartsAt, ArePartings, ReadsApart, AreReadsApart, Answered, AckedText, header_of}
 use Rattle.arbitration.proofs.SpanLemmas.{span_union, span_after, span_same, span_between, room}
-use Rattle.arbitration.proofs.Meetings.{some_bit, goes_sent, parts_here, goes_after_sent, goes_answer, goes_after_acked, goes_after_refused, goes_again, goes_after_again}
+use Rattle.arbitration.proofs.Meetings.{other, turned, sent_prefix, goes_sent, parts_here, goes_after_sent, goes_answer, goes_after_acked, goes_after_refused, goes_again, goes_after_again}
 use Rattle.arbitration.proofs.ReadMeetings.{some_bytes, Common, goes_read, reads_apart, goes_after_read}
 
 -- ---- bits, and the answer to them
@@ -123,17 +123,11 @@ stop_again first_wins P [] v w p q = q
 stop_again second_wins P [] v w p q = q
 stop_again way P (x ∷ u) v w p q = let e = (only_first (put_first way) Stop (x ∷ u) v p).0 in cc
 
-again_stop : (way : Way) (P : Language) (u v w : List Item) → AgainThen P (u ++ put_first way ∷ v) → Only Stop (u ++ put_second way ∷ w) → ⊥
-again_stop both_end P [] v w p q = p
-again_stop first_wins P [] v w p q = p
-again_stop second_wins P [] v w p q = p
-again_stop way P (x ∷ u) v w p q = let e = (only_first (put_second way) Stop (x ∷ u) w q).0 in cc
-
 pub stop_meets_again : (f : FrameTree) (way : Way) (k : ℕ) → Goes way (TailText stop) (TailText (again f)) k → ⊥
 stop_meets_again f way k g = stop_again way (FrameText f) g.wire g.first.0 g.second.0 g.first.1 g.second.1
 
 pub again_meets_stop : (f : FrameTree) (way : Way) (k : ℕ) → Goes way (TailText (again f)) (TailText stop) k → ⊥
-again_meets_stop f way k g = again_stop way (FrameText f) g.wire g.first.0 g.second.0 g.first.1 g.second.1
+again_meets_stop f way k g = stop_meets_again f (other way) k (turned way (TailText (again f)) (TailText stop) k g)
 
 -- a tail begins with no bit
 tail_begins : (t : TailTree) (s : Bool) (u : List Item) → TailText t (Sent s ∷ u) → ⊥
@@ -147,22 +141,14 @@ sent_tail second_wins b bs P t [] v w p q = tail_begins t _ w q
 sent_tail way b bs P t (Sent s ∷ u) v w p q = tail_begins t s (u ++ put_second way ∷ w) q
 sent_tail way b bs P t (_ ∷ u) v w p q = p
 
-tail_sent : (way : Way) (b : Bit) (bs : List Bit) (P : Language) (t : TailTree) (u v w : List Item) → TailText t (u ++ put_first way ∷ v) → SentThen (b ∷ bs) P (u ++ put_second way ∷ w) → ⊥
-tail_sent both_end b bs P t [] v w p q = q
-tail_sent first_wins b bs P t [] v w p q = tail_begins t _ v p
-tail_sent second_wins b bs P t [] v w p q = tail_begins t _ v p
-tail_sent way b bs P t (Sent s ∷ u) v w p q = tail_begins t s (u ++ put_first way ∷ v) p
-tail_sent way b bs P t (_ ∷ u) v w p q = q
-
 pub byte_meets_last : (a : Pattern) (x : PayloadTree) (r t : TailTree) (way : Way) (k : ℕ) → Goes way (PayloadText (byte a x r)) (PayloadText (last t)) k → ⊥
 unfolding pattern_bits
 byte_meets_last a x r t way k g =
     sent_tail way (bit_from (bit_at a.known 7) (bit_at a.value 7)) (bits_below 7 a.known a.value) (AnswerThen (PayloadText x) (TailText r)) t g.wire g.first.0 g.second.0 g.first.1 g.second.1
 
 pub last_meets_byte : (a : Pattern) (x : PayloadTree) (r t : TailTree) (way : Way) (k : ℕ) → Goes way (PayloadText (last t)) (PayloadText (byte a x r)) k → ⊥
-unfolding pattern_bits
 last_meets_byte a x r t way k g =
-    tail_sent way (bit_from (bit_at a.known 7) (bit_at a.value 7)) (bits_below 7 a.known a.value) (AnswerThen (PayloadText x) (TailText r)) t g.wire g.first.0 g.second.0 g.first.1 g.second.1
+    byte_meets_last a x r t (other way) k (turned way (PayloadText (last t)) (PayloadText (byte a x r)) k g)
 
 -- ---- room in a u32
 
@@ -176,13 +162,6 @@ length_of_header a z = refl
 pub length_of_data : (a : Pattern) → length (pattern_bits a) ≡ 8
 unfolding pattern_bits
 length_of_data a = refl
-
-sent_prefix : (bs : List Bit) (P : Language) (u : List Item) → P u → (v : List Item) × SentThen bs P v × (length v ≡ length bs + length u)
-sent_prefix [] P u h = (u, h, omega arith)
-sent_prefix (b ∷ bs) P u h =
-    let s = some_bit b in
-    let r = sent_prefix bs P u h in
-    (Sent s.0 ∷ r.0, (s.1, r.1), omega (arith, r.2))
 
 some_slots : (x : PayloadTree) → 1 ≤ payload_slots x
 some_slots (byte a x r) = omega arith
@@ -235,16 +214,9 @@ some_read c t =
     let r = some_bytes (c.least - 1) (TailText t) (lawful_tail t).some in
     (r.0, (c.least - 1, (omega arith, omega arith), r.1))
 
-module _ (bs cs : List Bit) (x y : PayloadTree) (r s : TailTree) (l : length bs ≡ 8) (m : length cs ≡ 8) where
-  abbrev FirstBytes : Language
-  FirstBytes = SentThen bs (AnswerThen (PayloadText x) (TailText r))
-
-  abbrev SecondBytes : Language
-  SecondBytes = SentThen cs (AnswerThen (PayloadText y) (TailText s))
-
-  pub bytes_part : (o : Outcomes) → ((k : ℕ) × SplitAt bs cs k) → ArePartings bs cs o → AreOutcomes FirstBytes SecondBytes o
-  bytes_part o k h =
-      parted bs cs (AnswerThen (PayloadText x) (TailText r)) (AnswerThen (PayloadText y) (TailText s)) o (l ∙ sym m) k (some_answer (PayloadText x) (TailText r) (lawful_payload x).some) (some_answer (PayloadText y) (TailText s) (lawful_payload y).some) h
+pub bytes_part : (a b : Pattern) (x y : PayloadTree) (r s : TailTree) (o : Outcomes) → ((k : ℕ) × SplitAt (pattern_bits a) (pattern_bits b) k) → ArePartings (pattern_bits a) (pattern_bits b) o → AreOutcomes (PayloadText (byte a x r)) (PayloadText (byte b y s)) o
+bytes_part a b x y r s o k h =
+    parted (pattern_bits a) (pattern_bits b) (AnswerThen (PayloadText x) (TailText r)) (AnswerThen (PayloadText y) (TailText s)) o (length_of_data a ∙ sym (length_of_data b)) k (some_answer (PayloadText x) (TailText r) (lawful_payload x).some) (some_answer (PayloadText y) (TailText s) (lawful_payload y).some) h
 
 pub reads_only_part : (c d : Count) (x y : TailTree) (o : Outcomes) → (Meet c d → ⊥) → AreReadsApart c d o → AreOutcomes (ReadThen c (TailText x)) (ReadThen d (TailText y)) o
 reads_only_part c d x y o n h =

@@ -15,7 +15,6 @@ use Rattle.plan_core.specs.Participants.{TextOf, sender_at}
 use Rattle.arbitration.specs.declared.frames.Entry.{Entry}
 use Rattle.arbitration.specs.declared.senders.Sent.{Sent}
 use Rattle.arbitration.specs.declared.senders.Sent.TheVariants.{Message, Interrupt}
-use Rattle.arbitration.specs.declared.spans.Slots.{Slots}
 use Rattle.arbitration.specs.declared.spans.Outcomes.{Outcomes}
 use Rattle.arbitration.specs.Arbitration.{GoesOn, EndTogether, Wins}
 use Rattle.arbitration.specs.Frames.{Names, Grows, trees_of}
@@ -38,28 +37,19 @@ pub stops : (s : Sender) (u : List Item) → GoesOn (SenderText s) u Stop → Se
 stops (message f) u h = stop_is_last Stop (SenderText (message f)) u h.0 (lawful_frame f).ends h.1
 stops (interrupt a) u h = stop_is_last Claim (SenderText (interrupt a)) u h.0 (lawful_interrupt a).ends h.1
 
-module _ (s t : Sender) (o : Outcomes) (h : AreOutcomes (SenderText s) (SenderText t) o) where
-  pub both_span : IsSpan (EndTogether (SenderText s) (SenderText t)) o.both
+-- of two participants who send this
+module _ (p q : Option Sender) (s t : Sender) (e : p ≡ Some s) (f : q ≡ Some t) (o : Outcomes) (h : AreOutcomes (SenderText s) (SenderText t) o) where
+  pub both_span : IsSpan (EndTogether (TextOf p) (TextOf q)) o.both
   both_span =
-      span_same (Goes both_end (SenderText s) (SenderText t)) (EndTogether (SenderText s) (SenderText t)) o.both (λ k g. record { wire = g.wire; slot = g.slot; first = stops s g.wire g.first; second = stops t g.wire g.second }) (λ k g. record { wire = g.wire; slot = g.slot; first = ([], g.first); second = ([], g.second) }) (h both_end)
+      rw (e, f) (span_same (Goes both_end (SenderText s) (SenderText t)) (EndTogether (SenderText s) (SenderText t)) o.both (λ k g. record { wire = g.wire; slot = g.slot; first = stops s g.wire g.first; second = stops t g.wire g.second }) (λ k g. record { wire = g.wire; slot = g.slot; first = ([], g.first); second = ([], g.second) }) (h both_end))
 
-  pub first_span : IsSpan (Wins (SenderText s) (SenderText t)) o.first
+  pub first_span : IsSpan (Wins (TextOf p) (TextOf q)) o.first
   first_span =
-      span_same (Goes first_wins (SenderText s) (SenderText t)) (Wins (SenderText s) (SenderText t)) o.first (λ k g. record { wire = g.wire; slot = g.slot; winner = g.first; loser = g.second }) (λ k g. record { wire = g.wire; slot = g.slot; first = g.winner; second = g.loser }) (h first_wins)
+      rw (e, f) (span_same (Goes first_wins (SenderText s) (SenderText t)) (Wins (SenderText s) (SenderText t)) o.first (λ k g. record { wire = g.wire; slot = g.slot; winner = g.first; loser = g.second }) (λ k g. record { wire = g.wire; slot = g.slot; first = g.winner; second = g.loser }) (h first_wins))
 
-  pub second_span : IsSpan (Wins (SenderText t) (SenderText s)) o.second
+  pub second_span : IsSpan (Wins (TextOf q) (TextOf p)) o.second
   second_span =
-      span_same (Goes second_wins (SenderText s) (SenderText t)) (Wins (SenderText t) (SenderText s)) o.second (λ k g. record { wire = g.wire; slot = g.slot; winner = g.second; loser = g.first }) (λ k g. record { wire = g.wire; slot = g.slot; first = g.loser; second = g.winner }) (h second_wins)
-
--- the same of two participants who send this
-module _ (p q : Option Sender) (s t : Sender) (e : p ≡ Some s) (f : q ≡ Some t) (o : Option Slots) where
-  pub both_of_pair : IsSpan (EndTogether (SenderText s) (SenderText t)) o → IsSpan (EndTogether (TextOf p) (TextOf q)) o
-  both_of_pair h =
-      subst (λ (a : Option Sender). IsSpan (EndTogether (TextOf a) (TextOf q)) o) (sym e) (subst (λ (b : Option Sender). IsSpan (EndTogether (SenderText s) (TextOf b)) o) (sym f) h)
-
-  pub first_of_pair : IsSpan (Wins (SenderText s) (SenderText t)) o → IsSpan (Wins (TextOf p) (TextOf q)) o
-  first_of_pair h =
-      subst (λ (a : Option Sender). IsSpan (Wins (TextOf a) (TextOf q)) o) (sym e) (subst (λ (b : Option Sender). IsSpan (Wins (SenderText s) (TextOf b)) o) (sym f) h)
+      rw (e, f) (span_same (Goes second_wins (SenderText s) (SenderText t)) (Wins (SenderText t) (SenderText s)) o.second (λ k g. record { wire = g.wire; slot = g.slot; winner = g.second; loser = g.first }) (λ k g. record { wire = g.wire; slot = g.slot; first = g.loser; second = g.winner }) (h second_wins))
 
 -- two of whom one interrupts part in the header, or come to nothing
 pub interrupted : (known : List FrameTree) (v w : Sent) (s t : Sender) (o : Outcomes) → IsSent known v s → IsSent known w t → ((m n : ℕ) → v ≡ Message m → w ≡ Message n → ⊥) → ArePartings (header_of s) (header_of t) o → AreOutcomes (SenderText s) (SenderText t) o
