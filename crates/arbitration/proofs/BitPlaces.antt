@@ -2,7 +2,8 @@
 use Rattle.std.proofs.Common.{◌≡◌, ◌≢◌, ℕ, zero, suc, ◌+◌, ◌-◌, ◌*◌, ◌/◌, ◌%◌, ◌^◌, ◌<◌, ◌≤◌, ◌↔◌, min, max, Bool, true, false, not, nat_eq, IsTrue, Option, Some, slice_get, bit_and, bit_or, List, length, refl, sym, ◌∙◌, subst, arith, inl, inr}
 use Rattle.std.specs.Int.{bit_at, bit_not, w8, trailing_zeros}
 use Rattle.std.specs.Int.Count.{count_leading_zeros}
-use Rattle.std.proofs.Math.Nat.{div-eq_of_lt-le}
+use Rattle.std.proofs.Math.Nat.{div-eq_of_lt-le, pow-succ'}
+use Rattle.std.proofs.Math.Pow.{pow_mono}
 use Rattle.std.proofs.lemmas.Bool.{cases_lt}
 use Rattle.std.proofs.lemmas.Bool.Decides.{nat_tests}
 use Rattle.std.proofs.lemmas.Nat.{leading_top}
@@ -159,15 +160,7 @@ none_before places k e j l h = let g = subst (λ (n : ℕ). HasDigit n j) e h in
 
 -- 2 ^ (t + 1) - 1, as it is computed
 pub ones_below : (t : ℕ) → t < 8 → 2 * 2 ^ t % 2 ^ 32 - 1 ≡ 2 ^ suc t - 1
-ones_below zero l = refl
-ones_below (suc zero) l = refl
-ones_below (suc (suc zero)) l = refl
-ones_below (suc (suc (suc zero))) l = refl
-ones_below (suc (suc (suc (suc zero)))) l = refl
-ones_below (suc (suc (suc (suc (suc zero))))) l = refl
-ones_below (suc (suc (suc (suc (suc (suc zero)))))) l = refl
-ones_below (suc (suc (suc (suc (suc (suc (suc zero))))))) l = refl
-ones_below (suc (suc (suc (suc (suc (suc (suc (suc t)))))))) l = absurd (omega (arith, l))
+ones_below t l = let m : 2 ^ t ≤ 2 ^ 7 = pow_mono (omega (arith, l)) in omega (arith, m, pow-succ' 2 t)
 
 -- some place is a split where some digit is 1
 pub is_some : (bs cs : List Bit) (splits : ℕ) → splits < 2 ^ 8 → ((k : ℕ) → HasDigit splits k ↔ SplitAt bs cs k) → IsTrue (not (nat_eq splits 0)) ↔ ((k : ℕ) × SplitAt bs cs k)

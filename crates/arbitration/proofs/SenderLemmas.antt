@@ -1,7 +1,6 @@
 -- The outcomes of two participants, in the words of the contract.
 use Rattle.std.proofs.Common.{◌≡◌, ℕ, ◌<◌, length, Option, Some, List, [], ◌∷◌, ◌++◌, append_assoc, refl, ap, sym, ◌∙◌, subst, inl, inr}
 use Rattle.message_tree.specs.declared.bits.Address.{Address}
-use Rattle.message_tree.specs.declared.bits.Bit.{Bit}
 use Rattle.message_tree.specs.declared.bits.Bit.TheVariants.{One}
 use Rattle.message_tree.specs.declared.items.Item.{Item}
 use Rattle.message_tree.specs.declared.items.Item.TheVariants.{Stop, Claim}
@@ -21,9 +20,10 @@ use Rattle.arbitration.specs.Frames.{Names, Grows, trees_of}
 use Rattle.arbitration.specs.Plans.{AllSend}
 use Rattle.arbitration.specs.Senders.{IsSent}
 use Rattle.arbitration.specs.Spans.{IsSpan}
-use Rattle.arbitration.specs.Ways.{both_end, first_wins, second_wins, Goes, AreOutcomes, ArePartings, header_of}
+use Rattle.arbitration.specs.Ways.{Way, both_end, first_wins, second_wins, Goes, AreOutcomes, ArePartings, header_of}
 use Rattle.arbitration.proofs.FrameLemmas.{named_within, name_grown, pushed_at}
-use Rattle.arbitration.proofs.Nodes.{message_and_interrupt, interrupt_and_message, two_interrupts}
+use Rattle.arbitration.proofs.Meetings.{other, turned}
+use Rattle.arbitration.proofs.Nodes.{length_of_header, length_of_first, AfterHeader, headers_part, after_claim}
 use Rattle.arbitration.proofs.SpanLemmas.{span_same}
 
 -- a STOP is the last item
@@ -51,21 +51,23 @@ module _ (p q : Option Sender) (s t : Sender) (e : p ≡ Some s) (f : q ≡ Some
   second_span =
       rw (e, f) (span_same (Goes second_wins (SenderText s) (SenderText t)) (Wins (SenderText t) (SenderText s)) o.second (λ k g. record { wire = g.wire; slot = g.slot; winner = g.second; loser = g.first }) (λ k g. record { wire = g.wire; slot = g.slot; first = g.loser; second = g.winner }) (h second_wins))
 
+header_length : (known : List FrameTree) (v : Sent) (s : Sender) → IsSent known v s → length (header_of s) ≡ 8
+header_length known v (message f) i = length_of_first f
+header_length known (Message n) (interrupt bits) i = absurd i
+header_length known (Interrupt a) (interrupt bits) i = rw i (length_of_header a One)
+
+one_claims : (known : List FrameTree) (v w : Sent) (s t : Sender) → IsSent known v s → IsSent known w t → ((m n : ℕ) → v ≡ Message m → w ≡ Message n → ⊥) → (way : Way) (k : ℕ) → Goes way (AfterHeader s) (AfterHeader t) k → ⊥
+one_claims known v w (interrupt a) t i j never way k g = after_claim way (AfterHeader t) k g
+one_claims known v w (message f) (interrupt b) i j never way k g =
+    after_claim (other way) (AfterHeader (message f)) k (turned way (AfterHeader (message f)) (AfterHeader (interrupt b)) k g)
+one_claims known (Message m) (Message n) (message f) (message g) i j never way k h = never m n refl refl
+one_claims known (Interrupt a) w (message f) (message g) i j never way k h = i
+one_claims known v (Interrupt b) (message f) (message g) i j never way k h = j
+
 -- two of whom one interrupts part in the header, or come to nothing
 pub interrupted : (known : List FrameTree) (v w : Sent) (s t : Sender) (o : Outcomes) → IsSent known v s → IsSent known w t → ((m n : ℕ) → v ≡ Message m → w ≡ Message n → ⊥) → ArePartings (header_of s) (header_of t) o → AreOutcomes (SenderText s) (SenderText t) o
-interrupted known (Message m) (Message n) s t o i j never h = absurd (never m n refl refl)
-interrupted known (Message m) (Interrupt b) (message x) (message y) o i j never h = absurd j
-interrupted known (Message m) (Interrupt b) (message x) (interrupt y) o i j never h =
-    rw j (message_and_interrupt x b (header_of (message x)) (header_of (interrupt y)) o refl (ap (λ (bits : List Bit). bits ++ One ∷ []) j) h)
-interrupted known (Message m) (Interrupt b) (interrupt x) t o i j never h = absurd i
-interrupted known (Interrupt a) (Message n) (message x) t o i j never h = absurd i
-interrupted known (Interrupt a) (Message n) (interrupt x) (message y) o i j never h =
-    rw i (interrupt_and_message a y (header_of (interrupt x)) (header_of (message y)) o (ap (λ (bits : List Bit). bits ++ One ∷ []) i) refl h)
-interrupted known (Interrupt a) (Message n) (interrupt x) (interrupt y) o i j never h = absurd j
-interrupted known (Interrupt a) (Interrupt b) (message x) t o i j never h = absurd i
-interrupted known (Interrupt a) (Interrupt b) (interrupt x) (message y) o i j never h = absurd j
-interrupted known (Interrupt a) (Interrupt b) (interrupt x) (interrupt y) o i j never h =
-    rw (i, j) (two_interrupts a b (header_of (interrupt x)) (header_of (interrupt y)) o (ap (λ (bits : List Bit). bits ++ One ∷ []) i) (ap (λ (bits : List Bit). bits ++ One ∷ []) j) h)
+interrupted known v w s t o i j never h =
+    headers_part s t o (header_length known v s i ∙ sym (header_length known w t j)) (λ n. one_claims known v w s t i j never) h
 
 -- both send messages
 pub both_messages : (known : List FrameTree) (m n : ℕ) (o : Outcomes) → ((f g : FrameTree) → Names known m f → Names known n g → AreOutcomes (FrameText f) (FrameText g) o) → (s t : Sender) → IsSent known (Message m) s → IsSent known (Message n) t → AreOutcomes (SenderText s) (SenderText t) o

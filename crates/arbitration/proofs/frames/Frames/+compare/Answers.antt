@@ -4,7 +4,6 @@ use Rattle.std.proofs.lemmas.Option.{slice_get_read}
 use Rattle.message_tree.specs.Bits.{SplitAt}
 use Rattle.message_tree.specs.Counts.{greatest_of}
 use Rattle.message_tree.specs.Drops.{refused_of}
-use Rattle.message_tree.specs.Patterns.{pattern_bits}
 use Rattle.message_tree.specs.Sizes.{frame_slots, payload_slots, tail_slots}
 use Rattle.message_tree.specs.Texts.{message, FrameText, PayloadText, TailText}
 use Rattle.message_tree.specs.Trees.{PayloadTree, TailTree, last}
