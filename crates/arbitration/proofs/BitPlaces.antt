@@ -160,7 +160,7 @@ none_before places k e j l h = let g = subst (λ (n : ℕ). HasDigit n j) e h in
 
 -- 2 ^ (t + 1) - 1, as it is computed
 pub ones_below : (t : ℕ) → t < 8 → 2 * 2 ^ t % 2 ^ 32 - 1 ≡ 2 ^ suc t - 1
-ones_below t l = let m : 2 ^ t ≤ 2 ^ 7 = pow_mono (omega (arith, l)) in omega (arith, m, pow-succ' 2 t)
+ones_below t l = let m : 2 ^ t ≤ 2 ^ 7 = pow_mono {i = t} {j = 7} (omega (arith, l)) in omega (arith, m, pow-succ' 2 t)
 
 -- some place is a split where some digit is 1
 pub is_some : (bs cs : List Bit) (splits : ℕ) → splits < 2 ^ 8 → ((k : ℕ) → HasDigit splits k ↔ SplitAt bs cs k) → IsTrue (not (nat_eq splits 0)) ↔ ((k : ℕ) × SplitAt bs cs k)
