@@ -6,7 +6,6 @@ use Rattle.plan_core.specs.PlanContents.{plan_contents}
 use Rattle.plan_core.specs.declared.plans.Plan.{Plan}
 use Rattle.std.specs.List.{list_any, flat_map}
 use Rattle.std.proofs.lemmas.Bool.{or_left, or_right, or_parts, ltb-false}
-use Rattle.lexer.specs.declared.lexemes.Letters.TheVariants.{Dots}
 use Rattle.lexer.specs.Lexemes.{Alphabet, no_dots, dots_after, letters, later, lexemes_of}
 use Rattle.message_tree.specs.Trees.{FrameTree}
 use Rattle.plan_core.specs.Contents.{Contents, empty}
@@ -17,6 +16,7 @@ use Rattle.spellings.specs.Canonical.{frame_has_range, message_line, controller_
 use Rattle.plan_text.specs.Grammar.{Item, message, controller, interrupt, never_both, SpellsItem, SpellsItems, Spells, Fits, with_item, Begins}
 use Rattle.plan_text.specs.Tokens.{Tokens, tokens_of, token_of_word}
 use Rattle.spellings.proofs.CanonicalItems.{up_to_messages, up_to_controllers, up_to_interrupts, up_to_nevers, message_fits, message_adds, message_named, controller_fits, controller_adds, controller_named, sent_named, interrupt_fits, interrupt_adds, interrupt_named, never_fits, never_adds, both_named}
+use Rattle.spellings.proofs.CanonicalWords.{HasDots}
 use Rattle.spellings.proofs.CanonicalPhrases.{the, message_said, controller_said, interrupt_said, never_said}
 use Rattle.plan_text.proofs.TokenLemmas.{ends_here}
 
@@ -49,7 +49,7 @@ any_from_element test [] x after whole split passes = sym (ap (list_any test) sp
 any_from_element test (b ∷ before) x after whole split passes =
     sym (ap (list_any test) split) ∙ or_right (test b) _ (any_from_element test before x after (before ++ (x ∷ after)) refl passes)
 
-module _ (plan : Contents) (limits : IsWithinLimits plan) (d : Alphabet) (steady : later d ≡ d) (ranges : list_any (λ m. frame_has_range m.1) plan.messages ≡ true → letters d ≡ Dots) where
+module _ (plan : Contents) (limits : IsWithinLimits plan) (d : Alphabet) (steady : later d ≡ d) (ranges : list_any (λ m. frame_has_range m.1) plan.messages ≡ true → HasDots (letters d)) where
   abbrev message_of : List ℕ × FrameTree → Item
   message_of m = message m.0 m.1
 
@@ -139,7 +139,7 @@ spelled_by plan false second limits =
     let d = no_dots in
     let first = the (version_of (codes "1")) refl in
     let neither = or_parts (nat_lt 0 (length plan.nevers)) (list_any (λ m. frame_has_range m.1) plan.messages) second in
-    let ranges : list_any (λ m. frame_has_range m.1) plan.messages ≡ true → letters d ≡ Dots = λ h. absurd (true≢false (sym h ∙ neither.1)) in
+    let ranges : list_any (λ m. frame_has_range m.1) plan.messages ≡ true → HasDots (letters d) = λ h. absurd (true≢false (sym h ∙ neither.1)) in
     let items = items_said plan limits d refl ranges first (no_nevers plan limits d refl ranges first (none_from_length plan.nevers neither.0)) 2 in
     let whole : plan_text plan ≡ codes "plan 1\n" ++ rest = ap (λ b. (if b then codes "plan 2\n" else codes "plan 1\n") ++ rest) second in
     subst (λ text. Spells text plan) (sym whole) (record {

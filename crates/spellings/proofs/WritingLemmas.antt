@@ -76,39 +76,6 @@ module _ (p : Pattern) (bits : List Bit) (is : bits ≡ pattern_bits p) where
     pub hex_low : low ≢ 88 → codes "0x" ++ high ∷ low ∷ [] ≡ data_word p
     hex_low differ = sym (by_digits ∙ ap (λ (t : Bool). if t then codes "any" else (codes "0x" ++ high ∷ low ∷ [])) (other_low high low differ))
 
-    pub any_word : high ≡ 88 → low ≡ 88 → codes "any" ≡ data_word p
-    any_word a b = sym (by_digits ∙ rw (a, b) refl)
-
-  pub bits_word : (high low : Option ℕ) → high ≡ digit_symbol (take 4 bits) → low ≡ digit_symbol (take 4 (drop 4 bits)) → (high ≡ None) ⊎ (low ≡ None) → codes "0b" ++ map bit_symbol bits ≡ data_word p
-  bits_word high low first second none =
-      in_two high low none ∙ (λ i. data_of (first i) (second i) bits) ∙ (λ i. data_of (digit_symbol (take 4 (is i))) (digit_symbol (low_are i)) (is i))
-    where
-      in_two : (a b : Option ℕ) → (a ≡ None) ⊎ (b ≡ None) → codes "0b" ++ map bit_symbol bits ≡ data_of a b bits
-      in_two None b e = refl
-      in_two (Some a) None e = refl
-      in_two (Some a) (Some b) (inl e) = absurd cc
-      in_two (Some a) (Some b) (inr e) = absurd cc
-
-low_bits : (a : Address) → take 4 (drop 3 (address_bits a)) ≡ drop 3 (address_bits a)
-unfolding address_bits
-low_bits a = refl
-
-module _ (a : Address) (bits : List Bit) (is : bits ≡ address_bits a) (high low : Option ℕ) (first : high ≡ digit_symbol (take 3 bits)) (second : low ≡ digit_symbol (take 4 (drop 3 bits))) where
-  target_digits : target_of high low bits ≡ target_word a
-  target_digits = (λ i. target_of (first i) (second i) bits) ∙ (λ i. target_of (digit_symbol (take 3 (is i))) (digit_symbol ((ap (λ l. take 4 (drop 3 l)) is ∙ low_bits a) i)) (is i))
-
-  pub target_hex : (h l : ℕ) → high ≡ Some h → low ≡ Some l → codes "0x" ++ h ∷ l ∷ [] ≡ target_word a
-  target_hex h l e f = (λ i. target_of (sym e i) (sym f i) bits) ∙ target_digits
-
-  pub target_bits : (high ≡ None) ⊎ (low ≡ None) → codes "0b" ++ map bit_symbol bits ≡ target_word a
-  target_bits none = in_two high low none ∙ target_digits
-    where
-      in_two : (x y : Option ℕ) → (x ≡ None) ⊎ (y ≡ None) → codes "0b" ++ map bit_symbol bits ≡ target_of x y bits
-      in_two None y e = refl
-      in_two (Some x) None e = refl
-      in_two (Some x) (Some y) (inl e) = absurd cc
-      in_two (Some x) (Some y) (inr e) = absurd cc
-
 -- a word in the place of an equal one
 pub same_word : {X E : Type 0} (r : Result X E) (a b v w : List ℕ) → v ≡ w → OnOk r (Adds a b (v ∷ [])) → OnOk r (Adds a b (w ∷ []))
 same_word r a b v w e h = subst (λ x. OnOk r (Adds a b (x ∷ []))) e h
