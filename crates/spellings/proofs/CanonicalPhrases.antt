@@ -1,11 +1,10 @@
 -- The tokens of a canonical spelling are those of the grammar, from words up to items.
-use Rattle.std.proofs.Common.{◌≡◌, ◌+◌, ℕ, Bool, true, false, ◌||◌, List, [], ◌∷◌, ◌++◌, refl, ap, sym, ◌∙◌, codes, true≢false, lit<, inr}
+use Rattle.std.proofs.Common.{◌≡◌, ◌<◌, ◌+◌, ℕ, true, ◌||◌, List, [], ◌∷◌, ◌++◌, length, map, refl, ap, sym, ◌∙◌, codes, true≢false, lit<, inr}
 use Rattle.std.specs.Prelude.{All, nat_lt, Option, Some, None, is_some}
 use Rattle.std.proofs.lemmas.Bool.{or_left, or_right}
 use Rattle.std.proofs.lemmas.List.Elements.{All-head, All-tail}
 use Rattle.lexer.specs.Lexemes.{Alphabet, letters, later}
-use Rattle.message_tree.specs.declared.bits.Address.{Address}
-use Rattle.message_tree.specs.declared.bits.Pattern.{Pattern}
+use Rattle.message_tree.specs.declared.bits.Bit.{Bit}
 use Rattle.message_tree.specs.declared.counts.Count.{Count}
 use Rattle.message_tree.specs.Counts.{least_of, greatest_of}
 use Rattle.message_tree.specs.Patterns.{address_bits, pattern_bits}
@@ -13,9 +12,9 @@ use Rattle.message_tree.specs.Trees.{FrameTree, write, read, PayloadTree, byte, 
 use Rattle.plan_core.specs.Names.{IsName}
 use Rattle.plan_core.specs.Participants.{interrupt_bits}
 use Rattle.plan_text.specs.Reader.{version_of}
-use Rattle.plan_text.specs.Symbols.{address_word, pattern_word, interrupt_word}
+use Rattle.plan_text.specs.Symbols.{bit_symbol}
 use Rattle.spellings.specs.Canonical.{count_word, frame_words, payload_words, tail_words, frame_has_range, payload_has_range, tail_has_range, item_line, message_line, interrupt_line}
-use Rattle.plan_text.specs.Grammar.{Phrase, one, ◌▸◌, SpellsName, SpellsNames, SpellsCount, SpellsFrame, SpellsPayload, SpellsTail, SpellsItem, message, controller, interrupt, never_both}
+use Rattle.plan_text.specs.Grammar.{Phrase, one, SpellsName, SpellsNames, SpellsCount, SpellsFrame, SpellsPayload, SpellsTail, SpellsItem, message, controller, interrupt, never_both}
 use Rattle.plan_text.specs.Tokens.{Token, word, semicolon, next, tokens_of, token_of_word}
 use Rattle.plan_text.proofs.WholeWords.{word_token, is_word, bits_are_word, bits_token, address_some, pattern_some}
 use Rattle.spellings.proofs.CanonicalWords.{name_is_word, name_token, HasDots, digit_token, count_is_word}
@@ -26,12 +25,6 @@ use Rattle.plan_text.proofs.TokenLemmas.{skips_space, skips_line_feed, semicolon
 abbrev pub the : {X : Type 0} (o : Option X) → is_some o ≡ true → X
 the (Some x) h = x
 the None h = absurd (true≢false (sym h))
-
--- what each of three tests gives all
-of_three : (a b c : Bool) → (a ≡ true → (a || b || c) ≡ true) × (b ≡ true → (a || b || c) ≡ true) × (c ≡ true → (a || b || c) ≡ true)
-of_three true b c = (λ h. refl, λ h. refl, λ h. refl)
-of_three false true c = (λ h. refl, λ h. refl, λ h. refl)
-of_three false false c = (λ h. absurd (true≢false (sym h)), λ h. absurd (true≢false (sym h)), λ h. h)
 
 module _ (d : Alphabet) (steady : later d ≡ d) where
   abbrev Says : List (List ℕ) → Phrase → Type 0
@@ -84,14 +77,8 @@ module _ (d : Alphabet) (steady : later d ≡ d) where
 
   -- ---- frames
 
-  said_address : (a : Address) → Says (address_word a ∷ []) (one (word (address_word a)))
-  said_address a = said_one (address_word a) (word (address_word a)) (bits_are_word (letters d) (address_bits a) (address_some a)) (bits_token (address_bits a) (address_some a))
-
-  said_pattern : (p : Pattern) → Says (pattern_word p ∷ []) (one (word (pattern_word p)))
-  said_pattern p = said_one (pattern_word p) (word (pattern_word p)) (bits_are_word (letters d) (pattern_bits p) (pattern_some p)) (bits_token (pattern_bits p) (pattern_some p))
-
-  said_interrupt : (a : ℕ) → Says (interrupt_word a ∷ []) (one (word (interrupt_word a)))
-  said_interrupt a = said_one (interrupt_word a) (word (interrupt_word a)) (bits_are_word (letters d) (interrupt_bits a) (lit< tt)) (bits_token (interrupt_bits a) (lit< tt))
+  said_bits : (bits : List Bit) → 0 < length bits → Says (map bit_symbol bits ∷ []) (one (word (map bit_symbol bits)))
+  said_bits bits some = said_one (map bit_symbol bits) (word (map bit_symbol bits)) (bits_are_word (letters d) bits some) (bits_token bits some)
 
   -- where dots are parts of words if there is a range
   mutual
@@ -99,14 +86,13 @@ module _ (d : Alphabet) (steady : later d ≡ d) where
 
     said_frame : (f : FrameTree) → (frame_has_range f ≡ true → HasDots (letters d)) → Says (frame_words f) (SpellsFrame f)
     said_frame (write address acked refused) needs =
-        said_then (said_keyword (codes "write") refl) (said_then (said_address address) (said_then (said_payload acked (λ h. needs (or_left _ (tail_has_range refused) h))) (said_then (said_keyword (codes "else") refl) (said_tail refused (λ h. needs (or_right (payload_has_range acked) _ h))))))
+        said_then (said_keyword (codes "write") refl) (said_then (said_bits (address_bits address) (address_some address)) (said_then (said_payload acked (λ h. needs (or_left _ (tail_has_range refused) h))) (said_then (said_keyword (codes "else") refl) (said_tail refused (λ h. needs (or_right (payload_has_range acked) _ h))))))
     said_frame (read address count after refused) needs =
-        let either = of_three (nat_lt (least_of count) (greatest_of count)) (tail_has_range after) (tail_has_range refused) in
-        said_then (said_keyword (codes "read") refl) (said_then (said_address address) (said_then (said_count count (λ h. needs (either.0 h))) (said_then (said_tail after (λ h. needs (either.1 h))) (said_then (said_keyword (codes "else") refl) (said_tail refused (λ h. needs (either.2 h)))))))
+        said_then (said_keyword (codes "read") refl) (said_then (said_bits (address_bits address) (address_some address)) (said_then (said_count count (λ h. needs (or_left _ (tail_has_range refused) (or_left _ (tail_has_range after) h)))) (said_then (said_tail after (λ h. needs (or_left _ (tail_has_range refused) (or_right (nat_lt (least_of count) (greatest_of count)) _ h)))) (said_then (said_keyword (codes "else") refl) (said_tail refused (λ h. needs (or_right (nat_lt (least_of count) (greatest_of count) || tail_has_range after) _ h)))))))
 
     said_payload : (p : PayloadTree) → (payload_has_range p ≡ true → HasDots (letters d)) → Says (payload_words p) (SpellsPayload p)
     said_payload (byte bits acked refused) needs =
-        said_then (said_pattern bits) (said_then (said_payload acked (λ h. needs (or_left _ (tail_has_range refused) h))) (said_then (said_keyword (codes "else") refl) (said_tail refused (λ h. needs (or_right (payload_has_range acked) _ h)))))
+        said_then (said_bits (pattern_bits bits) (pattern_some bits)) (said_then (said_payload acked (λ h. needs (or_left _ (tail_has_range refused) h))) (said_then (said_keyword (codes "else") refl) (said_tail refused (λ h. needs (or_right (payload_has_range acked) _ h)))))
     said_payload (last tail) needs = said_tail tail needs
 
     said_tail : (t : TailTree) → (tail_has_range t ≡ true → HasDots (letters d)) → Says (tail_words t) (SpellsTail t)
@@ -128,7 +114,7 @@ module _ (d : Alphabet) (steady : later d ≡ d) where
   pub interrupt_said : (v : _) (name : List ℕ) (address : ℕ) → IsName name
       → (line : ℕ) (rest : List ℕ) → SpellsItem v (interrupt name address) (tokens_of d line (interrupt_line (name, address) ++ rest)) (tokens_of d (line + 1) rest)
   unfolding token_of_word
-  interrupt_said v name address is line rest = item_said (keyword (codes "interrupt") refl) (ended_then (said_name name is) (ended_last (said_interrupt address) end)) line rest
+  interrupt_said v name address is line rest = item_said (keyword (codes "interrupt") refl) (ended_then (said_name name is) (ended_last (said_bits (interrupt_bits address) (lit< tt)) end)) line rest
 
   pub never_said : (first second : List ℕ) → IsName first → IsName second
       → (line : ℕ) (rest : List ℕ) → SpellsItem (the (version_of (codes "2")) refl) (never_both first second) (tokens_of d line (item_line (codes "never") (first ∷ (second ∷ [])) ++ rest)) (tokens_of d (line + 1) rest)

@@ -1,7 +1,7 @@
 -- What the writer of briefs adds, bit by bit.
-use Rattle.std.proofs.Common.{◌≡◌, ◌≢◌, ℕ, ◌+◌, ◌<◌, ◌≤◌, ◌^◌, Bool, true, false, ◌&&◌, List, [], ◌∷◌, ◌++◌, length, get_or, map, take, drop, Option, Some, inl, inr, refl, ap, sym, ◌∙◌, subst, arith, append_assoc}
+use Rattle.std.proofs.Common.{◌≡◌, ◌≢◌, ℕ, ◌+◌, ◌<◌, ◌≤◌, ◌^◌, Bool, true, false, ◌&&◌, List, [], ◌∷◌, ◌++◌, length, get_or, take, drop, Some, refl, ap, sym, ◌∙◌, subst, arith, append_assoc}
 use Rattle.std.specs.List.{list_all}
-use Rattle.std.specs.Prelude.{◌⊎◌, ◌==◌, None, Result, Ok, Err, OnOk, codes, if◌then◌else◌}
+use Rattle.std.specs.Prelude.{◌==◌, Result, Ok, Err, OnOk, codes, if◌then◌else◌}
 use Rattle.std.proofs.lemmas.Bool.Decides.{nat_tests}
 use Rattle.std.proofs.Math.Pow.{pow_mono}
 use Rattle.std.proofs.lemmas.List.{drop_more}
@@ -11,10 +11,9 @@ use Rattle.message_tree.specs.declared.bits.Address.{Address}
 use Rattle.message_tree.specs.Patterns.{address_bits, pattern_bits}
 use Rattle.message_tree.specs.Bits.{bits_below}
 use Rattle.message_tree.proofs.BitLemmas.{bits_below-masked}
-use Rattle.plan_text.specs.Symbols.{bit_symbol}
 use Rattle.spellings.specs.Canonical.{Adds, spaced, item_line}
 use Rattle.plan_text.specs.Values.{address_by}
-use Rattle.spellings.proofs.Adding.{adds_then, then_adds}
+use Rattle.spellings.proofs.Adding.{adds_then}
 use Rattle.spellings.specs.Spelling.{digit_symbol, data_of, data_word, target_of, target_word}
 
 module _ {X : Type 0} (xs : List X) (k : ℕ) (d x : X) (within : k < length xs) (is : get_or xs k d ≡ x) where
@@ -31,18 +30,6 @@ module _ {X : Type 0} (xs : List X) (k : ℕ) (d x : X) (within : k < length xs)
 -- at most four digits in base 2
 pub four_digits : (n k : ℕ) → n < 2 ^ k → k ≤ 4 → n < 16
 four_digits n k small few = omega (arith, small, pow_mono few)
-
--- ---- words one after the other
-
-pub adds_three : {X E : Type 0} (r : Result X E) (t0 t1 t2 t3 : List ℕ) (word : List ℕ) (xs ys : List (List ℕ)) → Adds t0 t1 (word ∷ []) → Adds t1 t2 xs → OnOk r (Adds t2 t3 ys) → OnOk r (Adds t0 t3 (word ∷ (xs ++ ys)))
-adds_three r t0 t1 t2 t3 word xs ys e1 e2 e3 = then_adds r t0 t1 t3 (word ∷ []) (xs ++ ys) e1 (then_adds r t1 t2 t3 xs ys e2 e3)
-
-pub adds_four : {X E : Type 0} (r : Result X E) (t0 t1 t2 t3 t4 : List ℕ) (kind word : List ℕ) (xs ys : List (List ℕ)) → Adds t0 t1 (kind ∷ []) → Adds t1 t2 (word ∷ []) → Adds t2 t3 xs → OnOk r (Adds t3 t4 ys) → OnOk r (Adds t0 t4 (kind ∷ (word ∷ (xs ++ ys))))
-adds_four r t0 t1 t2 t3 t4 kind word xs ys e1 e2 e3 e4 = then_adds r t0 t1 t4 (kind ∷ []) (word ∷ (xs ++ ys)) e1 (adds_three r t1 t2 t3 t4 word xs ys e2 e3 e4)
-
-pub adds_five : {X E : Type 0} (r : Result X E) (t0 t1 t2 t3 t4 t5 : List ℕ) (kind word count : List ℕ) (xs ys : List (List ℕ)) → Adds t0 t1 (kind ∷ []) → Adds t1 t2 (word ∷ []) → Adds t2 t3 (count ∷ []) → Adds t3 t4 xs → OnOk r (Adds t4 t5 ys)
-    → OnOk r (Adds t0 t5 (kind ∷ (word ∷ (count ∷ (xs ++ ys)))))
-adds_five r t0 t1 t2 t3 t4 t5 kind word count xs ys e1 e2 e3 e4 e5 = then_adds r t0 t1 t5 (kind ∷ []) (word ∷ (count ∷ (xs ++ ys))) e1 (adds_four r t1 t2 t3 t4 t5 word count xs ys e2 e3 e4 e5)
 
 -- ---- addresses and data bytes
 
