@@ -15,9 +15,6 @@ use Rattle.brief_text.specs.Fitting.{KnowsFrame, KnowsBytes, KnowsTail, frame_ra
 use Rattle.brief_text.specs.Trees.{spelled, times, BriefBytes, data_byte, no_more, stop_here, go_on}
 use Rattle.spellings.specs.Writing.{Run, same_pattern, goes_on, ended_by, with_byte, after_run, frame_brief, bytes_brief, tail_brief}
 
-some_is : {A : Type 0} (x y : A) → Some x ≡ Some y → x ≡ y
-some_is x y e = cc
-
 -- ---- runs
 
 pub pattern_is : (p q : Pattern) → same_pattern p q ≡ true → p ≡ q
@@ -27,9 +24,8 @@ pattern_is p q e =
     let known = eqb-true p.known q.known parts.0 in
     let value = eqb-true p.value q.value parts.1 in
     let words : pattern_word q ≡ pattern_word p = λ i. map bit_symbol (bits_below 8 (sym known i) (sym value i)) in
-    let first = pattern_found (pattern_word p) p refl in
-    let second = pattern_found (pattern_word p) q words in
-    some_is p q (sym first ∙ second)
+    let both : Some p ≡ Some q = sym (pattern_found (pattern_word p) p refl) ∙ pattern_found (pattern_word p) q words in
+    cc
 
 -- a run of a byte, and this byte after it
 one_more : (n : ℕ) (bits : Pattern) (acked : PayloadTree) (refused : TailTree) → repeated (n + 1) bits acked refused ≡ repeated n bits (trees.byte bits acked refused) refused

@@ -1,14 +1,15 @@
 -- The items of a brief that is written fit one after the other.
-use Rattle.std.proofs.Common.{◌≡◌, ℕ, zero, suc, ◌+◌, ◌*◌, ◌/◌, ◌^◌, ◌<◌, ◌≤◌, Bool, false, List, [], ◌∷◌, ◌++◌, length, get_or, map, Some, None, is_some, refl, ap, sym, ◌∙◌, subst, arith, append_assoc, append-nil}
+use Rattle.std.proofs.Common.{◌≡◌, ℕ, zero, suc, ◌+◌, ◌*◌, ◌/◌, ◌^◌, ◌<◌, ◌≤◌, false, List, [], ◌∷◌, ◌++◌, length, map, Some, None, is_some, refl, ap, sym, ◌∙◌, subst, arith, append_assoc, append-nil}
 use Rattle.std.specs.Prelude.{nat_lt, unwrap_or}
 use Rattle.std.specs.Int.{bit_at}
 use Rattle.std.specs.List.{list_any, flat_map, fold}
 use Rattle.std.specs.Map.{keys_of}
 use Rattle.std.specs.Str.{bytes_eq}
-use Rattle.std.proofs.lemmas.Bool.{lt-leb, le-ltb, or_from}
+use Rattle.std.proofs.lemmas.Bool.{lt-leb, le-ltb}
 use Rattle.std.proofs.Math.Nat.{pow-suc, div-div-eq-div-mul}
 use Rattle.std.proofs.lemmas.List.{length-map, map-append}
 use Rattle.std.proofs.lemmas.List.Concat.{flat_map_single}
+use Rattle.std.proofs.lemmas.List.Folds.{list_any_none}
 use Rattle.std.proofs.lemmas.Nat.Bits.{bit_at_ones, bit_at-lt}
 use Rattle.message_tree.specs.Bits.{bit_from, bits_below}
 use Rattle.message_tree.specs.declared.bits.Bit.{Bit}
@@ -74,10 +75,6 @@ interrupt_known address small =
 same_names : (names : List (List ℕ)) → flat_map (λ (n : List ℕ). n ∷ []) names ≡ names
 same_names [] = refl
 same_names (n ∷ names) = ap (λ l. n ∷ l) (same_names names)
-
-none_any : {X : Type 0} (test : X → Bool) (xs : List X) → ((k : ℕ) (d : X) → k < length xs → test (get_or xs k d) ≡ false) → list_any test xs ≡ false
-none_any test [] none = refl
-none_any test (x ∷ xs) none = or_from _ _ (none 0 x (omega arith)) (none_any test xs (λ k d h. none (suc k) d (omega arith)))
 
 module _ (plan : Contents) where
   abbrev pub listed : List ℕ × List ℕ → List ℕ × List (List ℕ)
@@ -167,7 +164,7 @@ module _ (plan : Contents) where
       may_stand : number_of x.0 before ≡ None → length before < MOST_CONTROLLERS → controller_refusal_of here x.0 ≡ None
       unfolding controller_refusal_of
       may_stand new few =
-          let others : list_any (bytes_eq x.0) (keys_of before) ≡ false = none_any (bytes_eq x.0) (keys_of before) (position-None (bytes_eq x.0) (keys_of before) new) in
+          let others : list_any (bytes_eq x.0) (keys_of before) ≡ false = list_any_none (bytes_eq x.0) (keys_of before) (position-None (bytes_eq x.0) (keys_of before) new) in
           let taken : is_taken here x.0 ≡ false = ap (list_any (bytes_eq x.0)) (append-nil (keys_of (map listed before)) ∙ keys_listed before) ∙ others in
           let count : length (parts here) ≡ length before = ap length (parts_are plan.messages before [] []) ∙ length-map (map listed before) whole_part ∙ length-map before listed in
           rw (taken, count, lt-leb MOST_CONTROLLERS (length before) few) refl
