@@ -224,6 +224,7 @@ fn push_refused(alloc: Global, lines: &mut Lines, refused: &RefusedIn<'_>, fault
         PlanError::Version(_) => push_version(lines, refused),
         PlanError::Unexpected(_) if is_of_groups(refused) => lines.say(GROUPS),
         PlanError::Twice(_) if is_of_groups(refused) => lines.say(GROUPED),
+        PlanError::Twice(_) if is_in_list(refused) => lines.say("the group has this device already"),
         PlanError::Unexpected(_) => push_fault(alloc, lines, refused, fault),
         PlanError::BadCount(_) => lines.say(bad_count(refused.place.expected)),
         PlanError::TooLong(_) => push_over(lines, refused.place.over),
@@ -467,6 +468,11 @@ fn push_semicolon(lines: &mut Lines, refused: &RefusedIn<'_>, span: Span) {
 fn last_word(bytes: &[u8]) -> &str {
     let word = bytes.rsplit(u8::is_ascii_whitespace).next().unwrap_or(&[]);
     str::from_utf8(word).unwrap_or("")
+}
+
+// Whether a device is refused in the list of a group.
+fn is_in_list(refused: &RefusedIn<'_>) -> bool {
+    matches!(refused.place.expected, Some(Expected::Target)) && is_in_group(refused)
 }
 
 // Whether the item is a group of devices.
