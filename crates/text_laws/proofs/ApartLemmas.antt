@@ -10,7 +10,6 @@ use Rattle.plan_core.specs.Building.{number_of}
 use Rattle.plan_core.specs.Contents.{Contents}
 use Rattle.plan_core.specs.Participants.{is_never, same_controller, forbidden, apart, sendings_from, participants_of}
 use Rattle.plan_core.proofs.BuildingLemmas.{bytes_eq-same, same-bytes_eq}
-use Rattle.brief_text.specs.declared.syntax.Lengths.{Lengths}
 use Rattle.std.specs.Prelude.{unwrap_or}
 use Rattle.brief_text.specs.Drafts.{Draft, stands_for, stands_alone_for, all_or, names_made}
 use Rattle.brief_text.specs.Splitting.{Part, part_name, label_messages, label_names, is_own_or_free, is_of_labelled, is_of_device, is_label, is_in_part, label_part, rest_part, sends_any, split_by, labels_of, parts_of, parts, pairs_among, are_of_one, label_means, side_means, parts_meant, pairs_meant, pairs_apart, with_parts, plan_meant, whole}
@@ -86,7 +85,7 @@ module _ (draft : Draft) (sound : Sound draft) where
             listed = all m (subst (λ (q : Part). In m q.messages) e inside);
             rest = λ none s k same i. subst (λ (ls : List Side). In s ls) are (own_label c.0 s k (same ∙ ap (λ (q : Part). q.side.controller) e));
             labelled = λ l is. let none : None ≡ Some l = sym (ap (λ (q : Part). q.side.label) e) ∙ is in absurd cc;
-                    nearest = λ l is. let none : None ≡ Some l = sym (ap (λ (q : Part). q.side.label) e) ∙ is in absurd cc;
+            nearest = λ l is. let none : None ≡ Some l = sym (ap (λ (q : Part). q.side.label) e) ∙ is in absurd cc;
           }
           by [] are (inr k) = absurd k
           by (t ∷ ts) are k = split (from_filter sends_any (rest_part draft (t ∷ ts) c.1 c.0 ∷ map (label_part draft (t ∷ ts) c.1) (t ∷ ts)) p k).0

@@ -1,6 +1,6 @@
 -- What a message adds to a sound draft.
 use Rattle.std.proofs.Common.{◌≡◌, ℕ, zero, suc, ◌+◌, ◌-◌, ◌*◌, ◌<◌, ◌≤◌, ◌⊎◌, inl, inr, ◌||◌, ◌&&◌, Bool, true, false, not, cond, List, [], ◌∷◌, ◌++◌, map, length, codes, Option, Some, None, is_some, refl, ap, sym, ◌∙◌, subst, arith}
-use Rattle.std.specs.Prelude.{nat_lt, max, All, Ok, Err, unwrap_or, if◌then◌else◌}
+use Rattle.std.specs.Prelude.{nat_lt, All, Ok, Err, unwrap_or, if◌then◌else◌}
 use Rattle.std.specs.Fmt.{decimal}
 use Rattle.std.specs.List.{list_any, filter, flat_map, range_with_len}
 use Rattle.std.specs.Map.{keys_of, lookup}
@@ -18,21 +18,21 @@ use Rattle.plan_core.specs.Building.{number_of, has_name, message_name_refusal, 
 use Rattle.plan_core.specs.declared.builder.BuildError.TheVariants.{Twice}
 use Rattle.plan_core.specs.Contents.{Contents}
 use Rattle.plan_core.specs.Limits.{IsWithinLimits}
-use Rattle.plan_core.specs.Names.{IsName, is_name_byte}
+use Rattle.plan_core.specs.Names.{IsName}
 use Rattle.plan_core.specs.declared.limits.TheConstants.{MOST_MESSAGES, MOST_CONTROLLERS, MOST_BYTES, MOST_NODES}
 use Rattle.plan_core.proofs.BuildingLemmas.{passes, message_name_allowed, size_allowed, size_fits, message_fits, limits-message, same-bytes_eq, bytes_eq-same}
 use Rattle.brief_text.specs.declared.syntax.Lengths.{Lengths}
 use Rattle.brief_text.specs.Codes.{at_start}
 use Rattle.brief_text.specs.Drafts.{Draft, member_name, members, members_or, lengths, stands_alone_for, all_or, stands_for, names_made, device_name, device_names, devices_of, standing, address_said, frame_meant, frame_on, bytes_meant, tail_meant, bits_said, how_often, repeated, frame_groups, member_meant, messages_meant, device_meant, grouped_meant, with_messages, with_family, families_of, with_made, with_item}
 use Rattle.brief_text.specs.Fitting.{IsWithin, MessageFits}
-use Rattle.brief_text.specs.Judging.{is_family, is_message, message_refusal_of, range_refusal, how_many, longest, is_long, further_names, repeats, grouped_by}
+use Rattle.brief_text.specs.Judging.{is_family, is_message, message_refusal_of, range_refusal, how_many, is_long, further_names, repeats, grouped_by}
 use Rattle.brief_text.specs.Splitting.{Part, label_messages, label_names, is_label, is_own_or_free, is_of_labelled, is_of_device, is_in_part, label_part, rest_part, split_by, parts, sends_any}
 use Rattle.brief_text.proofs.PathLemmas.{on_outline, outline_of}
 use Rattle.plan_text.specs.declared.errors.PlanError.TheVariants as errors
-use Rattle.brief_text.specs.Trees.{Side, Said, spelled, named, Times, times, ranged, BriefFrame, write_to, read_from, BriefBytes, data_byte, made_byte, no_more, BriefTail, stop_here, go_on, message}
-use Rattle.text_laws.proofs.EntryNames.{number_none, none_number, in_has_name, in_keys_either, in_keys_left, in_keys_right, keys_both, lookup_kept, lookup_last}
+use Rattle.brief_text.specs.Trees.{Side, named, BriefFrame, write_to, read_from, BriefBytes, data_byte, made_byte, no_more, BriefTail, stop_here, go_on, message}
+use Rattle.text_laws.proofs.EntryNames.{number_none, none_number, in_has_name, in_keys_either, in_keys_left, in_keys_right, keys_both, lookup_kept}
 use Rattle.text_laws.proofs.JoinedNames.{name_parts, is_joined, decimal_bytes, decimal_shorter}
-use Rattle.text_laws.proofs.Membership.{In, Distinct, in_left, in_right, in_either, from_filter, in_map, from_map, in_flat, from_flat, distinct_map, in_any, is_false, not_both, or_neither, holds, in_holds}
+use Rattle.text_laws.proofs.Membership.{In, Distinct, in_left, in_right, from_filter, in_map, from_map, in_flat, from_flat, distinct_map, in_any, is_false, not_both, or_neither, holds, in_holds}
 use Rattle.text_laws.proofs.SoundDrafts.{Messages, FamilyList, Listings, family_of, grouped_of, Known, Labels, FamiliesSound, GroupedSound, ControllersSound, LabelsSound, Sound}
 use Rattle.text_laws.proofs.Standings.{known_plain}
 

@@ -13,7 +13,6 @@ use Rattle.std.specs.Map.{keys_of}
 use Rattle.std.proofs.lemmas.List.{map-append}
 use Rattle.std.proofs.lemmas.List.Sums.{sum_by-cons, sum_by-append}
 use Rattle.plan_core.specs.Names.{IsName}
-use Rattle.brief_text.specs.declared.syntax.Lengths.{Lengths}
 use Rattle.text_laws.proofs.SoundDrafts.{Sound, ListSound}
 use Rattle.text_laws.proofs.Standings.{known_plain, head_known, stands_plain, makes_none, message_plain, is_plain, nested}
 
