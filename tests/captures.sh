@@ -300,7 +300,7 @@ if { (ulimit -v 32768 && exec "$twire" --version); } >/dev/null 2>&1; then
             shown=$((shown + 1))
         elif [[ ! -s report && $(cat err) == "refused memory" ]]; then
             refused=$((refused + 1))
-        elif [[ $ended -eq 139 && ! -s report && ! -s err ]]; then
+        elif [[ $ended -eq 139 && ! -s report && ! -s err || $(cat err) == "objects: a signal ended the program" ]]; then
             # (no program can answer that the system has no room for its stack to grow: so it is at one limit of 500 KiB)
             stackless=$((stackless + 1))
         else
