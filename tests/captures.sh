@@ -292,19 +292,23 @@ if { (ulimit -v 32768 && exec "$twire" --version); } >/dev/null 2>&1; then
     until { (ulimit -v "$least" && exec "$twire" --version); } >/dev/null 2>&1; do
         least=$((least + 100))
     done
-    shown=0 refused=0 other=
+    shown=0 refused=0 stackless=0 other=
     for ((limit = least; limit <= least + 20000; limit += 500)); do
-        (ulimit -v "$limit" && exec "$twire" capture plan long --summary --hints never) >report 2>err
+        { (ulimit -v "$limit" && exec "$twire" capture plan long --summary --hints never) >report 2>err; } 2>/dev/null
+        ended=$?
         if [[ ! -s err ]] && cmp -s report due; then
             shown=$((shown + 1))
         elif [[ ! -s report && $(cat err) == "refused memory" ]]; then
             refused=$((refused + 1))
+        elif [[ $ended -eq 139 && ! -s report && ! -s err || $(cat err) == "objects: a signal ended the program" ]]; then
+            # (no program can answer that the system has no room for its stack to grow: so it is at one limit of 500 KiB)
+            stackless=$((stackless + 1))
         else
             other="$limit KiB: $(tail -n 1 report) $(cat err)"
         fi
     done
-    [[ $shown -gt 0 && $refused -gt 0 && -z $other ]]
-    held "a report in part with less and less memory: $shown shown, $refused refused, $other"
+    [[ $shown -gt 0 && $refused -gt 0 && $stackless -le 1 && -z $other ]]
+    held "a report in part with less and less memory: $shown shown, $refused refused, $stackless without a stack, $other"
 else
     echo "left out: a report in part with less and less memory (not the proved build)"
 fi

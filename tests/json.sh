@@ -247,10 +247,13 @@ board=(bmc.brief --with 'p"h.brief')
 set='{"file":"bmc.brief","line":2}' get='{"file":"bmc.brief","line":3}' page='{"file":"bmc.brief","line":4}'
 bmc='{"file":"bmc.brief","line":5}' pch='{"file":"p\"h.brief","line":2}' al='{"file":"p\"h.brief","line":3}'
 met='"participants":["bmc/set","pch/get"],"meet":["data","restart"],"after":"10010000l00000001l","places":['$set,$get']'
+idle='{"kind":"lint","code":"idle never","names":["bmc/page","pch"],"places":[{"file":"p\"h.brief","line":4}]}'
 expect "an unsafe pair of two briefs" 1 '{"kind":"pair","pair":0,'"$met"'}
+'"$idle"'
 {"kind":"plan","safe":false,"pairs":5,"unsafe_pairs":1}' "" check --format json "${board[@]}"
 expect "an unsafe pair of two briefs, explained" 1 '{"kind":"pair","pair":0,'"$met"',"group":0}
 {"kind":"group","group":0,"pairs":1,"between":[["bmc/set","pch/get"]],"frame":0,"part":"data","byte":2,"example":{"pair":0,'"$met"',"explain":{"slot":18,"rule":"UM10204 3.1.8","bus":"S 48 Wr A 01 A","bytes":["S 48 Wr A 01 A xxxxxxxx","S 48 Wr A 01 A Sr"],"open":[[],[]]}},"explain":{"parting":[],"shape":true,"never":[["bmc/set","pch"]],"unchecked":1}}
+'"$idle"'
 {"kind":"plan","safe":false,"pairs":5,"unsafe_pairs":1,"explain":{"explained":1,"groups":1,"never":[["bmc/set","pch"]],"unchecked":1,"interrupts":[],"unsent":[],"kept_apart":2}}' \
     "" check --format json --explain "${board[@]}"
 "$twire" order --format json "${board[@]}" | sed -n '1,2p; /total/p' >out 2>err
@@ -377,6 +380,10 @@ expect "likely mistakes" 0 '{"kind":"lint","code":"same address","names":["c","a
 {"kind":"lint","code":"unsent message","names":["pages_1","pages_2"],"places":[{"file":"second.brief","line":6}]}
 {"kind":"lint","code":"idle controller","names":["y"],"places":[{"file":"second.brief","line":8}]}
 {"kind":"plan","safe":true,"pairs":0,"unsafe_pairs":0}' "" check first.brief --with second.brief --format json
+"$twire" print first.brief --with second.brief -o odd.plan
+expect "likely mistakes of a plan text" 0 '{"kind":"plan","safe":true,"pairs":0,"unsafe_pairs":0}' "" \
+    check odd.plan --format json
+both check first.brief --with second.brief
 printf '%s\n' "brief 2" "device bmc 0x10 ;" "device blade 0x41 ;" >first.brief
 printf '%s\n' "brief 2" "message ask write blade 0x18 sum 0x20 sum 0x21 ;" "message probe write bmc ;" "message set write bmc any ;" \
     "controller a ask probe ;" "controller b set ;" "never a/ask b/set ;" >second.brief
@@ -386,9 +393,6 @@ expect "likely mistakes in data bytes, headers and nevers" 1 '{"kind":"pair","pa
 {"kind":"lint","code":"address byte","names":["bmc"],"places":[{"file":"second.brief","line":2},{"file":"first.brief","line":2}]}
 {"kind":"lint","code":"idle never","names":["a/ask","b/set"],"places":[{"file":"second.brief","line":7}]}
 {"kind":"plan","safe":false,"pairs":1,"unsafe_pairs":1}' "" check first.brief --with second.brief --format json
-"$twire" print first.brief --with second.brief -o odd.plan
-expect "likely mistakes of a plan text" 0 '{"kind":"plan","safe":true,"pairs":0,"unsafe_pairs":0}' "" \
-    check odd.plan --format json
 both check first.brief --with second.brief
 
 expect "a file in place of a report stays" 0 "plan 1" "" print --format json - <<<'plan 2'

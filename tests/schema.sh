@@ -47,13 +47,14 @@ for dump in "$examples"/*.vcd; do
     ./keep signals "$dump" --format json --hints always
 done >>said.examples 2>&1
 
-# What none of these says: of a byte of a brief, of a file that is not written, of likely mistakes, of dumps, of a dump that cannot
-# be read again, and of a bus that goes on where one sends a STOP and one repeats START.
+# What none of these says: of a byte of a brief, of a file that a head names in vain, of one that is not written, of likely
+# mistakes, of dumps, of a dump that cannot be read again, and of a bus that goes on where one sends a STOP and one repeats START.
 asked() {
     ./keep "$@" --format json --hints always >>said.examples 2>&1
 }
 heads='$var wire 1 ! scl $end $var wire 1 " sda $end $enddefinitions'
 asked expand - <<<$'brief 1\nbyte b 5 ;'
+asked expand - <<<$'brief 2\nwith "none" ;'
 asked print "$examples/two_writers.plan" -o nowhere/plan
 asked check - <<<$'brief 1\n# a \r device d 0x50 ;'
 asked decode - <<<"$heads"

@@ -140,15 +140,20 @@ fn after_and_earlier(fields: &mut Fields, code: &str) -> Result<(), String> {
     Ok(())
 }
 
-// What is likely a mistake in a brief: names, and a line of a file for each, but for messages that stand in one place, and for what
-// has no name.
+// What is likely a mistake in a brief: names, and a line of a file for each, but for messages that stand in one place, for a
+// `never` with its two sides, and for what has no name. A byte is that of a device, which stands in a second place.
 fn lint(fields: &mut Fields) -> Result<String, String> {
     let code = fields.text("code")?;
     let names = fields.texts("names")?;
     let places = fields.maybe("places", Value::into_items)?.unwrap_or_default();
     only_if(!places.is_empty(), "what is likely a mistake has a place")?;
-    let is_one_place = ["unsent message", "empty brief", "carriage return"].contains(&code.as_str());
-    only_if(places.len() == names.len() || is_one_place, "each name has a place")?;
+    let is_placed = match code.as_str() {
+        "unsent message" | "empty brief" | "carriage return" => true,
+        "address byte" => names.len() == 1 && places.len() == 2,
+        "idle never" => names.len() == 2 && places.len() == 1,
+        _ => places.len() == names.len(),
+    };
+    only_if(is_placed, "each name has a place")?;
     for place in places {
         file_line(place)?;
     }
