@@ -283,8 +283,8 @@ BEGIN {
 }' >>long
 capture "a long dump" 1 "$(cat due)" "" plan long
 
-# A summary keeps counts alone. With less and less memory all is shown or memory is refused, and nothing is half written. A
-# trial build cannot run below any limit.
+# A summary keeps counts alone. With less and less memory all is shown or memory is refused, and nothing is half written; at one
+# limit at most the system may end the program before it has written anything. A trial build cannot run below any limit.
 if { (ulimit -v 32768 && exec "$twire" --version); } >/dev/null 2>&1; then
     "$twire" capture plan long --summary >due
     # (the first limit with which the program begins at all, from which on the system has loaded its libraries)
@@ -300,8 +300,9 @@ if { (ulimit -v 32768 && exec "$twire" --version); } >/dev/null 2>&1; then
             shown=$((shown + 1))
         elif [[ ! -s report && $(cat err) == "refused memory" ]]; then
             refused=$((refused + 1))
-        elif [[ $ended -eq 139 && ! -s report && ! -s err || $(cat err) == "objects: a signal ended the program" ]]; then
-            # (no program can answer that the system has no room for its stack to grow: so it is at one limit of 500 KiB)
+        elif [[ ! -s report ]] && { [[ $ended -eq 139 && ! -s err ]] || [[ $(cat err) == "objects: a signal ended the program" ]]; }; then
+            # (the system has no room for the stack to grow, which no program can answer. Right above the first limit that is so
+            # within 48 KiB, and one of these limits may fall there)
             stackless=$((stackless + 1))
         else
             other="$limit KiB: $(tail -n 1 report) $(cat err)"
