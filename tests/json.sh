@@ -384,10 +384,11 @@ expect "likely mistakes" 0 '{"kind":"lint","code":"same address","names":["c","a
 expect "likely mistakes of a plan text" 0 '{"kind":"plan","safe":true,"pairs":0,"unsafe_pairs":0}' "" \
     check odd.plan --format json
 both check first.brief --with second.brief
-printf '%s\n' "brief 2" "device bmc 0x10 ;" "device blade 0x41 ;" >first.brief
+printf '%s\n' "brief 2" "device bmc 0x10 ;" "device blade 0x41 ;" "group both bmc blade ;" >first.brief
 printf '%s\n' "brief 2" "message ask write blade 0x18 sum 0x20 sum 0x21 ;" "message probe write bmc ;" "message set write bmc any ;" \
     "controller a ask probe ;" "controller b set ;" "never a/ask b/set ;" >second.brief
-expect "likely mistakes in data bytes, headers and nevers" 1 '{"kind":"pair","pair":0,"participants":["a/probe","b_set/set"],"meet":["stop","data"],"after":"00100000l","places":[{"file":"second.brief","line":3},{"file":"second.brief","line":4}]}
+expect "likely mistakes in groups, data bytes, headers and nevers" 1 '{"kind":"pair","pair":0,"participants":["a/probe","b_set/set"],"meet":["stop","data"],"after":"00100000l","places":[{"file":"second.brief","line":3},{"file":"second.brief","line":4}]}
+{"kind":"lint","code":"unused group","names":["both"],"places":[{"file":"first.brief","line":4}]}
 {"kind":"lint","code":"bare header","names":["probe"],"places":[{"file":"second.brief","line":3}]}
 {"kind":"lint","code":"address byte","names":["bmc"],"places":[{"file":"second.brief","line":2},{"file":"first.brief","line":2}]}
 {"kind":"lint","code":"address byte","names":["bmc"],"places":[{"file":"second.brief","line":2},{"file":"first.brief","line":2}]}

@@ -254,13 +254,14 @@ unlisted:2:9: error: no controller lists message 'n', which was not looked at [u
 cat >odd <<'BRIEF'
 brief 2
 device bmc 0x10 ;  device blade 0x41 ;
-device mux 0x70 ;
+device mux 0x70 ;  group all bmc mux ;  group two bmc blade ;
 message ask write blade 0x18 sum 0x20 any sum ;
 message answer write bmc 0x1C sum
   0x83 any sum ;
 message probe write mux ;
 message set write mux 0b0000xxxx ;
 message turn write mux any*2 ;
+message poll read two 1 ;
 controller a ask answer probe ;
 controller b set ;
 controller c ;
@@ -269,15 +270,17 @@ never
 never a/answer c ;
 never a/probe b ;
 BRIEF
-told "bytes of addresses, and nevers that mend nothing" 0 \
-    "odd:9:9: warning: no controller lists message 'turn', which was not looked at [unsent message]
+told "groups in no message, bytes of addresses, and nevers that mend nothing" 0 \
+    "odd:3:26: warning: no message names group 'all' [unused group]
+odd:9:9: warning: no controller lists message 'turn', which was not looked at [unsent message]
+odd:10:9: warning: no controller lists messages 'poll_bmc' to 'poll_blade', which were not looked at [unsent message]
 odd:4:34: warning: this byte is the header of a write to device 'bmc': is wr(bmc) meant? [address byte]
 odd:2:8: note: the device with this address
 odd:6:3: warning: this byte is the header of a read of device 'blade': is rd(blade) meant? [address byte]
 odd:2:27: note: the device with this address
-odd:12:12: warning: controller 'c' lists no message [idle controller]
-odd:14:3: warning: this 'never' mends nothing: each two messages that it keeps apart part in their first byte, and their pairs are not checked [idle never]
-odd:15:7: warning: this 'never' keeps nothing apart: one of its sides sends no message [idle never]" "" check odd
+odd:13:12: warning: controller 'c' lists no message [idle controller]
+odd:15:3: warning: this 'never' mends nothing: each two messages that it keeps apart part in their first byte, and their pairs are not checked [idle never]
+odd:16:7: warning: this 'never' keeps nothing apart: one of its sides sends no message [idle never]" "" check odd
 printf 'brief 1\ndevice mux 0x70 ;\nmessage probe write mux ;\nmessage set write mux any ;\ncontroller a probe ;\ncontroller b probe set ;\n' >odd
 told "a header alone" 1 \
     "odd:3:9: error: a/probe sends STOP where b/set sends a data bit, after S 70 Wr A: lengths differ [unsafe]

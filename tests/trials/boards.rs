@@ -59,7 +59,7 @@ const COMMENTS: [&[u8]; 6] = [b"", b"", b"", b" # \xc2\xb0C", b" # \xff\x80 \"",
 
 /// A board of some messages, with who sends them.
 pub fn made_up_board(dice: &mut Dice) -> Board {
-    let mut items = vec![PRELUDE.to_owned()];
+    let mut items = vec![PRELUDE.to_owned(), "group h b a ;".to_owned()];
     let mut messages = Vec::new();
     for k in 0..1 + dice.index(4) {
         let (item, names) = message(k, dice);
@@ -207,19 +207,31 @@ fn listed(messages: &[Vec<String>], dice: &mut Dice) -> Vec<String> {
 // A message, and names that stand for what it makes.
 fn message(k: usize, dice: &mut Dice) -> (String, Vec<String>) {
     let (range, one) = dice.pick(&NUMBERS, ("", ""));
-    let mut maker = Maker { dice, range };
+    let group = dice.pick(&GROUPS, "");
+    let mut maker = Maker { dice, range, group, has_group: false };
     let frames = maker.frames(0);
+    let (has_range, has_group) = (range != maker.range, maker.has_group);
     let mut names = vec![format!("m{k}")];
-    if range != maker.range {
-        names.push(format!("m{k}_{one}"));
+    if has_group {
+        names = vec![format!("m{k}"), format!("m{k}_a"), format!("m{k}_b")];
+    }
+    if has_range {
+        let numbered: Vec<String> = names.iter().skip(usize::from(has_group)).map(|name| format!("{name}_{one}")).collect();
+        names.extend(numbered);
     }
     (format!("message m{k} {frames} ;"), names)
 }
+
+// Which group may stand in a message.
+const GROUPS: [&str; 4] = ["g", "h", "", ""];
 
 struct Maker<'a> {
     dice: &'a mut Dice,
     // the range that is still to come
     range: &'static str,
+    // the group that may stand there, and whether it does
+    group: &'static str,
+    has_group: bool,
 }
 
 impl Maker<'_> {
@@ -243,6 +255,10 @@ impl Maker<'_> {
     }
 
     fn to(&mut self) -> &'static str {
+        if !self.group.is_empty() && self.dice.index(3) == 0 {
+            self.has_group = true;
+            return self.group;
+        }
         self.dice.pick(&ADDRESSES, "")
     }
 

@@ -1,11 +1,11 @@
 //! Slips in briefs of the second version: for each refusal that its rules name, at each of its tokens, an item with it.
 
 /// What the slips stand behind: on one line, without a head.
-pub const PRELUDE: &str = "device a 0x21 ; device b 0x23 ; device e 0b01x0110 ; byte p 0x5A ; byte q 0bxx00xx11 ; \
+pub const PRELUDE: &str = "device a 0x21 ; device b 0x23 ; device e 0b01x0110 ; group g a b ; byte p 0x5A ; byte q 0bxx00xx11 ; \
     message k read 0x20 1 ; message l write 0x2X any*1..2 ; controller u k l ; controller v ;";
 
 /// The code of each, and the item, which ends with the token that is refused or soon after it.
-pub const SLIPS: [(&str, &str); 85] = [
+pub const SLIPS: [(&str, &str); 114] = [
     ("P1", "\u{b0}"),
     ("P1", "message n write 0x20 \u{b0}"),
     ("P3", "@"),
@@ -20,7 +20,6 @@ pub const SLIPS: [(&str, &str); 85] = [
     ("P3", "message n write 0x20 pec \"a\" ;"),
     // words that are reserved
     ("P3", "device w 0x70 ; with \"a.brief\" ;"),
-    ("P3", "group x a b ;"),
     ("P3", "but ;"),
     ("P3", "device with 0x30 ;"),
     ("P3", "byte group 0x30 ;"),
@@ -30,6 +29,37 @@ pub const SLIPS: [(&str, &str); 85] = [
     ("P3", "message n write 0x20 with ;"),
     ("P3", "controller n extend ;"),
     ("P3", "never u/group v ;"),
+    // groups
+    ("P3", "group ;"),
+    ("P3", "group 0x10 a ;"),
+    ("P3", "group any a ;"),
+    ("P3", "group x ;"),
+    ("P3", "group x 0x10 ;"),
+    ("P3", "group x a,b ;"),
+    ("P3", "group x a (b) ;"),
+    ("P3", "group x a group y a ;"),
+    ("P3", "interrupt t g ;"),
+    ("P7", "group a b ;"),
+    ("P7", "group g a ;"),
+    ("P7", "device g 0x30 ;"),
+    ("P7", "group x a a ;"),
+    ("P7", "group x a b a ;"),
+    ("P8", "group x none ;"),
+    ("P8", "group x p ;"),
+    ("P8", "group x g ;"),
+    ("P8", "group x a x ;"),
+    ("P8", "message n write p ;"),
+    ("P3", "group x a b ; message n write g wr(x) ;"),
+    ("P3", "group x e ; message n read x 1 else (write g) ;"),
+    ("P3", "message this_name_has_31_characters_its write g ;"),
+    ("P3", "message this_name_has_29_characters_i write g any*1..2 ;"),
+    ("P7", "message n_b write a ; message n write g ;"),
+    ("P7", "message n_b_2 write a ; message n write g any*1..3 ;"),
+    ("P7", "message n_a write a any*1..2 ; message n read 0x20 1 write g ;"),
+    ("P7", "device a_2 0x30 ; group x a a_2 ; message n write x any*1..2 ;"),
+    ("P7", "message n write g ; message n_a write a ;"),
+    ("P6", "message n write g any*1..127 ; message o write g 0x01..0x02 ;"),
+    ("P5", "message n write g any*255 wr(g) ;"),
     // what adds to a controller
     ("P3", "extend ;"),
     ("P3", "extend u/k ;"),

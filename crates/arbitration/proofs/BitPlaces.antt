@@ -2,7 +2,8 @@
 use Rattle.std.proofs.Common.{◌≡◌, ◌≢◌, ℕ, zero, suc, ◌+◌, ◌-◌, ◌*◌, ◌/◌, ◌%◌, ◌^◌, ◌<◌, ◌≤◌, ◌↔◌, min, max, Bool, true, false, not, nat_eq, IsTrue, Option, Some, slice_get, bit_and, bit_or, List, length, refl, sym, ◌∙◌, subst, arith, inl, inr}
 use Rattle.std.specs.Int.{bit_at, bit_not, w8, trailing_zeros}
 use Rattle.std.specs.Int.Count.{count_leading_zeros}
-use Rattle.std.proofs.Math.Nat.{div-eq_of_lt-le}
+use Rattle.std.proofs.Math.Nat.{div-eq_of_lt-le, pow-succ'}
+use Rattle.std.proofs.Math.Pow.{pow_mono}
 use Rattle.std.proofs.lemmas.Bool.{cases_lt}
 use Rattle.std.proofs.lemmas.Bool.Decides.{nat_tests}
 use Rattle.std.proofs.lemmas.Nat.{leading_top}
@@ -28,7 +29,7 @@ is_within xs k b h = slice_get_within xs k b h
 one_bit : (bs : List Bit) (k : ℕ) (b c : Bit) → slice_get bs k ≡ Some b → slice_get bs k ≡ Some c → b ≡ c
 one_bit bs k b c e f = let g : Some b ≡ Some c = sym e ∙ f in cc
 
-never_part : (bs : List Bit) → NeverSplit bs bs
+pub never_part : (bs : List Bit) → NeverSplit bs bs
 never_part bs k (inl h) = let e = one_bit bs k Zero One h.0 h.1 in cc
 never_part bs k (inr h) = let e = one_bit bs k One Zero h.0 h.1 in cc
 
@@ -116,13 +117,9 @@ module _ (bs cs : List Bit) (c d : Choices) (is : AreChoices bs c) (are : AreCho
   splits_at : (x y : Bit) (agree : ℕ) → slice_get bs k ≡ Some x → slice_get cs k ≡ Some y → agree ≡ max (min (zero_of x) (zero_of y)) (min (one_of x) (one_of y)) → 1 - agree ≡ 1 → SplitAt bs cs k
   splits_at Zero One agree e f g h = inl (e, f)
   splits_at One Zero agree e f g h = inr (e, f)
-  splits_at Zero Zero agree e f g h = absurd (omega (arith, g, h))
-  splits_at Zero Either agree e f g h = absurd (omega (arith, g, h))
-  splits_at One One agree e f g h = absurd (omega (arith, g, h))
-  splits_at One Either agree e f g h = absurd (omega (arith, g, h))
   splits_at Either Zero agree e f g h = absurd (omega (arith, g, h))
   splits_at Either One agree e f g h = absurd (omega (arith, g, h))
-  splits_at Either Either agree e f g h = absurd (omega (arith, g, h))
+  splits_at x y agree e f g h = absurd (omega (arith, g, h))
 
   split_digit : Agree < 2 ^ 8 → SplitAt bs cs k → HasDigit (bit_not w8 Agree) k
   split_digit l (inl h) =
@@ -163,15 +160,7 @@ none_before places k e j l h = let g = subst (λ (n : ℕ). HasDigit n j) e h in
 
 -- 2 ^ (t + 1) - 1, as it is computed
 pub ones_below : (t : ℕ) → t < 8 → 2 * 2 ^ t % 2 ^ 32 - 1 ≡ 2 ^ suc t - 1
-ones_below zero l = refl
-ones_below (suc zero) l = refl
-ones_below (suc (suc zero)) l = refl
-ones_below (suc (suc (suc zero))) l = refl
-ones_below (suc (suc (suc (suc zero)))) l = refl
-ones_below (suc (suc (suc (suc (suc zero))))) l = refl
-ones_below (suc (suc (suc (suc (suc (suc zero)))))) l = refl
-ones_below (suc (suc (suc (suc (suc (suc (suc zero))))))) l = refl
-ones_below (suc (suc (suc (suc (suc (suc (suc (suc t)))))))) l = absurd (omega (arith, l))
+ones_below t l = let m : 2 ^ t ≤ 2 ^ 7 = pow_mono {i = t} {j = 7} (omega (arith, l)) in omega (arith, m, pow-succ' 2 t)
 
 -- some place is a split where some digit is 1
 pub is_some : (bs cs : List Bit) (splits : ℕ) → splits < 2 ^ 8 → ((k : ℕ) → HasDigit splits k ↔ SplitAt bs cs k) → IsTrue (not (nat_eq splits 0)) ↔ ((k : ℕ) × SplitAt bs cs k)

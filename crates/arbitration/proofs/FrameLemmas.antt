@@ -79,34 +79,6 @@ get_last : {X : Type 0} (xs : List X) (x : X) → slice_get (xs ++ x ∷ []) (le
 get_last [] x = refl
 get_last (y ∷ xs) x = get_last xs x
 
-module _ (known more : List FrameTree) where
-  next_kept : (next : Next) → next_height next ≤ length known → next_tree (known ++ more) next ≡ next_tree known next
-  next_kept Stop l = refl
-  next_kept (Again n) l = ap again_or_stop (get_left known more n (omega (arith, l)))
-
-  steps_kept : (bs : List NumberedByte) → bytes_height bs ≤ length known → map (step_of (known ++ more)) bs ≡ map (step_of known) bs
-  steps_kept [] l = refl
-  steps_kept (b ∷ bs) l =
-      let e : step_of (known ++ more) b ≡ step_of known b = ap (λ (t : TailTree). record { bits = b.bits; refused = t }) (next_kept b.refused (omega (arith, l))) in
-      let f = steps_kept bs (omega (arith, l)) in
-      cc
-
-  row_kept : (row : Row) → row_height row ≤ length known → row_tree (known ++ more) row ≡ row_tree known row
-  row_kept row l =
-      let e = steps_kept row.bytes.items (omega (arith, l)) in
-      let f = next_kept row.last (omega (arith, l)) in
-      ap (λ (ss : List Step). with_bytes ss (last (next_tree (known ++ more) row.last))) e ∙ ap (λ (t : TailTree). with_bytes (steps_of known row) (last t)) f
-
-  frame_kept : (frame : NumberedFrame) → frame_height frame ≤ length known → frame_of (known ++ more) frame ≡ frame_of known frame
-  frame_kept (Write w) l =
-      let e = row_kept w.acked (omega (arith, l)) in
-      let f = next_kept w.refused (omega (arith, l)) in
-      ap (λ (x : PayloadTree). write w.address x (next_tree (known ++ more) w.refused)) e ∙ ap (write w.address (row_tree known w.acked)) f
-  frame_kept (Read r) l =
-      let e = next_kept r.after (omega (arith, l)) in
-      let f = next_kept r.refused (omega (arith, l)) in
-      ap (λ (x : TailTree). read r.address r.count x (next_tree (known ++ more) r.refused)) e ∙ ap (read r.address r.count (next_tree known r.after)) f
-
 -- ---- more entries
 
 after_more : (known : List FrameTree) (es more : List Entry) → trees_after known (es ++ more) ≡ trees_after (trees_after known es) more
@@ -129,32 +101,44 @@ module _ (old new : List Entry) (grows : Grows old new) where
       let m = after_known (trees_of old) grows.0 in
       (m.0, ap trees_of grows.1 ∙ (after_more [] old grows.0 ∙ m.1))
 
+  same_name : (n : ℕ) → n < length old → slice_get (trees_of new) n ≡ slice_get (trees_of old) n
+  same_name n l =
+      let t = trees_grow in
+      rw t.1 (get_left (trees_of old) t.0 n (omega (arith, l, trees_long old)))
+
   pub longer : length old ≤ length new
   longer = omega (arith, ap length grows.1, length-append old grows.0)
 
   pub name_grown : (n : ℕ) (f : FrameTree) → Names (trees_of old) n f → Names (trees_of new) n f
-  name_grown n f m =
-      let t = trees_grow in
-      rw t.1 (get_left (trees_of old) t.0 n (slice_get_within (trees_of old) n f m) ∙ m)
+  name_grown n f m = same_name n (named_within old n f m) ∙ m
 
   pub next_grown : (next : Next) → IsInside old next → next_tree (trees_of new) next ≡ next_tree (trees_of old) next
-  next_grown next l =
-      let t = trees_grow in
-      rw t.1 (next_kept (trees_of old) t.0 next (omega (arith, l, trees_long old)))
+  next_grown Stop l = refl
+  next_grown (Again n) l = ap again_or_stop (same_name n (omega (arith, l)))
+
+  bytes_grown : (bs : List NumberedByte) → bytes_height bs ≤ length old → map (step_of (trees_of new)) bs ≡ map (step_of (trees_of old)) bs
+  bytes_grown [] l = refl
+  bytes_grown (b ∷ bs) l =
+      let e : step_of (trees_of new) b ≡ step_of (trees_of old) b = ap (λ (t : TailTree). record { bits = b.bits; refused = t }) (next_grown b.refused (omega (arith, l))) in
+      let f = bytes_grown bs (omega (arith, l)) in
+      cc
 
   pub steps_grown : (row : Row) → row_height row ≤ length old → steps_of (trees_of new) row ≡ steps_of (trees_of old) row
-  steps_grown row l =
-      let t = trees_grow in
-      rw t.1 (steps_kept (trees_of old) t.0 row.bytes.items (omega (arith, l, trees_long old)))
-
-  pub frame_grown : (frame : NumberedFrame) → frame_height frame ≤ length old → frame_of (trees_of new) frame ≡ frame_of (trees_of old) frame
-  frame_grown frame l =
-      let t = trees_grow in
-      rw t.1 (frame_kept (trees_of old) t.0 frame (omega (arith, l, trees_long old)))
+  steps_grown row l = bytes_grown row.bytes.items (omega (arith, l))
 
   rest_grown : (row : Row) (k : ℕ) → row_height row ≤ length old → rest_after k (trees_of new) row ≡ rest_after k (trees_of old) row
   rest_grown row k l =
       ap (λ (ss : List Step). with_bytes (drop k ss) (last (next_tree (trees_of new) row.last))) (steps_grown row l) ∙ ap (λ (t : TailTree). with_bytes (drop k (steps_of (trees_of old) row)) (last t)) (next_grown row.last (omega (arith, l)))
+
+  pub frame_grown : (frame : NumberedFrame) → frame_height frame ≤ length old → frame_of (trees_of new) frame ≡ frame_of (trees_of old) frame
+  frame_grown (Write w) l =
+      let e = rest_grown w.acked 0 (omega (arith, l)) in
+      let f = next_grown w.refused (omega (arith, l)) in
+      ap (λ (x : PayloadTree). write w.address x (next_tree (trees_of new) w.refused)) e ∙ ap (write w.address (row_tree (trees_of old) w.acked)) f
+  frame_grown (Read r) l =
+      let e = next_grown r.after (omega (arith, l)) in
+      let f = next_grown r.refused (omega (arith, l)) in
+      ap (λ (x : TailTree). read r.address r.count x (next_tree (trees_of new) r.refused)) e ∙ ap (read r.address r.count (next_tree (trees_of old) r.after)) f
 
   ended_grown : (row : Row) → row_height row ≤ length old → IsEnded (trees_of old) row → IsEnded (trees_of new) row
   ended_grown row l is =

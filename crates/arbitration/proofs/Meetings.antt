@@ -7,13 +7,11 @@ use Rattle.message_tree.specs.declared.items.Item.TheVariants.{Sent, Heard, Agai
 use Rattle.message_tree.specs.Bits.{SplitAt, NeverSplit}
 use Rattle.message_tree.specs.Laws.{HasText}
 use Rattle.message_tree.specs.Texts.{Language, Allows, SentThen, HeardThen, AnswerThen, AgainThen}
+use Rattle.message_tree.proofs.BitLemmas.{Differ}
+use Rattle.message_tree.proofs.TextLaws.{allowed}
 use Rattle.arbitration.specs.Arbitration.{GoesOn}
 use Rattle.arbitration.specs.Ways.{Way, both_end, first_wins, second_wins, put_first, put_second, Goes, WinsAt, PartsAt}
 use Rattle.arbitration.specs.Spans.{After}
-
--- one of the two bits is known to be 0 and the other to be 1
-abbrev Differ : Bit → Bit → Type 0
-Differ b c = ((b ≡ Zero) × (c ≡ One)) ⊎ ((b ≡ One) × (c ≡ Zero))
 
 -- what both put before, and how each goes on
 pub record Meet (way : Way) (P Q : Language) (u : List Item) : Type 0 where
@@ -26,22 +24,28 @@ meet_of way P Q k g = record { first = g.first; second = g.second }
 pub goes_of : (way : Way) (P Q : Language) (u : List Item) (k : ℕ) → length u ≡ k → Meet way P Q u → Goes way P Q k
 goes_of way P Q u k e m = record { wire = u; slot = e; first = m.first; second = m.second }
 
-pub swapped : (P Q : Language) (k : ℕ) → Goes first_wins Q P k → Goes second_wins P Q k
-swapped P Q k g = record { wire = g.wire; slot = g.slot; first = g.second; second = g.first }
+-- the same with the two exchanged
+abbrev pub other : Way → Way
+other both_end = both_end
+other first_wins = second_wins
+other second_wins = first_wins
+
+pub turned : (way : Way) (P Q : Language) (k : ℕ) → Goes way P Q k → Goes (other way) Q P k
+turned both_end P Q k g = record { wire = g.wire; slot = g.slot; first = g.second; second = g.first }
+turned first_wins P Q k g = record { wire = g.wire; slot = g.slot; first = g.second; second = g.first }
+turned second_wins P Q k g = record { wire = g.wire; slot = g.slot; first = g.second; second = g.first }
 
 -- ---- bits that are sent
 
-pub some_bit : (b : Bit) → (s : Bool) × Allows b s
-some_bit Zero = (false, refl)
-some_bit One = (true, refl)
-some_bit Either = (true, tt)
+pub sent_prefix : (bs : List Bit) (P : Language) (u : List Item) → P u → (v : List Item) × SentThen bs P v × (length v ≡ length bs + length u)
+sent_prefix [] P u h = (u, h, omega arith)
+sent_prefix (b ∷ bs) P u h =
+    let s = allowed b in
+    let r = sent_prefix bs P u h in
+    (Sent s.0 ∷ r.0, (s.1, r.1), omega (arith, r.2))
 
 pub some_sent : (bs : List Bit) (P : Language) → HasText P → HasText (SentThen bs P)
-some_sent [] P h = h
-some_sent (b ∷ bs) P h =
-    let s = some_bit b in
-    let r = some_sent bs P h in
-    (Sent s.0 ∷ r.0, (s.1, r.1))
+some_sent bs P h = let r = sent_prefix bs P h.0 h.1 in (r.0, r.1)
 
 -- a bit that both may send
 common : (b c : Bit) → (Differ b c → ⊥) → (s : Bool) × Allows b s × Allows c s
@@ -56,12 +60,8 @@ common Either One n = (true, tt, refl)
 common Either Either n = (true, tt, tt)
 
 one_bit : (b c : Bit) (s : Bool) → Allows b s → Allows c s → Differ b c → ⊥
-one_bit Zero One s h k d = cc
-one_bit One Zero s h k d = cc
-one_bit Zero Zero s h k d = elim d [ inl e ↦ cc (e.1) | inr e ↦ cc (e.0) ]
-one_bit One One s h k d = elim d [ inl e ↦ cc (e.0) | inr e ↦ cc (e.1) ]
-one_bit Either c s h k d = elim d [ inl e ↦ cc (e.0) | inr e ↦ cc (e.0) ]
-one_bit b Either s h k d = elim d [ inl e ↦ cc (e.1) | inr e ↦ cc (e.1) ]
+one_bit b c s h k (inl d) = let p : s ≡ false = subst (λ (x : Bit). Allows x s) d.0 h in let q : s ≡ true = subst (λ (x : Bit). Allows x s) d.1 k in cc
+one_bit b c s h k (inr d) = let p : s ≡ true = subst (λ (x : Bit). Allows x s) d.0 h in let q : s ≡ false = subst (λ (x : Bit). Allows x s) d.1 k in cc
 
 split_differs : (b c : Bit) (bs cs : List Bit) → SplitAt (b ∷ bs) (c ∷ cs) 0 → Differ b c
 split_differs b c bs cs (inl h) = inl (let e = h.0 in let f = h.1 in (cc, cc))
@@ -156,7 +156,7 @@ wins_here (b ∷ bs) (c ∷ cs) P Q (suc k) w p q =
 pub parts_here : (way : Way) (bs cs : List Bit) (P Q : Language) (k : ℕ) → PartsAt way bs cs k → HasText P → HasText Q → Goes way (SentThen bs P) (SentThen cs Q) k
 parts_here both_end bs cs P Q k w p q = absurd w
 parts_here first_wins bs cs P Q k w p q = wins_here bs cs P Q k w p q
-parts_here second_wins bs cs P Q k w p q = swapped (SentThen bs P) (SentThen cs Q) k (wins_here cs bs Q P k w q p)
+parts_here second_wins bs cs P Q k w p q = turned first_wins (SentThen cs Q) (SentThen bs P) k (wins_here cs bs Q P k w q p)
 
 pub goes_after_sent : (way : Way) (bs cs : List Bit) (P Q : Language) (j : ℕ) → length bs ≡ length cs → NeverSplit bs cs → Goes way P Q j → Goes way (SentThen bs P) (SentThen cs Q) (j + length bs)
 goes_after_sent way [] [] P Q j l n g = goes_of way P Q g.wire (j + 0) (omega (arith, g.slot)) (meet_of way P Q j g)

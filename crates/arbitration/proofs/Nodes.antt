@@ -14,7 +14,7 @@ use Rattle.message_tree.specs.Drops.{refused_of}
 use Rattle.message_tree.specs.Laws.{HasText}
 use Rattle.message_tree.specs.Patterns.{pattern_bits, address_bits}
 use Rattle.message_tree.specs.Sizes.{frame_slots, payload_slots, tail_slots}
-use Rattle.message_tree.specs.Texts.{Language, message, SentThen, AnswerThen, AgainThen, Only, ReadThen, write_header, read_header, FrameText, PayloadText, TailText, InterruptText}
+use Rattle.message_tree.specs.Texts.{Language, Sender, message, interrupt, SentThen, AnswerThen, AgainThen, Only, ReadThen, write_header, read_header, SenderText, FrameText, PayloadText, TailText}
 use Rattle.message_tree.specs.Trees.{FrameTree, write, read, PayloadTree, byte, last, TailTree, stop, again}
 use Rattle.message_tree.proofs.TextLaws.{lawful_payload, lawful_tail}
 use Rattle.message_tree.proofs.TextLengths.{longest_frame}
@@ -22,7 +22,7 @@ use Rattle.arbitration.specs.declared.spans.Outcomes.{Outcomes}
 use Rattle.arbitration.specs.Spans.{IsSpan, union_of, after_of, After}
 use Rattle.arbitration.specs.Ways.{Way, both_end, first_wins, second_wins, put_first, put_second, Goes, span_of, AreOutcomes, AllHaveRoom, PartsAt, ArePartings, ReadsApart, AreReadsApart, Answered, AckedText, header_of}
 use Rattle.arbitration.proofs.SpanLemmas.{span_union, span_after, span_same, span_between, room}
-use Rattle.arbitration.proofs.Meetings.{some_bit, goes_sent, parts_here, goes_after_sent, goes_answer, goes_after_acked, goes_after_refused, goes_again, goes_after_again}
+use Rattle.arbitration.proofs.Meetings.{other, turned, sent_prefix, goes_sent, parts_here, goes_after_sent, goes_answer, goes_after_acked, goes_after_refused, goes_again, goes_after_again}
 use Rattle.arbitration.proofs.ReadMeetings.{some_bytes, Common, goes_read, reads_apart, goes_after_read}
 
 -- ---- bits, and the answer to them
@@ -123,17 +123,11 @@ stop_again first_wins P [] v w p q = q
 stop_again second_wins P [] v w p q = q
 stop_again way P (x ∷ u) v w p q = let e = (only_first (put_first way) Stop (x ∷ u) v p).0 in cc
 
-again_stop : (way : Way) (P : Language) (u v w : List Item) → AgainThen P (u ++ put_first way ∷ v) → Only Stop (u ++ put_second way ∷ w) → ⊥
-again_stop both_end P [] v w p q = p
-again_stop first_wins P [] v w p q = p
-again_stop second_wins P [] v w p q = p
-again_stop way P (x ∷ u) v w p q = let e = (only_first (put_second way) Stop (x ∷ u) w q).0 in cc
-
 pub stop_meets_again : (f : FrameTree) (way : Way) (k : ℕ) → Goes way (TailText stop) (TailText (again f)) k → ⊥
 stop_meets_again f way k g = stop_again way (FrameText f) g.wire g.first.0 g.second.0 g.first.1 g.second.1
 
 pub again_meets_stop : (f : FrameTree) (way : Way) (k : ℕ) → Goes way (TailText (again f)) (TailText stop) k → ⊥
-again_meets_stop f way k g = again_stop way (FrameText f) g.wire g.first.0 g.second.0 g.first.1 g.second.1
+again_meets_stop f way k g = stop_meets_again f (other way) k (turned way (TailText (again f)) (TailText stop) k g)
 
 -- a tail begins with no bit
 tail_begins : (t : TailTree) (s : Bool) (u : List Item) → TailText t (Sent s ∷ u) → ⊥
@@ -147,22 +141,14 @@ sent_tail second_wins b bs P t [] v w p q = tail_begins t _ w q
 sent_tail way b bs P t (Sent s ∷ u) v w p q = tail_begins t s (u ++ put_second way ∷ w) q
 sent_tail way b bs P t (_ ∷ u) v w p q = p
 
-tail_sent : (way : Way) (b : Bit) (bs : List Bit) (P : Language) (t : TailTree) (u v w : List Item) → TailText t (u ++ put_first way ∷ v) → SentThen (b ∷ bs) P (u ++ put_second way ∷ w) → ⊥
-tail_sent both_end b bs P t [] v w p q = q
-tail_sent first_wins b bs P t [] v w p q = tail_begins t _ v p
-tail_sent second_wins b bs P t [] v w p q = tail_begins t _ v p
-tail_sent way b bs P t (Sent s ∷ u) v w p q = tail_begins t s (u ++ put_first way ∷ v) p
-tail_sent way b bs P t (_ ∷ u) v w p q = q
-
 pub byte_meets_last : (a : Pattern) (x : PayloadTree) (r t : TailTree) (way : Way) (k : ℕ) → Goes way (PayloadText (byte a x r)) (PayloadText (last t)) k → ⊥
 unfolding pattern_bits
 byte_meets_last a x r t way k g =
     sent_tail way (bit_from (bit_at a.known 7) (bit_at a.value 7)) (bits_below 7 a.known a.value) (AnswerThen (PayloadText x) (TailText r)) t g.wire g.first.0 g.second.0 g.first.1 g.second.1
 
 pub last_meets_byte : (a : Pattern) (x : PayloadTree) (r t : TailTree) (way : Way) (k : ℕ) → Goes way (PayloadText (last t)) (PayloadText (byte a x r)) k → ⊥
-unfolding pattern_bits
 last_meets_byte a x r t way k g =
-    tail_sent way (bit_from (bit_at a.known 7) (bit_at a.value 7)) (bits_below 7 a.known a.value) (AnswerThen (PayloadText x) (TailText r)) t g.wire g.first.0 g.second.0 g.first.1 g.second.1
+    byte_meets_last a x r t (other way) k (turned way (PayloadText (last t)) (PayloadText (byte a x r)) k g)
 
 -- ---- room in a u32
 
@@ -176,13 +162,6 @@ length_of_header a z = refl
 pub length_of_data : (a : Pattern) → length (pattern_bits a) ≡ 8
 unfolding pattern_bits
 length_of_data a = refl
-
-sent_prefix : (bs : List Bit) (P : Language) (u : List Item) → P u → (v : List Item) × SentThen bs P v × (length v ≡ length bs + length u)
-sent_prefix [] P u h = (u, h, omega arith)
-sent_prefix (b ∷ bs) P u h =
-    let s = some_bit b in
-    let r = sent_prefix bs P u h in
-    (Sent s.0 ∷ r.0, (s.1, r.1), omega (arith, r.2))
 
 some_slots : (x : PayloadTree) → 1 ≤ payload_slots x
 some_slots (byte a x r) = omega arith
@@ -235,16 +214,9 @@ some_read c t =
     let r = some_bytes (c.least - 1) (TailText t) (lawful_tail t).some in
     (r.0, (c.least - 1, (omega arith, omega arith), r.1))
 
-module _ (bs cs : List Bit) (x y : PayloadTree) (r s : TailTree) (l : length bs ≡ 8) (m : length cs ≡ 8) where
-  abbrev FirstBytes : Language
-  FirstBytes = SentThen bs (AnswerThen (PayloadText x) (TailText r))
-
-  abbrev SecondBytes : Language
-  SecondBytes = SentThen cs (AnswerThen (PayloadText y) (TailText s))
-
-  pub bytes_part : (o : Outcomes) → ((k : ℕ) × SplitAt bs cs k) → ArePartings bs cs o → AreOutcomes FirstBytes SecondBytes o
-  bytes_part o k h =
-      parted bs cs (AnswerThen (PayloadText x) (TailText r)) (AnswerThen (PayloadText y) (TailText s)) o (l ∙ sym m) k (some_answer (PayloadText x) (TailText r) (lawful_payload x).some) (some_answer (PayloadText y) (TailText s) (lawful_payload y).some) h
+pub bytes_part : (a b : Pattern) (x y : PayloadTree) (r s : TailTree) (o : Outcomes) → ((k : ℕ) × SplitAt (pattern_bits a) (pattern_bits b) k) → ArePartings (pattern_bits a) (pattern_bits b) o → AreOutcomes (PayloadText (byte a x r)) (PayloadText (byte b y s)) o
+bytes_part a b x y r s o k h =
+    parted (pattern_bits a) (pattern_bits b) (AnswerThen (PayloadText x) (TailText r)) (AnswerThen (PayloadText y) (TailText s)) o (length_of_data a ∙ sym (length_of_data b)) k (some_answer (PayloadText x) (TailText r) (lawful_payload x).some) (some_answer (PayloadText y) (TailText s) (lawful_payload y).some) h
 
 pub reads_only_part : (c d : Count) (x y : TailTree) (o : Outcomes) → (Meet c d → ⊥) → AreReadsApart c d o → AreOutcomes (ReadThen c (TailText x)) (ReadThen d (TailText y)) o
 reads_only_part c d x y o n h =
@@ -259,7 +231,7 @@ pub read_splits_write : (a b : Address) → SplitAt (read_header a) (write_heade
 unfolding address_bits
 read_splits_write a b = inr (refl, refl)
 
-length_of_first : (f : FrameTree) → length (header_of (message f)) ≡ 8
+pub length_of_first : (f : FrameTree) → length (header_of (message f)) ≡ 8
 length_of_first (write a x r) = length_of_header a Zero
 length_of_first (read a c x r) = length_of_header a One
 
@@ -267,27 +239,41 @@ some_acked : (f : FrameTree) → HasText (AckedText f)
 some_acked (write a x r) = (lawful_payload x).some
 some_acked (read a c x r) = some_read c x
 
--- a frame is a header, and what follows each answer to it
-abbrev AsNode : FrameTree → Language
-AsNode f = SentThen (header_of (message f)) (AnswerThen (AckedText f) (TailText (refused_of f)))
+-- what is sent is a header, and what follows it
+abbrev pub AfterHeader : Sender → Language
+AfterHeader (message f) = AnswerThen (AckedText f) (TailText (refused_of f))
+AfterHeader (interrupt a) = Only Claim
 
-as_frames : (f g : FrameTree) (o : Outcomes) → AreOutcomes (AsNode f) (AsNode g) o → AreOutcomes (FrameText f) (FrameText g) o
-as_frames (write a x r) (write b y s) o h = h
-as_frames (write a x r) (read b d y s) o h = h
-as_frames (read a c x r) (write b y s) o h = h
-as_frames (read a c x r) (read b d y s) o h = h
+some_node : (s : Sender) → HasText (AfterHeader s)
+some_node (message f) = some_answer (AckedText f) (TailText (refused_of f)) (some_acked f)
+some_node (interrupt a) = (Claim ∷ [], refl)
+
+abbrev AsNode : Sender → Language
+AsNode s = SentThen (header_of s) (AfterHeader s)
+
+as_first : (s : Sender) (Q : Language) (o : Outcomes) → AreOutcomes (AsNode s) Q o → AreOutcomes (SenderText s) Q o
+as_first (message (write a x r)) Q o h = h
+as_first (message (read a c x r)) Q o h = h
+as_first (interrupt a) Q o h = h
+
+as_second : (P : Language) (t : Sender) (o : Outcomes) → AreOutcomes P (AsNode t) o → AreOutcomes P (SenderText t) o
+as_second P (message (write a x r)) o h = h
+as_second P (message (read a c x r)) o h = h
+as_second P (interrupt a) o h = h
+
+-- two who part in the header, or come to nothing further
+pub headers_part : (s t : Sender) (o : Outcomes) → length (header_of s) ≡ length (header_of t) → (NeverSplit (header_of s) (header_of t) → (way : Way) (k : ℕ) → Goes way (AfterHeader s) (AfterHeader t) k → ⊥) → ArePartings (header_of s) (header_of t) o → AreOutcomes (SenderText s) (SenderText t) o
+headers_part s t o l n h =
+    as_first s (SenderText t) o (as_second (AsNode s) t o (only_part (header_of s) (header_of t) (AfterHeader s) (AfterHeader t) o l n (some_node s) (some_node t) h))
 
 module _ (f g : FrameTree) where
-  some_node : (d : FrameTree) → HasText (AnswerThen (AckedText d) (TailText (refused_of d)))
-  some_node d = some_answer (AckedText d) (TailText (refused_of d)) (some_acked d)
-
   pub frames_part : (o : Outcomes) → ((k : ℕ) × SplitAt (header_of (message f)) (header_of (message g)) k) → ArePartings (header_of (message f)) (header_of (message g)) o → AreOutcomes (FrameText f) (FrameText g) o
   frames_part o k h =
-      as_frames f g o (parted (header_of (message f)) (header_of (message g)) (AnswerThen (AckedText f) (TailText (refused_of f))) (AnswerThen (AckedText g) (TailText (refused_of g))) o (length_of_first f ∙ sym (length_of_first g)) k (some_node f) (some_node g) h)
+      headers_part (message f) (message g) o (length_of_first f ∙ sym (length_of_first g)) (λ n way j m. n k.0 k.1) h
 
   pub frames_answered : (h o p q : Outcomes) → NeverSplit (header_of (message f)) (header_of (message g)) → ArePartings (header_of (message f)) (header_of (message g)) h → AreOutcomes (AckedText f) (AckedText g) p → AreOutcomes (TailText (refused_of f)) (TailText (refused_of g)) q → ((way : Way) → Answered (span_of way h) (span_of way p) (span_of way q) (span_of way o)) → AreOutcomes (FrameText f) (FrameText g) o
   frames_answered h o p q n a b c u =
-      as_frames f g o (answered (header_of (message f)) (header_of (message g)) (AckedText f) (AckedText g) (TailText (refused_of f)) (TailText (refused_of g)) (length_of_first f) (length_of_first g) h o p q n (some_acked f) (some_acked g) a b c u)
+      as_first (message f) (FrameText g) o (as_second (AsNode (message f)) (message g) o (answered (header_of (message f)) (header_of (message g)) (AckedText f) (AckedText g) (TailText (refused_of f)) (TailText (refused_of g)) (length_of_first f) (length_of_first g) h o p q n (some_acked f) (some_acked g) a b c u))
 
 module _ (v w : PayloadTree) (o : Outcomes) where
   pub byte_and_last : (a : Pattern) (x : PayloadTree) (r t : TailTree) → v ≡ byte a x r → w ≡ last t → ((way : Way) → span_of way o ≡ None) → AreOutcomes (PayloadText v) (PayloadText w) o
@@ -313,31 +299,7 @@ module _ (v w : TailTree) (o : Outcomes) where
 
 -- ---- interrupts
 
-after_claim : (way : Way) (P : Language) (k : ℕ) → Goes way (Only Claim) P k → ⊥
+pub after_claim : (way : Way) (P : Language) (k : ℕ) → Goes way (Only Claim) P k → ⊥
 after_claim both_end P k g = let e = (only_first Stop Claim g.wire g.first.0 g.first.1).1 in cc
 after_claim first_wins P k g = let e = (only_first (Sent false) Claim g.wire g.first.0 g.first.1).1 in cc
 after_claim second_wins P k g = let e = (only_first (Sent true) Claim g.wire g.first.0 g.first.1).1 in cc
-
-before_claim : (way : Way) (P : Language) (k : ℕ) → Goes way P (Only Claim) k → ⊥
-before_claim both_end P k g = let e = (only_first Stop Claim g.wire g.second.0 g.second.1).1 in cc
-before_claim first_wins P k g = let e = (only_first (Sent true) Claim g.wire g.second.0 g.second.1).1 in cc
-before_claim second_wins P k g = let e = (only_first (Sent false) Claim g.wire g.second.0 g.second.1).1 in cc
-
-some_claim : HasText (Only Claim)
-some_claim = (Claim ∷ [], refl)
-
-pub message_and_interrupt : (f : FrameTree) (b : Address) (bs cs : List Bit) (o : Outcomes) → bs ≡ header_of (message f) → cs ≡ address_bits b ++ One ∷ [] → ArePartings bs cs o → AreOutcomes (FrameText f) (InterruptText (address_bits b)) o
-message_and_interrupt (write a x r) b bs cs o e f h =
-    only_part (write_header a) (read_header b) (AnswerThen (PayloadText x) (TailText r)) (Only Claim) o (length_of_header a Zero ∙ sym (length_of_header b One)) (λ n way k g. before_claim way (AnswerThen (PayloadText x) (TailText r)) k g) (some_answer (PayloadText x) (TailText r) (lawful_payload x).some) some_claim (rw (e, f) at h)
-message_and_interrupt (read a c x r) b bs cs o e f h =
-    only_part (read_header a) (read_header b) (AnswerThen (ReadThen c (TailText x)) (TailText r)) (Only Claim) o (length_of_header a One ∙ sym (length_of_header b One)) (λ n way k g. before_claim way (AnswerThen (ReadThen c (TailText x)) (TailText r)) k g) (some_answer (ReadThen c (TailText x)) (TailText r) (some_read c x)) some_claim (rw (e, f) at h)
-
-pub interrupt_and_message : (a : Address) (f : FrameTree) (bs cs : List Bit) (o : Outcomes) → bs ≡ address_bits a ++ One ∷ [] → cs ≡ header_of (message f) → ArePartings bs cs o → AreOutcomes (InterruptText (address_bits a)) (FrameText f) o
-interrupt_and_message a (write b y s) bs cs o e f h =
-    only_part (read_header a) (write_header b) (Only Claim) (AnswerThen (PayloadText y) (TailText s)) o (length_of_header a One ∙ sym (length_of_header b Zero)) (λ n way k g. after_claim way (AnswerThen (PayloadText y) (TailText s)) k g) some_claim (some_answer (PayloadText y) (TailText s) (lawful_payload y).some) (rw (e, f) at h)
-interrupt_and_message a (read b d y s) bs cs o e f h =
-    only_part (read_header a) (read_header b) (Only Claim) (AnswerThen (ReadThen d (TailText y)) (TailText s)) o (length_of_header a One ∙ sym (length_of_header b One)) (λ n way k g. after_claim way (AnswerThen (ReadThen d (TailText y)) (TailText s)) k g) some_claim (some_answer (ReadThen d (TailText y)) (TailText s) (some_read d y)) (rw (e, f) at h)
-
-pub two_interrupts : (a b : Address) (bs cs : List Bit) (o : Outcomes) → bs ≡ address_bits a ++ One ∷ [] → cs ≡ address_bits b ++ One ∷ [] → ArePartings bs cs o → AreOutcomes (InterruptText (address_bits a)) (InterruptText (address_bits b)) o
-two_interrupts a b bs cs o e f h =
-    only_part (read_header a) (read_header b) (Only Claim) (Only Claim) o (length_of_header a One ∙ sym (length_of_header b One)) (λ n way k g. after_claim way (Only Claim) k g) some_claim some_claim (rw (e, f) at h)

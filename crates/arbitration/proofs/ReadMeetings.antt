@@ -4,7 +4,6 @@ use Rattle.message_tree.specs.declared.bits.Bit.{Bit}
 use Rattle.message_tree.specs.declared.bits.Bit.TheVariants.{Zero, One}
 use Rattle.message_tree.specs.declared.counts.Count.{Count}
 use Rattle.message_tree.specs.declared.items.Item.TheVariants.{Heard}
-use Rattle.message_tree.specs.Bits.{NeverSplit}
 use Rattle.message_tree.specs.Counts.{InRange, least_of, greatest_of}
 use Rattle.message_tree.specs.Laws.{HasText}
 use Rattle.message_tree.specs.Texts.{Language, Allows, SentThen, HeardThen, ByteThen, BytesThen, ReadThen}
@@ -12,8 +11,9 @@ use Rattle.arbitration.specs.declared.spans.Outcomes.{Outcomes}
 use Rattle.arbitration.specs.Spans.{IsSpan}
 use Rattle.arbitration.specs.Ways.{Way, both_end, first_wins, second_wins, Goes, WinsAt, PartsAt, ReadsOn, ReadsApart, AreReadsApart}
 use Rattle.arbitration.specs.Spans.{After}
+use Rattle.arbitration.proofs.BitPlaces.{never_part}
 use Rattle.arbitration.proofs.SpanLemmas.{Between}
-use Rattle.arbitration.proofs.Meetings.{swapped, some_sent, goes_sent, parts_here, goes_after_sent, goes_heard, goes_after_heard}
+use Rattle.arbitration.proofs.Meetings.{other, turned, some_sent, goes_sent, parts_here, goes_after_sent, goes_heard, goes_after_heard}
 
 -- ---- one byte
 
@@ -26,12 +26,6 @@ wins_bit b c (suc k) w = let h = w.zero.1 in absurd cc
 
 wins_zero : WinsAt (Zero ∷ []) (One ∷ []) 0
 wins_zero = record { zero = (Zero, refl, refl); one = (One, refl, refl); before = λ j lt h. absurd (omega arith) }
-
-never_one : (b : Bit) → NeverSplit (b ∷ []) (b ∷ [])
-never_one b zero (inl h) = let e = h.0 in let f = h.1 in cc
-never_one b zero (inr h) = let e = h.0 in let f = h.1 in cc
-never_one b (suc k) (inl h) = let e = h.0 in cc
-never_one b (suc k) (inr h) = let e = h.0 in cc
 
 same_bit : (way : Way) (b : Bit) (k : ℕ) → (Allows b false → Allows b true → ⊥) → PartsAt way (b ∷ []) (b ∷ []) k → ⊥
 same_bit both_end b k n w = w
@@ -55,7 +49,7 @@ goes_byte way b P Q k n g =
 
 goes_after_byte : (way : Way) (b : Bit) (P Q : Language) (j : ℕ) → Goes way P Q j → Goes way (ByteThen b P) (ByteThen b Q) (j + 9)
 goes_after_byte way b P Q j g =
-    let s = goes_after_sent way (b ∷ []) (b ∷ []) P Q j refl (never_one b) g in
+    let s = goes_after_sent way (b ∷ []) (b ∷ []) P Q j refl (never_part (b ∷ [])) g in
     let e : (j + 1) + 8 ≡ j + 9 = omega arith in
     subst (Goes way (ByteThen b P) (ByteThen b Q)) e (goes_after_heard way 8 (SentThen (b ∷ []) P) (SentThen (b ∷ []) Q) (j + 1) s)
 
@@ -65,25 +59,12 @@ zero_one both_end k w = absurd w
 zero_one first_wins k w = (refl, (wins_bit Zero One k w).0)
 zero_one second_wins k w = let r = (wins_bit One Zero k w).1 in absurd cc
 
-one_zero : (way : Way) (k : ℕ) → PartsAt way (One ∷ []) (Zero ∷ []) k → (way ≡ second_wins) × (k ≡ 0)
-one_zero both_end k w = absurd w
-one_zero first_wins k w = let r = (wins_bit One Zero k w).1 in absurd cc
-one_zero second_wins k w = (refl, (wins_bit Zero One k w).0)
-
 reads_on : (way : Way) (P Q : Language) (k : ℕ) → Goes way (ByteThen Zero P) (ByteThen One Q) k → (way ≡ first_wins) × (k ≡ 8)
 reads_on way P Q k g =
     let h = goes_heard way 8 (SentThen (Zero ∷ []) P) (SentThen (One ∷ []) Q) k g in
     elim (goes_sent way (Zero ∷ []) (One ∷ []) P Q h.0 refl h.2) [
       | inl w ↦ let r = zero_one way h.0 w in (r.0, omega (arith, h.1, r.1))
       | inr r ↦ absurd (r.0 0 (inl (refl, refl)))
-    ]
-
-ends_first : (way : Way) (P Q : Language) (k : ℕ) → Goes way (ByteThen One P) (ByteThen Zero Q) k → (way ≡ second_wins) × (k ≡ 8)
-ends_first way P Q k g =
-    let h = goes_heard way 8 (SentThen (One ∷ []) P) (SentThen (Zero ∷ []) Q) k g in
-    elim (goes_sent way (One ∷ []) (Zero ∷ []) P Q h.0 refl h.2) [
-      | inl w ↦ let r = one_zero way h.0 w in (r.0, omega (arith, h.1, r.1))
-      | inr r ↦ absurd (r.0 0 (inr (refl, refl)))
     ]
 
 wins_on : (P Q : Language) → HasText P → HasText Q → Goes first_wins (ByteThen Zero P) (ByteThen One Q) 8
@@ -115,6 +96,11 @@ BytesApart both_end m n k = ⊥
 BytesApart first_wins m n k = (n < m) × (k ≡ 9 * n + 8)
 BytesApart second_wins m n k = (m < n) × (k ≡ 9 * m + 8)
 
+apart_turned : (way : Way) (m n k : ℕ) → BytesApart (other way) m n k → BytesApart way n m k
+apart_turned both_end m n k h = h
+apart_turned first_wins m n k h = h
+apart_turned second_wins m n k h = h
+
 apart_later : (way : Way) (m n j k : ℕ) → k ≡ j + 9 → BytesApart way m n j → BytesApart way (suc m) (suc n) k
 apart_later both_end m n j k e h = h
 apart_later first_wins m n j k e h = (omega (arith, h.0), omega (arith, h.1))
@@ -125,8 +111,8 @@ goes_bytes way zero zero P Q k g =
     let r = goes_byte way One P Q k known_one g in
     inr (refl, (r.0, omega (arith, r.1), r.2))
 goes_bytes way zero (suc n) P Q k g =
-    let r = ends_first way P (Bytes n Q) k g in
-    inl (subst (λ (w : Way). BytesApart w 0 (suc n) k) (sym r.0) (omega arith, omega (arith, r.1)))
+    let r = reads_on (other way) (Bytes n Q) P k (turned way (Bytes 0 P) (Bytes (suc n) Q) k g) in
+    inl (apart_turned way (suc n) 0 k (subst (λ (w : Way). BytesApart w (suc n) 0 k) (sym r.0) (omega arith, omega (arith, r.1))))
 goes_bytes way (suc m) zero P Q k g =
     let r = reads_on way (Bytes m P) Q k g in
     inl (subst (λ (w : Way). BytesApart w (suc m) 0 k) (sym r.0) (omega arith, omega (arith, r.1)))
@@ -187,7 +173,7 @@ reading_on c d P Q k (n, r, lt, e) p q =
 pub reads_apart : (way : Way) (c d : Count) (P Q : Language) (k : ℕ) → ReadsApart way c d k → HasText P → HasText Q → Goes way (ReadThen c P) (ReadThen d Q) k
 reads_apart both_end c d P Q k h p q = absurd h
 reads_apart first_wins c d P Q k h p q = reading_on c d P Q k h p q
-reads_apart second_wins c d P Q k h p q = swapped (ReadThen c P) (ReadThen d Q) k (reading_on d c Q P k h q p)
+reads_apart second_wins c d P Q k h p q = turned first_wins (ReadThen d Q) (ReadThen c P) k (reading_on d c Q P k h q p)
 
 pub goes_after_read : (way : Way) (c d : Count) (P Q : Language) (k : ℕ) → Common c d (Goes way P Q) k → Goes way (ReadThen c P) (ReadThen d Q) k
 goes_after_read way c d P Q k (n, lo, hi, (j, e, g)) =

@@ -1,7 +1,6 @@
 -- The outcomes of two participants, in the words of the contract.
 use Rattle.std.proofs.Common.{◌≡◌, ℕ, ◌<◌, length, Option, Some, List, [], ◌∷◌, ◌++◌, append_assoc, refl, ap, sym, ◌∙◌, subst, inl, inr}
 use Rattle.message_tree.specs.declared.bits.Address.{Address}
-use Rattle.message_tree.specs.declared.bits.Bit.{Bit}
 use Rattle.message_tree.specs.declared.bits.Bit.TheVariants.{One}
 use Rattle.message_tree.specs.declared.items.Item.{Item}
 use Rattle.message_tree.specs.declared.items.Item.TheVariants.{Stop, Claim}
@@ -15,16 +14,16 @@ use Rattle.plan_core.specs.Participants.{TextOf, sender_at}
 use Rattle.arbitration.specs.declared.frames.Entry.{Entry}
 use Rattle.arbitration.specs.declared.senders.Sent.{Sent}
 use Rattle.arbitration.specs.declared.senders.Sent.TheVariants.{Message, Interrupt}
-use Rattle.arbitration.specs.declared.spans.Slots.{Slots}
 use Rattle.arbitration.specs.declared.spans.Outcomes.{Outcomes}
 use Rattle.arbitration.specs.Arbitration.{GoesOn, EndTogether, Wins}
 use Rattle.arbitration.specs.Frames.{Names, Grows, trees_of}
 use Rattle.arbitration.specs.Plans.{AllSend}
 use Rattle.arbitration.specs.Senders.{IsSent}
 use Rattle.arbitration.specs.Spans.{IsSpan}
-use Rattle.arbitration.specs.Ways.{both_end, first_wins, second_wins, Goes, AreOutcomes, ArePartings, header_of}
+use Rattle.arbitration.specs.Ways.{Way, both_end, first_wins, second_wins, Goes, AreOutcomes, ArePartings, header_of}
 use Rattle.arbitration.proofs.FrameLemmas.{named_within, name_grown, pushed_at}
-use Rattle.arbitration.proofs.Nodes.{message_and_interrupt, interrupt_and_message, two_interrupts}
+use Rattle.arbitration.proofs.Meetings.{other, turned}
+use Rattle.arbitration.proofs.Nodes.{length_of_header, length_of_first, AfterHeader, headers_part, after_claim}
 use Rattle.arbitration.proofs.SpanLemmas.{span_same}
 
 -- a STOP is the last item
@@ -38,44 +37,37 @@ pub stops : (s : Sender) (u : List Item) → GoesOn (SenderText s) u Stop → Se
 stops (message f) u h = stop_is_last Stop (SenderText (message f)) u h.0 (lawful_frame f).ends h.1
 stops (interrupt a) u h = stop_is_last Claim (SenderText (interrupt a)) u h.0 (lawful_interrupt a).ends h.1
 
-module _ (s t : Sender) (o : Outcomes) (h : AreOutcomes (SenderText s) (SenderText t) o) where
-  pub both_span : IsSpan (EndTogether (SenderText s) (SenderText t)) o.both
+-- of two participants who send this
+module _ (p q : Option Sender) (s t : Sender) (e : p ≡ Some s) (f : q ≡ Some t) (o : Outcomes) (h : AreOutcomes (SenderText s) (SenderText t) o) where
+  pub both_span : IsSpan (EndTogether (TextOf p) (TextOf q)) o.both
   both_span =
-      span_same (Goes both_end (SenderText s) (SenderText t)) (EndTogether (SenderText s) (SenderText t)) o.both (λ k g. record { wire = g.wire; slot = g.slot; first = stops s g.wire g.first; second = stops t g.wire g.second }) (λ k g. record { wire = g.wire; slot = g.slot; first = ([], g.first); second = ([], g.second) }) (h both_end)
+      rw (e, f) (span_same (Goes both_end (SenderText s) (SenderText t)) (EndTogether (SenderText s) (SenderText t)) o.both (λ k g. record { wire = g.wire; slot = g.slot; first = stops s g.wire g.first; second = stops t g.wire g.second }) (λ k g. record { wire = g.wire; slot = g.slot; first = ([], g.first); second = ([], g.second) }) (h both_end))
 
-  pub first_span : IsSpan (Wins (SenderText s) (SenderText t)) o.first
+  pub first_span : IsSpan (Wins (TextOf p) (TextOf q)) o.first
   first_span =
-      span_same (Goes first_wins (SenderText s) (SenderText t)) (Wins (SenderText s) (SenderText t)) o.first (λ k g. record { wire = g.wire; slot = g.slot; winner = g.first; loser = g.second }) (λ k g. record { wire = g.wire; slot = g.slot; first = g.winner; second = g.loser }) (h first_wins)
+      rw (e, f) (span_same (Goes first_wins (SenderText s) (SenderText t)) (Wins (SenderText s) (SenderText t)) o.first (λ k g. record { wire = g.wire; slot = g.slot; winner = g.first; loser = g.second }) (λ k g. record { wire = g.wire; slot = g.slot; first = g.winner; second = g.loser }) (h first_wins))
 
-  pub second_span : IsSpan (Wins (SenderText t) (SenderText s)) o.second
+  pub second_span : IsSpan (Wins (TextOf q) (TextOf p)) o.second
   second_span =
-      span_same (Goes second_wins (SenderText s) (SenderText t)) (Wins (SenderText t) (SenderText s)) o.second (λ k g. record { wire = g.wire; slot = g.slot; winner = g.second; loser = g.first }) (λ k g. record { wire = g.wire; slot = g.slot; first = g.loser; second = g.winner }) (h second_wins)
+      rw (e, f) (span_same (Goes second_wins (SenderText s) (SenderText t)) (Wins (SenderText t) (SenderText s)) o.second (λ k g. record { wire = g.wire; slot = g.slot; winner = g.second; loser = g.first }) (λ k g. record { wire = g.wire; slot = g.slot; first = g.loser; second = g.winner }) (h second_wins))
 
--- the same of two participants who send this
-module _ (p q : Option Sender) (s t : Sender) (e : p ≡ Some s) (f : q ≡ Some t) (o : Option Slots) where
-  pub both_of_pair : IsSpan (EndTogether (SenderText s) (SenderText t)) o → IsSpan (EndTogether (TextOf p) (TextOf q)) o
-  both_of_pair h =
-      subst (λ (a : Option Sender). IsSpan (EndTogether (TextOf a) (TextOf q)) o) (sym e) (subst (λ (b : Option Sender). IsSpan (EndTogether (SenderText s) (TextOf b)) o) (sym f) h)
+header_length : (known : List FrameTree) (v : Sent) (s : Sender) → IsSent known v s → length (header_of s) ≡ 8
+header_length known v (message f) i = length_of_first f
+header_length known (Message n) (interrupt bits) i = absurd i
+header_length known (Interrupt a) (interrupt bits) i = rw i (length_of_header a One)
 
-  pub first_of_pair : IsSpan (Wins (SenderText s) (SenderText t)) o → IsSpan (Wins (TextOf p) (TextOf q)) o
-  first_of_pair h =
-      subst (λ (a : Option Sender). IsSpan (Wins (TextOf a) (TextOf q)) o) (sym e) (subst (λ (b : Option Sender). IsSpan (Wins (SenderText s) (TextOf b)) o) (sym f) h)
+one_claims : (known : List FrameTree) (v w : Sent) (s t : Sender) → IsSent known v s → IsSent known w t → ((m n : ℕ) → v ≡ Message m → w ≡ Message n → ⊥) → (way : Way) (k : ℕ) → Goes way (AfterHeader s) (AfterHeader t) k → ⊥
+one_claims known v w (interrupt a) t i j never way k g = after_claim way (AfterHeader t) k g
+one_claims known v w (message f) (interrupt b) i j never way k g =
+    after_claim (other way) (AfterHeader (message f)) k (turned way (AfterHeader (message f)) (AfterHeader (interrupt b)) k g)
+one_claims known (Message m) (Message n) (message f) (message g) i j never way k h = never m n refl refl
+one_claims known (Interrupt a) w (message f) (message g) i j never way k h = i
+one_claims known v (Interrupt b) (message f) (message g) i j never way k h = j
 
 -- two of whom one interrupts part in the header, or come to nothing
 pub interrupted : (known : List FrameTree) (v w : Sent) (s t : Sender) (o : Outcomes) → IsSent known v s → IsSent known w t → ((m n : ℕ) → v ≡ Message m → w ≡ Message n → ⊥) → ArePartings (header_of s) (header_of t) o → AreOutcomes (SenderText s) (SenderText t) o
-interrupted known (Message m) (Message n) s t o i j never h = absurd (never m n refl refl)
-interrupted known (Message m) (Interrupt b) (message x) (message y) o i j never h = absurd j
-interrupted known (Message m) (Interrupt b) (message x) (interrupt y) o i j never h =
-    rw j (message_and_interrupt x b (header_of (message x)) (header_of (interrupt y)) o refl (ap (λ (bits : List Bit). bits ++ One ∷ []) j) h)
-interrupted known (Message m) (Interrupt b) (interrupt x) t o i j never h = absurd i
-interrupted known (Interrupt a) (Message n) (message x) t o i j never h = absurd i
-interrupted known (Interrupt a) (Message n) (interrupt x) (message y) o i j never h =
-    rw i (interrupt_and_message a y (header_of (interrupt x)) (header_of (message y)) o (ap (λ (bits : List Bit). bits ++ One ∷ []) i) refl h)
-interrupted known (Interrupt a) (Message n) (interrupt x) (interrupt y) o i j never h = absurd j
-interrupted known (Interrupt a) (Interrupt b) (message x) t o i j never h = absurd i
-interrupted known (Interrupt a) (Interrupt b) (interrupt x) (message y) o i j never h = absurd j
-interrupted known (Interrupt a) (Interrupt b) (interrupt x) (interrupt y) o i j never h =
-    rw (i, j) (two_interrupts a b (header_of (interrupt x)) (header_of (interrupt y)) o (ap (λ (bits : List Bit). bits ++ One ∷ []) i) (ap (λ (bits : List Bit). bits ++ One ∷ []) j) h)
+interrupted known v w s t o i j never h =
+    headers_part s t o (header_length known v s i ∙ sym (header_length known w t j)) (λ n. one_claims known v w s t i j never) h
 
 -- both send messages
 pub both_messages : (known : List FrameTree) (m n : ℕ) (o : Outcomes) → ((f g : FrameTree) → Names known m f → Names known n g → AreOutcomes (FrameText f) (FrameText g) o) → (s t : Sender) → IsSent known (Message m) s → IsSent known (Message n) t → AreOutcomes (SenderText s) (SenderText t) o

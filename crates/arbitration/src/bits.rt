@@ -47,6 +47,11 @@ impl Choices {
         Choices { zero, one }
     }
 
+    /// A number for each.
+    pub(crate) fn number(self) -> u64 {
+        u64::from(self.zero) << 8 | u64::from(self.one)
+    }
+
     // The places at which the two bits are known and different.
     #[inline(always)]
     fn splits(self, other: Choices) -> u8

@@ -1,5 +1,5 @@
 -- What a board says of a name.
-use Rattle.std.proofs.Common.{◌≡◌, ℕ, ◌+◌, ◌<◌, ◌≤◌, arith, Bool, true, false, ◌||◌, ◌&&◌, List, [], ◌∷◌, ◌∙◌, Option, Some, None, is_some, IfSome, refl, ap, sym}
+use Rattle.std.proofs.Common.{◌≡◌, ℕ, ◌+◌, ◌*◌, ◌<◌, ◌≤◌, arith, Bool, true, false, ◌||◌, ◌&&◌, List, [], ◌∷◌, ◌∙◌, Option, Some, None, is_some, IfSome, refl, ap, sym}
 use Rattle.std.specs.Prelude.{nat_le, nat_lt, length, unwrap_or, Ok, Err, not, if◌then◌else◌}
 use Rattle.std.specs.List.{list_any, sum_by, fold}
 use Rattle.std.proofs.lemmas.List.{length-map}
@@ -31,8 +31,8 @@ use Rattle.plan_text.specs.Symbols.{bit_symbol}
 use Rattle.plan_text.specs.Values.{address_of}
 use Rattle.plan_text.proofs.ValueLemmas.{address_found}
 use Rattle.std.specs.Prelude.{codes, map}
-use Rattle.brief_text.specs.Drafts.{Draft, any_address, value_or, member_name, members, stands_for, same_side, is_new_label}
-use Rattle.brief_text.specs.Judging.{is_family, is_message, message_refusal_of, range_refusal, have_one_of, sendings, listing_refusal, is_labelled, is_side_of, extend_refusal_of, is_taken, are_sides, lists_one, is_side, part_refusal, first_refusal, second_refusal, controller_refusal_of}
+use Rattle.brief_text.specs.Drafts.{Draft, any_address, value_or, member_name, members, stands_for, same_side, is_new_label, is_group, devices_of, device_names}
+use Rattle.brief_text.specs.Judging.{device_refusal, how_many, is_long, further_names, repeats, grouped_by, is_family, is_message, message_refusal_of, range_refusal, have_one_of, sendings, listing_refusal, is_labelled, is_side_of, extend_refusal_of, is_taken, are_sides, lists_one, is_side, part_refusal, first_refusal, second_refusal, controller_refusal_of}
 use Rattle.brief_text.specs.Meanings.{is_twice}
 use Rattle.brief_text.specs.Trees.{named}
 
@@ -173,3 +173,28 @@ pub second_judged : (draft : Draft) (first second : Side) (same known twice : Bo
 unfolding second_refusal
 second_judged draft first second same known twice are_same is_known are_twice =
     λ i. if are_same i then Some Twice else if not (is_known i) then Some Unknown else if are_twice i then Some Twice else part_refusal draft second
+
+-- ---- devices of groups, by tests
+
+pub device_judged : (draft : Draft) (before : List (List ℕ)) (name : List ℕ) (known among twice : Bool) → is_some (lookup (bytes_eq name) draft.devices) ≡ known → is_group draft name ≡ among → list_any (λ other. bytes_eq other name) before ≡ twice
+    → device_refusal draft before name ≡ (if not known || among then Some Unknown else if twice then Some Twice else None)
+unfolding device_refusal
+device_judged draft before name known among twice is_known is_among is_twice = λ i. if not (is_known i) || is_among i then Some Unknown else if is_twice i then Some Twice else None
+
+-- ---- what a message makes by a group, by tests
+
+module _ {A : Type 0} (draft : Draft) (name : List ℕ) (range : Option Lengths) (group : List ℕ) (others : List (List ℕ)) (line : ℕ) (x : A) where
+  pub grouped_judged : (differ many full long stand twice : Bool) → list_any (λ other. not (bytes_eq other group)) others ≡ differ
+      → nat_lt MOST_MESSAGES (length (devices_of draft group)) ≡ many
+      → nat_lt MOST_MESSAGES (length draft.plan.messages + length (devices_of draft group) * how_many range) ≡ full
+      → list_any (is_long range) (device_names draft name group) ≡ long
+      → list_any (is_message draft) (further_names range (device_names draft name group)) ≡ stand
+      → repeats (further_names range (device_names draft name group)) ≡ twice
+      → grouped_by draft name range (group ∷ others) line x
+      ≡ (if differ then Err (errors.Unexpected line) else if many then Err (errors.TooMany line) else if full then Err (errors.TooMany line) else if long then Err (errors.Unexpected line) else if stand then Err (errors.Twice line) else if twice then Err (errors.Twice line) else Ok x)
+  grouped_judged differ many full long stand twice they_differ are_many are_full are_long one_stands are_twice =
+      λ i. if they_differ i then Err (errors.Unexpected line) else if are_many i then Err (errors.TooMany line) else if are_full i then Err (errors.TooMany line) else if are_long i then Err (errors.Unexpected line) else if one_stands i then Err (errors.Twice line) else if are_twice i then Err (errors.Twice line) else Ok x
+
+pub names_over : {B : Type 0} (f : List ℕ → B) (names : List Name) → map f (map name_bytes names) ≡ map (λ name. f (name_bytes name)) names
+names_over f [] = refl
+names_over f (name ∷ names) = ap (λ them. f (name_bytes name) ∷ them) (names_over f names)

@@ -1,35 +1,40 @@
 -- Each item that is read is spelled so, and fits.
-use Rattle.std.proofs.Common.{◌≡◌, ℕ, ◌<◌, ◌≤◌, List, [], ◌∷◌, ◌++◌, Option, Some, None, is_some, refl, ap, sym, ◌∙◌, subst, arith, append-nil, append_assoc}
-use Rattle.std.specs.Prelude.{Ok}
+use Rattle.std.proofs.Common.{◌≡◌, ℕ, ◌+◌, ◌<◌, ◌≤◌, List, [], ◌∷◌, ◌++◌, Option, Some, None, is_some, refl, ap, sym, ◌∙◌, subst, arith, append-nil, append_assoc}
+use Rattle.std.specs.Prelude.{◌*◌, Bool, true, false, not, nat_lt, length, Ok, Err, if◌then◌else◌}
+use Rattle.std.specs.List.{list_any}
+use Rattle.std.specs.Str.{bytes_eq}
 use Rattle.message_tree.specs.Patterns.{address_bits}
 use Rattle.message_tree.specs.Sizes.{frame_nodes}
 use Rattle.message_tree.specs.declared.bits.Address.{Address}
 use Rattle.message_tree.specs.declared.bits.Pattern.{Pattern}
 use Rattle.plan_core.specs.Building.{interrupt_refusal}
-use Rattle.plan_core.specs.declared.limits.TheConstants.{MOST_BYTES, MOST_NODES}
+use Rattle.plan_core.specs.declared.limits.TheConstants.{MOST_BYTES, MOST_NODES, MOST_MESSAGES}
 use Rattle.plan_core.proofs.BuildingLemmas.{size_fits}
 use Rattle.plan_text.specs.Reader.{◌>>=◌, or_refused, unless_refused}
 use Rattle.plan_text.specs.declared.errors.PlanError.TheVariants.{Unexpected}
+use Rattle.plan_text.specs.declared.errors.PlanError.TheVariants as errors
+use Rattle.plan_core.specs.declared.builder.BuildError.{BuildError}
+use Rattle.brief_text.specs.declared.syntax.Lengths.{Lengths}
 use Rattle.plan_text.proofs.TakesLemmas.{bind_ok, or_ok, ok_is}
 use Rattle.lexer.specs.declared.lexemes.Letters.{Letters}
 use Rattle.brief_tokens.specs.declared.symbols.Keyword.{Keyword}
 use Rattle.brief_tokens.specs.declared.symbols.Keyword.TheVariants as keywords
 use Rattle.brief_tokens.specs.declared.symbols.Sign.TheVariants as signs
-use Rattle.brief_text.specs.Drafts.{Draft, address_said, frame_meant, with_label}
+use Rattle.brief_text.specs.Drafts.{Draft, address_said, frame_meant, frame_groups, devices_of, device_names, with_label}
 use Rattle.brief_text.specs.Fitting.{Fits, ListFits}
 use Rattle.brief_text.specs.Frames.{Around, frames_at}
 use Rattle.brief_text.specs.Grammar.{one, SpellsName, SpellsNames, SpellsAs, SpellsItem}
-use Rattle.brief_text.specs.Items.{address_in, pattern_in, device_at, byte_at, message_at, listed_from, controller_at, extend_at, interrupt_at, side_in, never_at, item_in, item_at}
-use Rattle.brief_text.specs.Judging.{named_refusal, message_refusal_of, controller_refusal_of, extend_refusal_of, listed_by, listing_refusal, all_of, first_refusal, second_refusal}
+use Rattle.brief_text.specs.Items.{address_in, pattern_in, device_at, byte_at, message_at, group_at, names_from, listed_refusal, controller_at, extend_at, interrupt_at, side_in, never_at, item_in, item_at}
+use Rattle.brief_text.specs.Judging.{named_refusal, device_refusal, is_message, how_many, is_long, further_names, repeats, grouped_by, grouped_refusal, message_refusal_of, controller_refusal_of, extend_refusal_of, listed_by, first_refusal, second_refusal}
 use Rattle.brief_text.specs.Places.{Place, Reads, token_as, end_in, past, name_in, name_at, to_at}
 use Rattle.brief_tokens.specs.Tokens.{Token, keyword, word, sign, Tokens, next}
 use Rattle.brief_tokens.specs.Tokens as tokens
-use Rattle.brief_text.specs.Trees.{Side, BriefItem, device, byte, message, controller, extend, interrupt, never_both}
+use Rattle.brief_text.specs.Trees.{BriefFrame, Side, BriefItem, device, byte, device_group, message, controller, extend, interrupt, never_both}
 use Rattle.brief_text.specs.Words.{address_by, data_by, known_number, side_by}
 use Rattle.brief_text.proofs.FrameLemmas.{frames_take}
 use Rattle.brief_text.proofs.GrowLemmas.{each_within}
 use Rattle.brief_text.proofs.PartLemmas.{most_often, agrees_self}
-use Rattle.brief_text.proofs.TakesLemmas.{Passed, spelled_takes, token_takes, past_takes, end_only, name_only, unless_ok, name_takes, to_takes}
+use Rattle.brief_text.proofs.TakesLemmas.{done, Passed, spelled_takes, token_takes, past_takes, end_only, name_only, unless_ok, name_takes, to_takes}
 use Rattle.brief_text.proofs.ValueLemmas.{size}
 
 -- ---- words
@@ -49,42 +54,68 @@ side_only l t x line rest e = absurd cc
 end_takes : (at after : Place) → past end_in at ≡ Ok after → Passed (one (sign signs.Semicolon)) at after
 end_takes = past_takes end_in (sign signs.Semicolon) end_only
 
--- ---- what a controller lists
+-- ---- what a controller lists, and the devices of a group
 
 -- names after these, up to `;`
-record Listed (draft : Draft) (has before : List (List ℕ)) (from : Tokens) (x : List (List ℕ) × Place) : Type 0 where
+record Listed (refusal : List (List ℕ) → List ℕ → Option BuildError) (before : List (List ℕ)) (from : Tokens) (x : List (List ℕ) × Place) : Type 0 where
   names : List (List ℕ)
   between : Tokens
   all : x.0 ≡ before ++ names
   spelled : SpellsNames names from between
   end : one (sign signs.Semicolon) between x.1.tokens
-  fits : ListFits draft has before names
+  fits : ListFits refusal before names
   fewer : size x.1.tokens < size from
 
-names_take : (from : Tokens) (draft : Draft) (has before : List (List ℕ)) (at : Place) (x : List (List ℕ) × Place) → listed_from draft has before from at ≡ Ok x → Listed draft has before from x
-names_take (next (sign signs.Semicolon) line rest) draft has before at x e =
-    subst (Listed draft has before (next (sign signs.Semicolon) line rest)) (ok_is (before, record at { tokens = rest }) x e)
+names_take : (from : Tokens) (refusal : List (List ℕ) → List ℕ → Option BuildError) (before : List (List ℕ)) (at : Place) (x : List (List ℕ) × Place) → names_from refusal before from at ≡ Ok x → Listed refusal before from x
+names_take (next (sign signs.Semicolon) line rest) refusal before at x e =
+    subst (Listed refusal before (next (sign signs.Semicolon) line rest)) (ok_is (before, record at { tokens = rest }) x e)
     record { names = []; between = next (sign signs.Semicolon) line rest; all = sym (append-nil before); spelled = refl; end = (line, refl); fits = tt; fewer = omega arith }
-names_take (next (word bytes) line rest) draft has before at x e =
-    let name = bind_ok (or_refused (name_in (word bytes)) (Unexpected line)) (λ name. unless_refused (listing_refusal draft has (all_of draft before) name) line name >>= λ allowed. listed_from draft has (before ++ allowed ∷ []) rest (record at { tokens = rest })) x e in
-    let allowed = bind_ok (unless_refused (listing_refusal draft has (all_of draft before) name.0) line name.0) (λ allowed. listed_from draft has (before ++ allowed ∷ []) rest (record at { tokens = rest })) x name.2 in
-    let free = unless_ok (listing_refusal draft has (all_of draft before) name.0) line name.0 allowed.0 allowed.1 in
+names_take (next (word bytes) line rest) refusal before at x e =
+    let name = bind_ok (or_refused (name_in (word bytes)) (Unexpected line)) (λ name. unless_refused (refusal before name) line name >>= λ allowed. names_from refusal (before ++ allowed ∷ []) rest (record at { tokens = rest })) x e in
+    let allowed = bind_ok (unless_refused (refusal before name.0) line name.0) (λ allowed. names_from refusal (before ++ allowed ∷ []) rest (record at { tokens = rest })) x name.2 in
+    let free = unless_ok (refusal before name.0) line name.0 allowed.0 allowed.1 in
     let spelled = name_only (word bytes) name.0 line rest (or_ok (name_in (word bytes)) (Unexpected line) name.0 name.1) in
-    let more = names_take rest draft has (before ++ allowed.0 ∷ []) (record at { tokens = rest }) x allowed.2 in
+    let more = names_take rest refusal (before ++ allowed.0 ∷ []) (record at { tokens = rest }) x allowed.2 in
     record {
       names = allowed.0 ∷ more.names;
       between = more.between;
       all = more.all ∙ append_assoc before (allowed.0 ∷ []) more.names;
       spelled = (rest, subst (λ (n : List ℕ). SpellsName n (next (word bytes) line rest) rest) free.1 spelled, more.spelled);
       end = more.end;
-      fits = (subst (λ (n : List ℕ). listing_refusal draft has (all_of draft before) n ≡ None) free.1 free.0, more.fits);
+      fits = (subst (λ (n : List ℕ). refusal before n ≡ None) free.1 free.0, more.fits);
       fewer = omega (arith, more.fewer);
     }
-names_take (next (keyword k) line rest) draft has before at x e = absurd cc
-names_take (next (sign s) line rest) draft has before at x e = absurd cc
-names_take (next (tokens.quoted q) line rest) draft has before at x e = absurd cc
-names_take (next (tokens.span l u) line rest) draft has before at x e = absurd cc
-names_take (tokens.last ending line) draft has before at x e = absurd cc
+names_take (next (keyword k) line rest) refusal before at x e = absurd cc
+names_take (next (sign s) line rest) refusal before at x e = absurd cc
+names_take (next (tokens.quoted q) line rest) refusal before at x e = absurd cc
+names_take (next (tokens.span l u) line rest) refusal before at x e = absurd cc
+names_take (tokens.last ending line) refusal before at x e = absurd cc
+
+-- ---- what a message makes by a group
+
+semicolon_takes : (at : Place) (x : Unit {0} × ℕ × Place) → token_as end_in at ≡ Ok x → Passed (one (sign signs.Semicolon)) at x.2
+semicolon_takes = spelled_takes end_in (λ _. one (sign signs.Semicolon)) (λ t u line rest h. (line, ap (λ (k : Token). next k line rest) (end_only t h)))
+
+-- no name that is made is refused
+grouped_takes : (draft : Draft) (name : List ℕ) (range : Option Lengths) (groups : List (List ℕ)) (line : ℕ) (x y : Place) → grouped_by draft name range groups line x ≡ Ok y → (x ≡ y) × (grouped_by draft name range groups 0 range ≡ Ok range)
+grouped_takes draft name range [] line x y e = (ok_is x y e, refl)
+grouped_takes draft name range (group ∷ others) line x y e =
+    by_tests (list_any (λ other. not (bytes_eq other group)) others) (nat_lt MOST_MESSAGES (length (devices_of draft group)))
+    (nat_lt MOST_MESSAGES (length draft.plan.messages + length (devices_of draft group) * how_many range)) (list_any (is_long range) (device_names draft name group))
+    (list_any (is_message draft) (further_names range (device_names draft name group))) (repeats (further_names range (device_names draft name group))) e
+  where
+    by_tests : (a b c d k m : Bool) → (if a then Err (Unexpected line) else if b then Err (errors.TooMany line) else if c then Err (errors.TooMany line) else if d then Err (Unexpected line) else if k then Err (errors.Twice line) else if m then Err (errors.Twice line) else Ok x) ≡ Ok y
+        → (x ≡ y) × ((if a then Err (Unexpected 0) else if b then Err (errors.TooMany 0) else if c then Err (errors.TooMany 0) else if d then Err (Unexpected 0) else if k then Err (errors.Twice 0) else if m then Err (errors.Twice 0) else Ok range) ≡ done range)
+    by_tests false false false false false false h = (ok_is x y h, refl)
+    by_tests true b c d k m h = absurd cc
+    by_tests false true c d k m h = absurd cc
+    by_tests false false true d k m h = absurd cc
+    by_tests false false false true k m h = absurd cc
+    by_tests false false false false true m h = absurd cc
+    by_tests false false false false false true h = absurd cc
+
+abbrev item_before : List ℕ → BriefFrame → Place → BriefItem × Place
+item_before name frame at = (message name at.range frame, at)
 
 -- ---- items
 
@@ -129,32 +160,52 @@ module _ (l : Letters) (draft : Draft) (from at : Place) (x : BriefItem × Place
         fewer = omega (arith, start.fewer, n.0.fewer, b.fewer, end.fewer);
       }
 
+  group_takes : Starts keywords.Group → group_at draft at ≡ Ok x → ItemTaken l draft from x
+  unfolding group_at
+  group_takes start e =
+      let name = bind_ok (name_at (named_refusal draft.devices) at) (λ name. name_at (device_refusal draft []) name.1 >>= λ first. names_from (device_refusal draft) (first.0 ∷ []) first.1.tokens first.1 >>= λ devices. Ok (device_group name.0 devices.0, devices.1)) x e in
+      let first = bind_ok (name_at (device_refusal draft []) name.0.1) (λ first. names_from (device_refusal draft) (first.0 ∷ []) first.1.tokens first.1 >>= λ devices. Ok (device_group name.0.0 devices.0, devices.1)) x name.2 in
+      let list = bind_ok (names_from (device_refusal draft) (first.0.0 ∷ []) first.0.1.tokens first.0.1) (λ devices. Ok (device_group name.0.0 devices.0, devices.1)) x first.2 in
+      let n = name_takes (named_refusal draft.devices) at name.0 name.1 in
+      let d = name_takes (device_refusal draft []) name.0.1 first.0 first.1 in
+      let m = names_take first.0.1.tokens (device_refusal draft) (first.0.0 ∷ []) first.0.1 list.0 list.1 in
+      subst (ItemTaken l draft from) (ap (λ (names : List (List ℕ)). (device_group name.0.0 names, list.0.1)) (sym m.all) ∙ ok_is (device_group name.0.0 list.0.0, list.0.1) x list.2)
+      record {
+        fits = (n.1, (d.1, m.fits));
+        spelled = (at.tokens, start.spelled, (name.0.1.tokens, n.0.spelled, (m.between, (first.0.1.tokens, d.0.spelled, m.spelled), m.end)));
+        fewer = omega (arith, start.fewer, n.0.fewer, d.0.fewer, m.fewer);
+      }
+
   message_takes : Starts keywords.Message → message_at draft at ≡ Ok x → ItemTaken l draft from x
   unfolding message_at
   message_takes start e =
-      let name = bind_ok (name_at (message_refusal_of draft) at) (λ name. frames_at (record { draft = draft; name = name.0 }) MOST_BYTES 1 (record name.1 { nodes = 0; range = None }) >>= λ frames. past end_in frames.1 >>= λ after. Ok (message name.0 after.range frames.0, after)) x e in
+      let name = bind_ok (name_at (message_refusal_of draft) at) (λ name. frames_at (record { draft = draft; name = name.0 }) MOST_BYTES 1 (record name.1 { nodes = 0; range = None }) >>= λ frames. token_as end_in frames.1 >>= λ end. grouped_refusal draft name.0 end.2.range frames.0 end.1 end.2 >>= λ after. Ok (message name.0 after.range frames.0, after)) x e in
       by_name name.0.0 name.0.1 (name_takes (message_refusal_of draft) at name.0 name.1) name.2
     where
       by_name : (name : List ℕ) (mid : Place) → Passed (SpellsName name) at mid × (message_refusal_of draft name ≡ None)
-          → (frames_at (record { draft = draft; name = name }) MOST_BYTES 1 (record mid { nodes = 0; range = None }) >>= λ frames. past end_in frames.1 >>= λ after. Ok (message name after.range frames.0, after)) ≡ Ok x → ItemTaken l draft from x
+          → (frames_at (record { draft = draft; name = name }) MOST_BYTES 1 (record mid { nodes = 0; range = None }) >>= λ frames. token_as end_in frames.1 >>= λ end. grouped_refusal draft name end.2.range frames.0 end.1 end.2 >>= λ after. Ok (message name after.range frames.0, after)) ≡ Ok x → ItemTaken l draft from x
       by_name name mid n h =
           let g : Around = record { draft = draft; name = name } in
           let begin : Place = record mid { nodes = 0; range = None } in
-          let frame = bind_ok (frames_at g MOST_BYTES 1 begin) (λ frames. past end_in frames.1 >>= λ after. Ok (message name after.range frames.0, after)) x h in
-          let after = bind_ok (past end_in frame.0.1) (λ after. Ok (message name after.range frame.0.0, after)) x frame.2 in
-          let end = end_takes frame.0.1 after.0 after.1 in
+          let frame = bind_ok (frames_at g MOST_BYTES 1 begin) (λ frames. token_as end_in frames.1 >>= λ end. grouped_refusal draft name end.2.range frames.0 end.1 end.2 >>= λ after. Ok (message name after.range frames.0, after)) x h in
+          let last = bind_ok (token_as end_in frame.0.1) (λ end. grouped_refusal draft name end.2.range frame.0.0 end.1 end.2 >>= λ after. Ok (message name after.range frame.0.0, after)) x frame.2 in
+          let after = bind_ok (grouped_refusal draft name last.0.2.range frame.0.0 last.0.1 last.0.2) (λ after. Ok (message name after.range frame.0.0, after)) x last.2 in
+          let free = grouped_takes draft name last.0.2.range (frame_groups draft frame.0.0) last.0.1 last.0.2 after.0 after.1 in
+          let end = semicolon_takes frame.0.1 last.0 last.1 in
           let R = frame.0.1.range in
           let f = frames_take g R MOST_BYTES 1 begin frame.0 frame.1 (agrees_self R) in
           let limit = f.part.limit (omega arith) in
           let small : frame_nodes (frame_meant draft (most_often R) frame.0.0) ≤ MOST_NODES = omega (arith, limit, f.part.count) in
-          subst (ItemTaken l draft from) (ok_is (message name after.0.range frame.0.0, after.0) x after.2)
-          (subst (λ (o : Option _). ItemTaken l draft from (message name o frame.0.0, after.0)) (sym end.kept.range)
+          let same : (message name last.0.2.range frame.0.0, last.0.2) ≡ x = ap (λ (y : Place). item_before name frame.0.0 y) free.0 ∙ ok_is (message name after.0.range frame.0.0, after.0) x after.2 in
+          subst (ItemTaken l draft from) same
+          (subst (λ (o : Option _). ItemTaken l draft from (message name o frame.0.0, last.0.2)) (sym end.kept.range)
           record {
             fits = record {
               new = n.1;
               knows = f.known;
               ranges = omega (arith, f.part.found);
               members = f.part.allowed tt;
+              grouped = subst (λ (o : Option _). grouped_by draft name o (frame_groups draft frame.0.0) 0 o ≡ Ok o) end.kept.range free.1;
               each = each_within draft name R frame.0.0 (size_fits (frame_meant draft (most_often R) frame.0.0) f.path small);
             };
             spelled = (at.tokens, start.spelled, (mid.tokens, n.0.spelled, (frame.0.1.tokens, f.part.spelled, end.spelled)));
@@ -164,10 +215,10 @@ module _ (l : Letters) (draft : Draft) (from at : Place) (x : BriefItem × Place
   controller_takes : Starts keywords.Controller → controller_at draft at ≡ Ok x → ItemTaken l draft from x
   unfolding controller_at
   controller_takes start e =
-      let name = bind_ok (name_at (controller_refusal_of draft) at) (λ name. listed_from draft [] [] name.1.tokens name.1 >>= λ messages. Ok (controller name.0 messages.0, messages.1)) x e in
-      let list = bind_ok (listed_from draft [] [] name.0.1.tokens name.0.1) (λ messages. Ok (controller name.0.0 messages.0, messages.1)) x name.2 in
+      let name = bind_ok (name_at (controller_refusal_of draft) at) (λ name. names_from (listed_refusal draft []) [] name.1.tokens name.1 >>= λ messages. Ok (controller name.0 messages.0, messages.1)) x e in
+      let list = bind_ok (names_from (listed_refusal draft []) [] name.0.1.tokens name.0.1) (λ messages. Ok (controller name.0.0 messages.0, messages.1)) x name.2 in
       let n = name_takes (controller_refusal_of draft) at name.0 name.1 in
-      let m = names_take name.0.1.tokens draft [] [] name.0.1 list.0 list.1 in
+      let m = names_take name.0.1.tokens (listed_refusal draft []) [] name.0.1 list.0 list.1 in
       subst (ItemTaken l draft from) (ap (λ (names : List (List ℕ)). (controller name.0.0 names, list.0.1)) (sym m.all) ∙ ok_is (controller name.0.0 list.0.0, list.0.1) x list.2)
       record {
         fits = (n.1, m.fits);
@@ -178,10 +229,10 @@ module _ (l : Letters) (draft : Draft) (from at : Place) (x : BriefItem × Place
   extend_takes : Starts keywords.Extend → extend_at draft at ≡ Ok x → ItemTaken l draft from x
   unfolding extend_at
   extend_takes start e =
-      let name = bind_ok (name_at (extend_refusal_of draft) at) (λ name. listed_from draft (listed_by draft name.0) [] name.1.tokens name.1 >>= λ messages. Ok (extend name.0 messages.0, messages.1)) x e in
-      let list = bind_ok (listed_from draft (listed_by draft name.0.0) [] name.0.1.tokens name.0.1) (λ messages. Ok (extend name.0.0 messages.0, messages.1)) x name.2 in
+      let name = bind_ok (name_at (extend_refusal_of draft) at) (λ name. names_from (listed_refusal draft (listed_by draft name.0)) [] name.1.tokens name.1 >>= λ messages. Ok (extend name.0 messages.0, messages.1)) x e in
+      let list = bind_ok (names_from (listed_refusal draft (listed_by draft name.0.0)) [] name.0.1.tokens name.0.1) (λ messages. Ok (extend name.0.0 messages.0, messages.1)) x name.2 in
       let n = name_takes (extend_refusal_of draft) at name.0 name.1 in
-      let m = names_take name.0.1.tokens draft (listed_by draft name.0.0) [] name.0.1 list.0 list.1 in
+      let m = names_take name.0.1.tokens (listed_refusal draft (listed_by draft name.0.0)) [] name.0.1 list.0 list.1 in
       subst (ItemTaken l draft from) (ap (λ (names : List (List ℕ)). (extend name.0.0 names, list.0.1)) (sym m.all) ∙ ok_is (extend name.0.0 list.0.0, list.0.1) x list.2)
       record {
         fits = (n.1, m.fits);
@@ -244,6 +295,7 @@ item_takes l draft at x e =
     by_token : (token : Token) (rule : Draft → Place → Reads BriefItem) (line : ℕ) (mid : Place) → item_in l token ≡ Some rule → Passed (one token) at mid → rule draft mid ≡ Ok x → ItemTaken l draft at x
     by_token (keyword keywords.Device) rule line mid is start h = device_takes l draft at mid x start (same_rule draft device_at rule mid is ∙ h)
     by_token (keyword keywords.Byte) rule line mid is start h = byte_takes l draft at mid x start (same_rule draft byte_at rule mid is ∙ h)
+    by_token (keyword keywords.Group) rule line mid is start h = group_takes l draft at mid x start (same_rule draft group_at rule mid is ∙ h)
     by_token (keyword keywords.Message) rule line mid is start h = message_takes l draft at mid x start (same_rule draft message_at rule mid is ∙ h)
     by_token (keyword keywords.Controller) rule line mid is start h = controller_takes l draft at mid x start (same_rule draft controller_at rule mid is ∙ h)
     by_token (keyword keywords.Extend) rule line mid is start h = extend_takes l draft at mid x start (same_rule draft extend_at rule mid is ∙ h)

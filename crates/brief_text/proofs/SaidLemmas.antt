@@ -13,7 +13,7 @@ use Rattle.brief_text.specs.Grammar.{SpellsItem, SpellsItems}
 use Rattle.brief_text.specs.Splitting.{plan_meant}
 use Rattle.brief_tokens.specs.Tokens.{Tokens}
 use Rattle.brief_tokens.specs.Tokens as tokens
-use Rattle.brief_text.specs.Trees.{BriefItem, device, byte, message, controller, extend, interrupt, never_both}
+use Rattle.brief_text.specs.Trees.{BriefItem, device, byte, device_group, message, controller, extend, interrupt, never_both}
 use Rattle.brief_text.proofs.AgainLemmas.{spot}
 use Rattle.brief_text.proofs.ItemAgainLemmas.{item_again}
 use Rattle.brief_text.proofs.ItemTakesLemmas.{item_takes}
@@ -24,6 +24,7 @@ use Rattle.brief_text.proofs.ValueLemmas.{size}
 pub not_end : (l : Letters) (item : BriefItem) (from to : Tokens) → SpellsItem l item from to → is_end from ≡ false
 not_end l (device name address) from to s = ap is_end s.1.1
 not_end l (byte name bits) from to s = ap is_end s.1.1
+not_end l (device_group name devices) from to s = ap is_end s.1.1
 not_end l (message name range frame) from to s = ap is_end s.1.1
 not_end l (controller name messages) from to s = ap is_end s.1.1
 not_end l (extend name messages) from to s = ap is_end s.1.1

@@ -18,8 +18,7 @@ use Rattle.brief_tokens.specs.declared.symbols.Symbol.{Symbol}
 use Rattle.brief_tokens.specs.declared.symbols.Symbol.TheVariants as symbols
 use Rattle.brief_tokens.specs.declared.symbols.Token as seen
 use Rattle.brief_text.specs.Drafts.{Draft}
-use Rattle.brief_text.specs.Items.{listed_from}
-use Rattle.brief_text.specs.Judging.{listing_refusal, all_of}
+use Rattle.brief_text.specs.Items.{names_from}
 use Rattle.brief_text.specs.Places.{Place, Reads, Finds, first_as, token_as, name_in, or_name, is_known, to_at, data_at}
 use Rattle.brief_tokens.specs.Reading.{with_symbol}
 use Rattle.brief_text.specs.Standing.{before}
@@ -102,23 +101,23 @@ token_smaller {A} what at x e = by_tokens at.tokens e
         ap (λ (z : A × ℕ × Place). suc (size z.2.tokens)) (ok_is (y.0, line, record at { tokens = rest }) x y.2)
     by_tokens (tokens.last ending line) h = absurd cc
 
-module _ (plan : Draft) (has names : List (List ℕ)) (token : seen.Token) (at after : Place) (first : at ≡ before token after) where
-  pub sendings_end : token.symbol ≡ symbols.Sign signs.Semicolon → listed_from plan has names at.tokens at ≡ Ok (names, after)
-  sendings_end is = by_symbol token at after first (λ p. listed_from plan has names p.tokens p) _ is
+module _ (refusal : List (List ℕ) → List ℕ → Option BuildError) (names : List (List ℕ)) (token : seen.Token) (at after : Place) (first : at ≡ before token after) where
+  pub sendings_end : token.symbol ≡ symbols.Sign signs.Semicolon → names_from refusal names at.tokens at ≡ Ok (names, after)
+  sendings_end is = by_symbol token at after first (λ p. names_from refusal names p.tokens p) _ is
 
   module _ (other : token.symbol ≡ symbols.Sign signs.Semicolon → ⊥) where
     abbrev allowed_then : Finds (List ℕ) → Reads (List (List ℕ))
-    allowed_then r = r >>= λ name. unless_refused (listing_refusal plan has (all_of plan names) name.0) name.1 name.0 >>= λ allowed. listed_from plan has (names ++ allowed ∷ []) name.2.tokens name.2
+    allowed_then r = r >>= λ name. unless_refused (refusal names name.0) name.1 name.0 >>= λ allowed. names_from refusal (names ++ allowed ∷ []) name.2.tokens name.2
 
-    sendings_step : listed_from plan has names at.tokens at ≡ allowed_then (token_as name_in (before token after))
-    sendings_step = by_symbol token at after first (λ p. listed_from plan has names p.tokens p) token.symbol refl ∙ by_case token.symbol other
+    sendings_step : names_from refusal names at.tokens at ≡ allowed_then (token_as name_in (before token after))
+    sendings_step = by_symbol token at after first (λ p. names_from refusal names p.tokens p) token.symbol refl ∙ by_case token.symbol other
       where
-        by_option : (o : Option (List ℕ)) (line : ℕ) → (or_refused o (Unexpected line) >>= λ name. unless_refused (listing_refusal plan has (all_of plan names) name) line name >>= λ allowed. listed_from plan has (names ++ allowed ∷ []) after.tokens after)
+        by_option : (o : Option (List ℕ)) (line : ℕ) → (or_refused o (Unexpected line) >>= λ name. unless_refused (refusal names name) line name >>= λ allowed. names_from refusal (names ++ allowed ∷ []) after.tokens after)
             ≡ allowed_then (or_refused o (Unexpected line) >>= λ x. Ok (x, line, after))
         by_option (Some x) line = refl
         by_option None line = refl
 
-        by_case : (s : Symbol) → (s ≡ symbols.Sign signs.Semicolon → ⊥) → listed_from plan has names (with_symbol s token.line after.tokens) (record after { tokens = with_symbol s token.line after.tokens })
+        by_case : (s : Symbol) → (s ≡ symbols.Sign signs.Semicolon → ⊥) → names_from refusal names (with_symbol s token.line after.tokens) (record after { tokens = with_symbol s token.line after.tokens })
             ≡ allowed_then (token_as name_in (record after { tokens = with_symbol s token.line after.tokens }))
         by_case (symbols.Keyword k) h = refl
         by_case (symbols.Word w) h = by_option (name_in (word w.now)) token.line
@@ -130,14 +129,14 @@ module _ (plan : Draft) (has names : List (List ℕ)) (token : seen.Token) (at a
         by_case symbols.Foreign h = refl
         by_case symbols.End h = refl
 
-    pub no_sending : (e : PlanError) → Refuses (token_as name_in (before token after)) e → Refuses (listed_from plan has names at.tokens at) e
+    pub no_sending : (e : PlanError) → Refuses (token_as name_in (before token after)) e → Refuses (names_from refusal names at.tokens at) e
     no_sending e h = subst (λ (r : Reads (List (List ℕ))). Refuses r e) (sym sendings_step) (refuses_on (token_as name_in (before token after)) _ e h)
 
     module _ (name : List ℕ) (found : token_as name_in (before token after) ≡ Ok (name, token.line, after)) where
-      pub sending_refused : (e : PlanError) (cause : BuildError) → listing_refusal plan has (all_of plan names) name ≡ Some cause → e ≡ refused_at cause token.line → Refuses (listed_from plan has names at.tokens at) e
+      pub sending_refused : (e : PlanError) (cause : BuildError) → refusal names name ≡ Some cause → e ≡ refused_at cause token.line → Refuses (names_from refusal names at.tokens at) e
       sending_refused e cause h is = inr (sendings_step ∙ ap allowed_then found ∙ rw h (ap (λ (f : PlanError). Err f) (sym is)))
 
-      pub sending_on : listing_refusal plan has (all_of plan names) name ≡ None → listed_from plan has names at.tokens at ≡ listed_from plan has (names ++ name ∷ []) after.tokens after
+      pub sending_on : refusal names name ≡ None → names_from refusal names at.tokens at ≡ names_from refusal (names ++ name ∷ []) after.tokens after
       sending_on h = sendings_step ∙ ap allowed_then found ∙ rw h refl
 
       pub sending_smaller : size after.tokens < size at.tokens

@@ -15,7 +15,7 @@ use Rattle.plan_text.specs.Values.{address_by}
 use Rattle.brief_text.specs.declared.syntax.Lengths.{Lengths}
 use Rattle.brief_text.specs.Trees.{Said, spelled, named, Times, times, ranged, BriefFrame, write_to, read_from, BriefBytes}
 use Rattle.brief_text.specs.Trees.{data_byte, made_byte, no_more, BriefTail, stop_here, go_on, Made, header, packet_code, checksum, chosen}
-use Rattle.brief_text.specs.Trees.{Side, BriefItem, device, byte, message, controller, extend, interrupt, never_both}
+use Rattle.brief_text.specs.Trees.{Side, BriefItem, device, byte, device_group, message, controller, extend, interrupt, never_both}
 use Rattle.brief_text.specs.Codes.{at_start, unknown, after_bits, header_bits, exactly, remaining}
 use Rattle.brief_text.specs.declared.codes.Path.{Path}
 use Rattle.std.specs.Option.{option_map}
@@ -29,6 +29,10 @@ pub record Draft : Type 0 where
   pub plan : Contents
   -- each family with its LO and HI
   pub families : List (List ℕ × Lengths)
+  -- each group with its devices; it stands among the devices too, as one of which no bit is known
+  pub groups : List (List ℕ × List (List ℕ))
+  -- each message in which a group stands, with the names that it makes: one for each device
+  pub grouped : List (List ℕ × List (List ℕ))
   -- each controller with the names of all messages that it lists
   pub controllers : List (List ℕ × List (List ℕ))
   -- the labels in the order in which they were first named, and the `never` items as they are written
@@ -36,7 +40,7 @@ pub record Draft : Type 0 where
   pub nevers : List (Side × Side)
 
 abbrev pub no_items : Draft
-no_items = record { devices = []; bytes = []; plan = empty; families = []; controllers = []; labels = []; nevers = [] }
+no_items = record { devices = []; bytes = []; plan = empty; families = []; groups = []; grouped = []; controllers = []; labels = []; nevers = [] }
 
 -- ---- names
 
@@ -69,13 +73,73 @@ lengths range = range_with_len range.least (suc range.greatest - range.least)
 abbrev pub members : List ℕ → Lengths → List (List ℕ)
 members name range = map (member_name name) (lengths range)
 
--- the messages that a name stands for: all of the family with this name, or the message with it
+-- all of the family with this name, or the message with it
 abbrev pub members_or : List ℕ → Option Lengths → List (List ℕ)
 members_or name (Some range) = members name range
 members_or name None = name ∷ []
 
+abbrev pub stands_alone_for : Draft → List ℕ → List (List ℕ)
+stands_alone_for draft name = members_or name (lookup (bytes_eq name) draft.families)
+
+-- the messages that a name stands for: where a group stands in it, those of the names that it makes
+abbrev pub all_or : Draft → List ℕ → Option (List (List ℕ)) → List (List ℕ)
+all_or draft name (Some names) = flat_map (stands_alone_for draft) names
+all_or draft name None = stands_alone_for draft name
+
 abbrev pub stands_for : Draft → List ℕ → List (List ℕ)
-stands_for draft name = members_or name (lookup (bytes_eq name) draft.families)
+stands_for draft name = all_or draft name (lookup (bytes_eq name) draft.grouped)
+
+-- the names that a message makes by a group; any other has none
+abbrev pub names_made : Draft → List ℕ → List (List ℕ)
+names_made draft name = unwrap_or (lookup (bytes_eq name) draft.grouped) []
+
+-- ---- groups
+
+abbrev pub is_group : Draft → List ℕ → Bool
+is_group draft name = is_some (lookup (bytes_eq name) draft.groups)
+
+abbrev pub devices_of : Draft → List ℕ → List (List ℕ)
+devices_of draft group = unwrap_or (lookup (bytes_eq group) draft.groups) []
+
+-- `vout_psu0` of the message `vout`, and those of all devices of a group
+abbrev pub device_name : List ℕ → List ℕ → List ℕ
+device_name name target = name ++ codes "_" ++ target
+
+abbrev pub device_names : Draft → List ℕ → List ℕ → List (List ℕ)
+device_names draft name group = map (device_name name) (devices_of draft group)
+
+-- the draft where this device stands before all others, so that its name means it
+abbrev pub put_first : Option (List ℕ × Address) → List (List ℕ × Address) → List (List ℕ × Address)
+put_first None devices = devices
+put_first (Some first) devices = first ∷ devices
+
+abbrev pub standing : Draft → Option (List ℕ × Address) → Draft
+standing draft first = record draft { devices = put_first first draft.devices }
+
+-- the groups that stand in a message, as they are read
+abbrev pub group_said : Draft → Said Address → List (List ℕ)
+group_said draft (spelled address) = []
+group_said draft (named name) = if is_group draft name then name ∷ [] else []
+
+abbrev pub made_groups : Draft → Made → List (List ℕ)
+made_groups draft (header reads to) = group_said draft to
+made_groups draft packet_code = []
+made_groups draft checksum = []
+made_groups draft (chosen choice) = []
+
+abbrev mutual
+  pub frame_groups : Draft → BriefFrame → List (List ℕ)
+  frame_groups draft (write_to to refused acked) = group_said draft to ++ (tail_groups draft refused ++ bytes_groups draft acked)
+  frame_groups draft (read_from to count refused after) = group_said draft to ++ (tail_groups draft refused ++ tail_groups draft after)
+
+  pub bytes_groups : Draft → BriefBytes → List (List ℕ)
+  bytes_groups draft (data_byte bits often refused acked) = tail_groups draft refused ++ bytes_groups draft acked
+  bytes_groups draft (made_byte made refused acked) = made_groups draft made ++ (tail_groups draft refused ++ bytes_groups draft acked)
+  bytes_groups draft (no_more tail) = tail_groups draft tail
+
+  pub tail_groups : Draft → BriefTail → List (List ℕ)
+  tail_groups draft stop_here = []
+  tail_groups draft (go_on frame) = frame_groups draft frame
 
 -- ---- messages: names are looked up, repetitions are written out, and the byte of a range stands n times. Here bytes that
 -- follow from others or are choices are open: it is the outline of a message, which has its size.
@@ -159,6 +223,14 @@ abbrev pub messages_meant : Draft → List ℕ → Option Lengths → BriefFrame
 messages_meant draft name None frame = (name, frame_on draft 1 frame at_start) ∷ []
 messages_meant draft name (Some range) frame = family_meant draft name range frame
 
+-- the same for each device of a group, which stands in the place of that
+abbrev pub device_meant : Draft → List ℕ → Option Lengths → BriefFrame → List ℕ → List ℕ → List (List ℕ × FrameTree)
+device_meant draft name range frame group target =
+    messages_meant (standing draft (Some (group, address_said draft (named target)))) (device_name name target) range frame
+
+abbrev pub grouped_meant : Draft → List ℕ → Option Lengths → BriefFrame → List ℕ → List (List ℕ × FrameTree)
+grouped_meant draft name range frame group = flat_map (device_meant draft name range frame group) (devices_of draft group)
+
 -- ---- items
 
 -- the plan with these messages
@@ -169,6 +241,23 @@ with_messages plan (first ∷ messages) = with_messages (with_message plan first
 abbrev pub with_family : Draft → List ℕ → Option Lengths → List (List ℕ × Lengths)
 with_family draft name None = draft.families
 with_family draft name (Some range) = draft.families ++ (name, range) ∷ []
+
+-- where it has a range, each of these names is that of a family
+abbrev pub families_of : Option Lengths → List (List ℕ) → List (List ℕ × Lengths)
+families_of None names = []
+families_of (Some range) names = map (λ name. (name, range)) names
+
+-- the draft with a message, in which these groups stand: one at most
+abbrev pub with_made : Draft → List ℕ → Option Lengths → BriefFrame → List (List ℕ) → Draft
+with_made draft name range frame [] = record draft {
+  plan = with_messages draft.plan (messages_meant draft name range frame);
+  families = with_family draft name range;
+}
+with_made draft name range frame (group ∷ others) = record draft {
+  plan = with_messages draft.plan (grouped_meant draft name range frame group);
+  families = draft.families ++ families_of range (device_names draft name group);
+  grouped = draft.grouped ++ (name, device_names draft name group) ∷ [];
+}
 
 abbrev pub same_label : Option (List ℕ) → Option (List ℕ) → Bool
 same_label None None = true
@@ -199,10 +288,9 @@ extended name messages (first ∷ controllers) =
 unfoldable pub with_item : Draft → BriefItem → Draft
 with_item draft (device name address) = record draft { devices = draft.devices ++ (name, address) ∷ [] }
 with_item draft (byte name bits) = record draft { bytes = draft.bytes ++ (name, bits) ∷ [] }
-with_item draft (message name range frame) = record draft {
-  plan = with_messages draft.plan (messages_meant draft name range frame);
-  families = with_family draft name range;
-}
+with_item draft (device_group name devices) =
+    record draft { devices = draft.devices ++ (name, any_address) ∷ []; groups = draft.groups ++ (name, devices) ∷ [] }
+with_item draft (message name range frame) = with_made draft name range frame (frame_groups draft frame)
 with_item draft (controller name messages) =
     record draft { controllers = draft.controllers ++ (name, flat_map (stands_for draft) messages) ∷ [] }
 with_item draft (extend name messages) =

@@ -6,11 +6,13 @@ use Rattle.plan_core.specs.Building.{size_refusal, interrupt_refusal}
 use Rattle.brief_text.specs.declared.syntax.Lengths.{Lengths}
 use Rattle.brief_text.specs.Drafts.{Draft, address_said, messages_meant, with_label, with_item}
 use Rattle.brief_text.specs.Grammar.{Spells}
+use Rattle.plan_core.specs.declared.builder.BuildError.{BuildError}
+use Rattle.brief_text.specs.Items.{listed_refusal}
 use Rattle.brief_text.specs.Judging.{named_refusal, message_refusal_of, range_refusal, controller_refusal_of, extend_refusal_of}
-use Rattle.brief_text.specs.Judging.{listed_by, listing_refusal, all_of, first_refusal, second_refusal}
+use Rattle.brief_text.specs.Judging.{listed_by, grouped_refusal, device_refusal, first_refusal, second_refusal}
 use Rattle.brief_text.specs.Places.{is_known}
 use Rattle.brief_text.specs.Trees.{Times, times, ranged, BriefFrame, write_to, read_from, BriefBytes, data_byte, made_byte}
-use Rattle.brief_text.specs.Trees.{no_more, BriefTail, stop_here, go_on, Made, header, packet_code, checksum, chosen, BriefItem, device}
+use Rattle.brief_text.specs.Trees.{no_more, BriefTail, stop_here, go_on, Made, header, packet_code, checksum, chosen, BriefItem, device, device_group}
 use Rattle.brief_text.specs.Trees.{byte, message, controller, extend, interrupt, never_both}
 use Rattle.brief_text.specs.Words.{known_number}
 
@@ -83,23 +85,24 @@ pub record MessageFits (draft : Draft) (name : List ℕ) (range : Option Lengths
   pub knows : KnowsFrame draft frame
   pub ranges : frame_ranges frame ≡ range_count range
   pub members : IsAllowed draft name range
+  pub grouped : grouped_refusal draft name range frame 0 range ≡ Ok range
   pub each : All IsWithin (messages_meant draft name range frame)
 
 -- ---- items
 
--- each name may be listed after these, of a controller that has some messages already
-abbrev pub ListFits : Draft → List (List ℕ) → List (List ℕ) → List (List ℕ) → Type 0
-ListFits draft has before [] = Unit {0}
-ListFits draft has before (name ∷ names) =
-    (listing_refusal draft has (all_of draft before) name ≡ None) × ListFits draft has (before ++ name ∷ []) names
+-- each name may stand after these
+abbrev pub ListFits : (List (List ℕ) → List ℕ → Option BuildError) → List (List ℕ) → List (List ℕ) → Type 0
+ListFits refusal before [] = Unit {0}
+ListFits refusal before (name ∷ names) = (refusal before name ≡ None) × ListFits refusal (before ++ name ∷ []) names
 
 -- the item's names are new or known as they must be, and there is room for it
 abbrev pub Fits : Draft → BriefItem → Type 0
 Fits draft (device name address) = named_refusal draft.devices name ≡ None
 Fits draft (byte name bits) = named_refusal draft.bytes name ≡ None
+Fits draft (device_group name devices) = (named_refusal draft.devices name ≡ None) × ListFits (device_refusal draft) [] devices
 Fits draft (message name range frame) = MessageFits draft name range frame
-Fits draft (controller name messages) = (controller_refusal_of draft name ≡ None) × ListFits draft [] [] messages
-Fits draft (extend name messages) = (extend_refusal_of draft name ≡ None) × ListFits draft (listed_by draft name) [] messages
+Fits draft (controller name messages) = (controller_refusal_of draft name ≡ None) × ListFits (listed_refusal draft []) [] messages
+Fits draft (extend name messages) = (extend_refusal_of draft name ≡ None) × ListFits (listed_refusal draft (listed_by draft name)) [] messages
 Fits draft (interrupt name to) =
     (interrupt_refusal draft.plan name ≡ None) × (is_known draft.devices to ≡ true)
     × (is_some (known_number 0 (address_bits (address_said draft to))) ≡ true)

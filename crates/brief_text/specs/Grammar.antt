@@ -15,7 +15,7 @@ use Rattle.brief_tokens.specs.Tokens.{Token, keyword, word, sign, Tokens}
 use Rattle.brief_tokens.specs.Tokens as tokens
 use Rattle.brief_text.specs.Trees.{Said, spelled, named, Times, times, ranged, BriefFrame, write_to, read_from, BriefBytes}
 use Rattle.brief_text.specs.Trees.{data_byte, made_byte, no_more, BriefTail, stop_here, go_on, Made, header, packet_code, checksum, chosen, Choice, span, all_but}
-use Rattle.brief_text.specs.Trees.{BriefItem, device, byte, message, controller, extend, interrupt, never_both}
+use Rattle.brief_text.specs.Trees.{BriefItem, device, byte, device_group, message, controller, extend, interrupt, never_both}
 use Rattle.brief_text.specs.Choices.{is_choice, numbers}
 use Rattle.brief_text.specs.Words.{known_byte_by, address_by, data_by, any_byte, repetition_by, so_often, from_to, is_countable, is_range, side_by}
 
@@ -124,10 +124,16 @@ abbrev pub SpellsNames : List (List ℕ) → Phrase
 SpellsNames [] = nothing
 SpellsNames (name ∷ names) = SpellsName name ▸ SpellsNames names
 
+-- one at least
+abbrev pub SpellsSome : List (List ℕ) → Phrase
+SpellsSome [] from to = ⊥
+SpellsSome (name ∷ names) from to = (SpellsName name ▸ SpellsNames names) from to
+
 -- an item of a text with these letters
 abbrev pub SpellsItem : Letters → BriefItem → Phrase
 SpellsItem letters (device name address) = one (keyword keywords.Device) ▸ SpellsName name ▸ SpellsAs address_by address ▸ end
 SpellsItem letters (byte name bits) = one (keyword keywords.Byte) ▸ SpellsName name ▸ SpellsAs data_by bits ▸ end
+SpellsItem letters (device_group name devices) = one (keyword keywords.Group) ▸ SpellsName name ▸ SpellsSome devices ▸ end
 SpellsItem letters (message name range frame) = one (keyword keywords.Message) ▸ SpellsName name ▸ SpellsFrame range frame ▸ end
 SpellsItem letters (controller name messages) = one (keyword keywords.Controller) ▸ SpellsName name ▸ SpellsNames messages ▸ end
 SpellsItem letters (extend name messages) = one (keyword keywords.Extend) ▸ SpellsName name ▸ SpellsNames messages ▸ end

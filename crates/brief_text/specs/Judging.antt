@@ -1,6 +1,6 @@
 -- What is refused of a name, of a range and of a label where it stands, by what the items before it make up.
-use Rattle.std.specs.Prelude.{◌≡◌, ℕ, ◌+◌, Bool, true, false, ◌&&◌, ◌||◌, not, nat_le, nat_lt, List, ◌++◌, length, map, Option}
-use Rattle.std.specs.Prelude.{Some, None, is_some, unwrap_or, [], Result, Ok, Err, if◌then◌else◌}
+use Rattle.std.specs.Prelude.{◌≡◌, ℕ, ◌+◌, ◌*◌, Bool, true, false, ◌&&◌, ◌||◌, not, nat_le, nat_lt, List, ◌++◌, length, map, Option}
+use Rattle.std.specs.Prelude.{Some, None, is_some, unwrap_or, [], ◌∷◌, Result, Ok, Err, if◌then◌else◌}
 use Rattle.std.specs.List.{flat_map, list_any, sum_by}
 use Rattle.std.specs.Map.{keys_of, lookup}
 use Rattle.std.specs.Str.{bytes_eq}
@@ -11,19 +11,28 @@ use Rattle.plan_core.specs.declared.limits.TheConstants.{MOST_MESSAGES, MOST_CON
 use Rattle.plan_text.specs.declared.errors.PlanError.{PlanError}
 use Rattle.plan_text.specs.declared.errors.PlanError.TheVariants as errors
 use Rattle.brief_text.specs.declared.syntax.Lengths.{Lengths}
-use Rattle.brief_text.specs.Drafts.{Draft, member_name, members, stands_for, same_side, is_new_label, with_label}
+use Rattle.brief_text.specs.Drafts.{Draft, lengths, member_name, members, stands_for, is_group, devices_of, device_names, frame_groups, same_side, is_new_label, with_label}
 use Rattle.brief_text.specs.Splitting.{parts, side_name}
-use Rattle.brief_text.specs.Trees.{Side, BriefItem, device, byte, message}
+use Rattle.brief_text.specs.Trees.{BriefFrame, Side, BriefItem, device, byte, device_group, message}
 
 -- a name stands once among those of its kind
 abbrev pub named_refusal : {A : Type 0} → List (List ℕ × A) → List ℕ → Option BuildError
 named_refusal entries name = if is_some (lookup (bytes_eq name) entries) then Some Twice else None
 
+-- ---- groups
+
+-- a further device of a group, after these
+unfoldable pub device_refusal : Draft → List (List ℕ) → List ℕ → Option BuildError
+device_refusal draft before name =
+    if not (is_some (lookup (bytes_eq name) draft.devices)) || is_group draft name then Some Unknown
+    else if list_any (λ other. bytes_eq other name) before then Some Twice
+    else None
+
 -- ---- messages and families, whose names are of one kind
 
--- a family, or a message, that of a family too
+-- a family, by numbers or by a group, or a message, that of a family too
 abbrev pub is_family : Draft → List ℕ → Bool
-is_family draft name = is_some (lookup (bytes_eq name) draft.families)
+is_family draft name = is_some (lookup (bytes_eq name) draft.families) || is_some (lookup (bytes_eq name) draft.grouped)
 
 abbrev pub is_message : Draft → List ℕ → Bool
 is_message draft name = is_family draft name || has_name name draft.plan.messages
@@ -40,10 +49,50 @@ range_refusal draft name range line x =
     else if nat_lt MOST_MESSAGES (length draft.plan.messages + length (members name range)) then Err (errors.TooMany line)
     else Ok x
 
+-- ---- what a message makes by a group
+
+-- how many messages one name stands for, and the longest name of these
+abbrev pub how_many : Option Lengths → ℕ
+how_many None = 1
+how_many (Some range) = length (lengths range)
+
+abbrev pub longest : Option Lengths → List ℕ → List ℕ
+longest None name = name
+longest (Some range) name = member_name name range.greatest
+
+abbrev pub is_long : Option Lengths → List ℕ → Bool
+is_long range name = nat_lt 32 (length (longest range name))
+
+-- all names that are made: one for each device, and those of the messages of each
+abbrev pub further_names : Option Lengths → List (List ℕ) → List (List ℕ)
+further_names None names = names
+further_names (Some range) names = names ++ flat_map (λ name. members name range) names
+
+-- one of these names stands twice
+abbrev pub repeats : List (List ℕ) → Bool
+repeats [] = false
+repeats (name ∷ names) = list_any (λ other. bytes_eq other name) names || repeats names
+
+-- there is one group, the plan has room, each name has no more characters than it may have, and none stands already or is made twice
+abbrev pub grouped_by : {A : Type 0} → Draft → List ℕ → Option Lengths → List (List ℕ) → ℕ → A → Result A PlanError
+grouped_by draft name range [] line x = Ok x
+grouped_by draft name range (group ∷ others) line x =
+    if list_any (λ other. not (bytes_eq other group)) others then Err (errors.Unexpected line)
+    else if nat_lt MOST_MESSAGES (length (devices_of draft group)) then Err (errors.TooMany line)
+    else if nat_lt MOST_MESSAGES (length draft.plan.messages + length (devices_of draft group) * how_many range) then Err (errors.TooMany line)
+    else if list_any (is_long range) (device_names draft name group) then Err (errors.Unexpected line)
+    else if list_any (is_message draft) (further_names range (device_names draft name group)) then Err (errors.Twice line)
+    else if repeats (further_names range (device_names draft name group)) then Err (errors.Twice line)
+    else Ok x
+
+abbrev pub grouped_refusal : {A : Type 0} → Draft → List ℕ → Option Lengths → BriefFrame → ℕ → A → Result A PlanError
+grouped_refusal draft name range frame line x = grouped_by draft name range (frame_groups draft frame) line x
+
 -- what has a name among devices, bytes or families has a name of its own
 abbrev pub IsNew : Draft → BriefItem → Type 0
 IsNew draft (device name address) = named_refusal draft.devices name ≡ None
 IsNew draft (byte name bits) = named_refusal draft.bytes name ≡ None
+IsNew draft (device_group name devices) = named_refusal draft.devices name ≡ None
 IsNew draft (message name (Some range) frame) = is_family draft name ≡ false
 IsNew draft item = Unit {0}
 

@@ -5,7 +5,7 @@ use Rattle.std.specs.List.{filter, flat_map, list_any}
 use Rattle.std.specs.Str.{bytes_eq}
 use Rattle.plan_core.specs.Building.{with_controller, never_refusal, with_never}
 use Rattle.plan_core.specs.Contents.{Contents}
-use Rattle.brief_text.specs.Drafts.{Draft, stands_for}
+use Rattle.brief_text.specs.Drafts.{Draft, stands_for, stands_alone_for, names_made}
 use Rattle.brief_text.specs.Trees.{Side}
 
 -- a controller of the plan: a whole one, what is left of it, or what one of its labels stands for
@@ -34,10 +34,27 @@ label_messages draft side = elim side.label [ None ↦ [] | Some label ↦ stand
 abbrev pub is_label : List ℕ → Side → Bool
 is_label message side = elim side.label [ None ↦ false | Some label ↦ bytes_eq label message ]
 
+-- where the label is that of a message with a group, the names of its devices
+abbrev pub label_names : Draft → Side → List (List ℕ)
+label_names draft side = elim side.label [ None ↦ [] | Some label ↦ names_made draft label ]
+
 -- a message with a label of its own has its own part, even if its family has a label too
+abbrev pub is_own_or_free : List Side → Side → List ℕ → Bool
+is_own_or_free labels side message = is_label message side || not (list_any (is_label message) labels)
+
+-- it is one of this name, which has a label
+abbrev pub is_of_labelled : Draft → List Side → List ℕ → List ℕ → Bool
+is_of_labelled draft labels message name =
+    list_any (is_label name) labels && list_any (λ other. bytes_eq other message) (stands_alone_for draft name)
+
+-- and so has a message of a device with a label
+abbrev pub is_of_device : Draft → List Side → Side → List ℕ → Bool
+is_of_device draft labels side message = list_any (is_of_labelled draft labels message) (label_names draft side)
+
 abbrev pub is_in_part : Draft → List Side → Side → List ℕ → Bool
 is_in_part draft labels side message =
-    list_any (λ other. bytes_eq other message) (label_messages draft side) && (is_label message side || not (list_any (is_label message) labels))
+    list_any (λ other. bytes_eq other message) (label_messages draft side)
+    && (is_own_or_free labels side message && not (is_of_device draft labels side message))
 
 abbrev pub label_part : Draft → List Side → List (List ℕ) → Side → Part
 label_part draft labels listed side = record { side = side; messages = filter (is_in_part draft labels side) listed }
@@ -85,11 +102,11 @@ pairs_between xs ys = flat_map (λ x. map (λ y. (x, y)) ys) xs
 abbrev pub are_of_one : Part × Part → Bool
 are_of_one pair = bytes_eq pair.0.side.controller pair.1.side.controller
 
--- a controller means all its parts, and a label its own part and those of its messages
+-- a controller means all its parts, and a label its own part and those of its devices and messages
 abbrev pub label_means : Draft → Option (List ℕ) → Option (List ℕ) → Bool
 label_means draft None part = true
 label_means draft (Some label) None = false
-label_means draft (Some label) (Some part) = bytes_eq label part || list_any (λ other. bytes_eq other part) (stands_for draft label)
+label_means draft (Some label) (Some part) = bytes_eq label part || list_any (λ other. bytes_eq other part) (names_made draft label ++ stands_for draft label)
 
 abbrev pub side_means : Draft → Side → Part → Bool
 side_means draft side part = bytes_eq side.controller part.side.controller && label_means draft side.label part.side.label

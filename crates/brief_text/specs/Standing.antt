@@ -1,6 +1,6 @@
 -- What the functions of the reader say of the place at which they stand and of what they have. Only private contracts and
 -- proofs use this.
-use Rattle.std.specs.Prelude.{◌≡◌, ℕ, ◌-◌, ◌*◌, suc, List, map, nat_lt, Result, Ok, Err, if◌then◌else◌}
+use Rattle.std.specs.Prelude.{◌≡◌, ℕ, ◌-◌, ◌*◌, suc, List, Option, map, nat_lt, Result, Ok, Err, if◌then◌else◌}
 use Rattle.std.specs.Option.{option_map}
 use Rattle.message_tree.specs.Counts.{greatest_of}
 use Rattle.message_tree.specs.declared.bits.Pattern.{Pattern}
@@ -12,7 +12,10 @@ use Rattle.plan_text.specs.declared.errors.PlanError.{PlanError}
 use Rattle.plan_text.specs.declared.errors.PlanError.TheVariants.{TooLong}
 use Rattle.brief_text.specs.declared.boards.Board.{Board}
 use Rattle.brief_text.specs.declared.boards.Listing.{Listing}
+use Rattle.brief_text.specs.declared.boards.NameList.{NameList}
 use Rattle.brief_text.specs.declared.boards.Never.{Never}
+use Rattle.brief_text.specs.declared.groups.InPlace.{InPlace}
+use Rattle.message_tree.specs.declared.bits.Address.{Address}
 use Rattle.brief_text.specs.declared.frames.Within.{Within}
 use Rattle.brief_text.specs.declared.naming.Named.{Named}
 use Rattle.brief_text.specs.declared.sources.Source.{Source}
@@ -34,7 +37,7 @@ use Rattle.brief_text.specs.declared.syntax.TailSyntax.{TailSyntax}
 use Rattle.brief_text.specs.declared.syntax.TailSyntax.TheVariants.{Stop, Frames'}
 use Rattle.brief_text.specs.declared.syntax.Value.{Value}
 use Rattle.brief_text.specs.declared.syntax.Value.TheVariants as values
-use Rattle.brief_text.specs.Drafts.{Draft, with_item}
+use Rattle.brief_text.specs.Drafts.{Draft, standing, with_item}
 use Rattle.brief_text.specs.Frames.{Around, Opening, opens_header, opens_code, opens_checksum, opens_span, opens_but, opening_at, count_at, counted}
 use Rattle.brief_text.specs.Frames.{often_at, made_at, refused_by, next_by, payload_by, frame_in, byte_in, made_in}
 use Rattle.brief_text.specs.Places.{Place, Reads, Finds, to_at, data_at}
@@ -97,6 +100,17 @@ entries_of known = map (λ entry. (name_bytes entry.0, entry.1)) known.entries.e
 abbrev pub listing : Listing → List ℕ × List (List ℕ)
 listing it = (name_bytes it.name, map name_bytes it.messages.items)
 
+-- a name, and those that it makes or that stand in it
+abbrev pub naming : NameList → List ℕ × List (List ℕ)
+naming it = (name_bytes it.name, map name_bytes it.names.items)
+
+-- what stands in the place of a group, and the draft where it does
+abbrev pub placed : InPlace → List ℕ × Address
+placed it = (name_bytes it.group.now, it.address)
+
+abbrev pub with_device : Draft → Option InPlace → Draft
+with_device before given = standing before (option_map placed given)
+
 abbrev pub sides : Never → Side × Side
 sides never = (side never.first, side never.second)
 
@@ -106,6 +120,8 @@ draft board = record {
   bytes = entries_of board.bytes;
   plan = builder_contents board.builder;
   families = entries_of board.families;
+  groups = map naming board.groups.items;
+  grouped = map naming board.grouped.items;
   controllers = map listing board.controllers.items;
   labels = map side board.labels.items;
   nevers = map sides board.nevers.items;

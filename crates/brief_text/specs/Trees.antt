@@ -54,6 +54,7 @@ pub record Side : Type 0 where
 pub data BriefItem : Type 0 where
   device : (name : List ℕ) (address : Address) → BriefItem
   byte : (name : List ℕ) (bits : Pattern) → BriefItem
+  device_group : (name : List ℕ) (devices : List (List ℕ)) → BriefItem
   message : (name : List ℕ) (range : Option Lengths) (frame : BriefFrame) → BriefItem
   controller : (name : List ℕ) (messages : List (List ℕ)) → BriefItem
   extend : (name : List ℕ) (messages : List (List ℕ)) → BriefItem

@@ -1,7 +1,7 @@
 // What the items of briefs make up so far: names are looked up in it, and what stands next is judged by it.
 
 ghost use Rattle.std.specs.Prelude.{◌≡◌, ◌||◌, ◌<◌, ◌≤◌, ◌++◌, ◌∷◌, [], length, map, not, sum_by, is_some, IfOk, OnOk, None};
-ghost use Rattle.std.specs.List.{list_any, prefix_len};
+ghost use Rattle.std.specs.List.{flat_map, list_any, prefix_len};
 ghost use Rattle.std.specs.Option.{option_map};
 ghost use Rattle.plan_text.specs.Places.{Passes};
 ghost use Rattle.brief_text.specs.Places.{Place};
@@ -11,16 +11,18 @@ ghost use Rattle.plan_core.specs.BuilderContents.{builder_contents};
 ghost use Rattle.plan_core.specs.NameBytes.{name_bytes};
 ghost use Rattle.plan_core.specs.Building.{interrupt_refusal, with_interrupt};
 ghost use Rattle.plan_core.specs.declared.limits.TheConstants.{MOST_MESSAGES, MOST_SENDINGS};
-ghost use Rattle.brief_text.specs.Drafts.{no_items, address_said, bits_said, stands_for, extended, with_label, is_new_label, same_side};
+ghost use Rattle.brief_text.specs.Drafts.{no_items, address_said, bits_said, stands_for, stands_alone_for, extended, with_label, is_new_label, same_side};
 ghost use Rattle.brief_text.specs.Splitting.{side_name};
 ghost use Rattle.brief_text.specs.Meanings.{is_twice};
 ghost use Rattle.brief_text.specs.Judging.{is_family, is_message, message_refusal_of, named_refusal, taken_names, is_taken};
 ghost use Rattle.brief_text.specs.Judging.{controller_refusal_of, extend_refusal_of, is_labelled, is_side_of, listed_by, listing_refusal, have_one_of, is_side};
 ghost use Rattle.brief_text.specs.Judging.{part_refusal, first_refusal, second_refusal, range_refusal, are_sides};
 
+use crate::groups::{InPlace, listed};
 use crate::lint::Uses;
 use crate::meanings::member_text;
 use crate::naming::{Named, copied};
+use crate::splitting::push_all;
 use crate::syntax::{Lengths, NameFound, Party, Value};
 use message_tree::{Address, Pattern};
 use origins::Spot;
@@ -35,6 +37,13 @@ pub(crate) struct Listing {
     pub(crate) name: Name,
     pub(crate) messages: Vec<Name>,
     pub(crate) spot: Spot,
+}
+
+/// A name, and those that it makes or that stand in it: a group with its devices, or a message with what it makes by one.
+#[derive(Drop)]
+pub(crate) struct NameList {
+    pub(crate) name: Name,
+    pub(crate) names: Vec<Name>,
 }
 
 /// A `never` as it is written.
@@ -54,6 +63,10 @@ pub(crate) struct Board {
     /// How many messages it has.
     pub(crate) messages: u32,
     pub(crate) families: Named<Lengths>,
+    /// The groups. Each is among the devices, too.
+    pub(crate) groups: Vec<NameList>,
+    /// The messages in which a group stands, each with the names that it makes.
+    pub(crate) grouped: Vec<NameList>,
     pub(crate) controllers: Vec<Listing>,
     /// How many messages all of them list.
     pub(crate) sendings: usize,
@@ -82,6 +95,8 @@ impl Drop for Board {
             builder: _,
             messages: _,
             families: _,
+            groups: _,
+            grouped: _,
             controllers: _,
             sendings: _,
             labels: _,
@@ -95,7 +110,7 @@ impl Drop for Board {
 }
 
 impl Board {
-    ghost use Rattle.brief_text.specs.Standing.{draft, said, side, sides};
+    ghost use Rattle.brief_text.specs.Standing.{draft, said, side, sides, with_device};
 
     /// The messages and the interrupts of the plan.
     pub(crate) fn into_builder(self) -> Builder
@@ -108,6 +123,8 @@ impl Board {
             builder,
             messages: _,
             families: _,
+            groups: _,
+            grouped: _,
             controllers: _,
             sendings: _,
             labels: _,
@@ -131,6 +148,8 @@ impl Board {
             builder: Builder::new(alloc),
             messages: 0,
             families: Named::new(alloc),
+            groups: Vec::new(alloc),
+            grouped: Vec::new(alloc),
             controllers: Vec::new(alloc),
             sendings: 0,
             labels: Vec::new(alloc),
@@ -154,6 +173,18 @@ impl Board {
         ensures { result ≡ is_some (lookup (bytes_eq (name_bytes name.now)) (draft self.now).bytes) }
     {
         self.bytes.get(name).is_some()
+    }
+
+    /// The address that is meant, with this device in the place of a group.
+    pub(crate) fn address_with(&self, in_place: Option<InPlace<'_>>, to: &Value<Address>) -> Address
+        ensures { result ≡ address_said (with_device (draft self.now) in_place.entry) (said to.now) }
+    {
+        if let (Some(device), Value::Named(named)) = (in_place, to) {
+            if named.name == *device.group {
+                return device.address;
+            }
+        }
+        self.address(to)
     }
 
     /// The address that is meant. Each name is that of a device by then.
@@ -189,10 +220,18 @@ impl Board {
     pub(crate) fn message_refusal(&self, name: &Name) -> Option<BuildError>
         ensures { result ≡ message_refusal_of (draft self.now) (name_bytes name.now) }
     {
-        match self.families.get(name) {
-            Some(_) => Some(BuildError::Twice),
-            None => self.builder.message_name_refusal(name),
+        if self.is_family(name) {
+            Some(BuildError::Twice)
+        } else {
+            self.builder.message_name_refusal(name)
         }
+    }
+
+    // Whether a family has this name, by numbers or by a group.
+    fn is_family(&self, name: &Name) -> bool
+        ensures { result ≡ is_family (draft self.now) (name_bytes name.now) }
+    {
+        self.families.get(name).is_some() || listed(self.grouped.as_slice(), name).is_some()
     }
 
     /// Whether a message or a family has this name.
@@ -224,8 +263,8 @@ impl Board {
         Ok(())
     }
 
-    // Whether a message or a family has one of these names.
-    fn has_one_of(&self, names: &[Name]) -> bool
+    /// Whether a message or a family has one of these names.
+    pub(crate) fn has_one_of(&self, names: &[Name]) -> bool
         ensures { result ≡ list_any (λ name. is_message (draft self.now) (name_bytes name)) names.now }
     {
         names.iter().any(|name| self.is_message(name))
@@ -234,6 +273,36 @@ impl Board {
     /// The messages that this name stands for.
     pub(crate) fn named(&self, name: &Name) -> Result<Vec<Name>, AllocError>
         ensures { IfOk result (λ it. map name_bytes it.items ≡ stands_for (draft self.now) (name_bytes name.now)) }
+    {
+        match listed(self.grouped.as_slice(), name) {
+            Some(grouped) => self.all_named(grouped.names.as_slice()),
+            None => self.named_alone(name),
+        }
+    }
+
+    // Those that these names stand for.
+    fn all_named(&self, names: &[Name]) -> Result<Vec<Name>, AllocError>
+        ensures { IfOk result (λ it. map name_bytes it.items ≡
+            flat_map (stands_alone_for (draft self.now)) (map name_bytes names.now)) }
+    {
+        let mut all = Vec::new(self.alloc);
+        for name in names {
+            self.push_named_alone(&mut all, name)?;
+        }
+        Ok(all)
+    }
+
+    fn push_named_alone(&self, all: &mut Vec<Name>, name: &Name) -> Result<(), AllocError>
+        ensures { OnOk result (map name_bytes all.new.items ≡ map name_bytes all.old.items ++
+            stands_alone_for (draft self.now) (name_bytes name.now)) }
+    {
+        let named = self.named_alone(name)?;
+        push_all(self.alloc, all, named.as_slice())
+    }
+
+    /// All of the family with this name, or the message with it.
+    pub(crate) fn named_alone(&self, name: &Name) -> Result<Vec<Name>, AllocError>
+        ensures { IfOk result (λ it. map name_bytes it.items ≡ stands_alone_for (draft self.now) (name_bytes name.now)) }
     {
         match self.families.get(name) {
             Some(range) => self.members(name, range),

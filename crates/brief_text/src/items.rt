@@ -1,6 +1,6 @@
 // The items of a brief, a function for each of them, and the plan that all make up.
 
-ghost use Rattle.std.specs.Prelude.{◌≡◌, ◌⊎◌, ℕ, List, [], map, true, false, not, Some, None, Ok, Err, IfOk, IfErr, OnOk, MatchResult, is_some};
+ghost use Rattle.std.specs.Prelude.{◌≡◌, ◌⊎◌, ℕ, List, [], ◌∷◌, map, true, false, not, Some, None, Ok, Err, IfOk, IfErr, IfSome, OnOk, MatchResult, is_some};
 ghost use Rattle.std.specs.Map.{lookup};
 ghost use Rattle.std.specs.Str.{bytes_eq};
 ghost use Rattle.plan_core.specs.Contents.{Contents};
@@ -12,17 +12,18 @@ ghost use Rattle.brief_tokens.specs.Heads.{opened};
 ghost use Rattle.brief_tokens.specs.Reading.{left, letters_of};
 ghost use Rattle.plan_text.specs.Reader.{refused_at};
 ghost use Rattle.brief_text.specs.Briefs.{brief_read, text_read, items_in, is_end, Means, IsRefused};
-ghost use Rattle.brief_text.specs.Items.{device_at, byte_at, message_at, controller_at, extend_at, listed_from, interrupt_at, never_at};
+ghost use Rattle.brief_text.specs.Items.{device_at, byte_at, message_at, controller_at, extend_at, group_at, names_from, listed_refusal, interrupt_at, never_at};
 ghost use Rattle.brief_text.specs.Items.{item_at};
-ghost use Rattle.brief_text.specs.Judging.{all_of};
-ghost use Rattle.brief_text.specs.Standing.{draft, place, adds, entries_of};
+ghost use Rattle.brief_text.specs.Drafts.{with_made};
+ghost use Rattle.brief_text.specs.Judging.{all_of, device_refusal, is_family};
+ghost use Rattle.brief_text.specs.Standing.{draft, place, adds, entries_of, brief_frame};
 
 use crate::boards::{Board, Never};
 use crate::frames::Within;
 use crate::naming::Named;
 use crate::sources::Source;
 use crate::splitting::push_all;
-use crate::syntax::NameFound;
+use crate::syntax::{FrameSyntax, Lengths, NameFound};
 use crate::traces::Wanted;
 use crate::words::known_address;
 use brief_tokens::{Keyword, Symbol, Tokens, after_head, record};
@@ -30,7 +31,7 @@ use lexer::Letters;
 use origins::{Head, Language, Spans};
 use plan_core::{BuildError, Name, Plan};
 use plan_text::{PlanError, Refused};
-use std::alloc::Global;
+use std::alloc::{AllocError, Global};
 use std::mem;
 
 /// Reads a brief, and answers the plan that it means or its first refusal. `print_plan` of spellings writes the text of
@@ -176,6 +177,7 @@ pub(crate) fn read_item(
         Symbol::End => return Ok(false),
         Symbol::Keyword(Keyword::Device) => device(source, board)?,
         Symbol::Keyword(Keyword::Byte) => byte(source, board)?,
+        Symbol::Keyword(Keyword::Group) => group(source, board)?,
         Symbol::Keyword(Keyword::Message) => message(source, board)?,
         Symbol::Keyword(Keyword::Controller) => controller(source, board)?,
         Symbol::Keyword(Keyword::Extend) => extend(source, board)?,
@@ -214,6 +216,45 @@ fn byte(source: &mut Source<'_>, board: &mut Board) -> Result<(), PlanError>
     Ok(())
 }
 
+// NAME NAME NAME* ;
+#[tactic(auto, unfolding(crate::specs::Items::group_at, crate::specs::Drafts::with_item))]
+fn group(source: &mut Source<'_>, board: &mut Board) -> Result<(), PlanError>
+    ensures { Passes result (adds group_at (draft board.old) (place source.old)) (draft board.new, place source.new) }
+{
+    let named = source.name()?;
+    once(&board.devices, &named)?;
+    let first = source.device()?;
+    allowed(board.device_refusal(&[], &first.name), first.line)?;
+    let devices = devices_after(source, board, first.name)?;
+    board.add_group(named.name, devices)?;
+    Ok(())
+}
+
+// NAME* ; with this name before them.
+fn devices_after(
+    source: &mut Source<'_>,
+    board: &Board,
+    first: Name,
+) -> Result<Vec<Name>, PlanError>
+    ensures read { IfOk result (λ it.
+        names_from (device_refusal (draft board.now)) (name_bytes first ∷ []) (place source.old).tokens (place source.old) ≡
+        Ok (map name_bytes it.items, place source.new)) }
+    ensures refused { IfErr result (Refuses
+        (names_from (device_refusal (draft board.now)) (name_bytes first ∷ []) (place source.old).tokens (place source.old))) }
+{
+    let mut devices = Vec::new(source.alloc);
+    devices.push(first)?;
+    'names: loop {
+        let token = source.next(Wanted::Device);
+        if token.is_semicolon() {
+            return Ok(devices);
+        }
+        let name = source.name_of(token)?;
+        allowed(board.device_refusal(devices.as_slice(), &name), token.line)?;
+        devices.push(name)?;
+    }
+}
+
 // NAME frame frame* ;
 #[tactic(auto, unfolding(crate::specs::Items::message_at, crate::specs::Drafts::with_item))]
 fn message(source: &mut Source<'_>, board: &mut Board) -> Result<(), PlanError>
@@ -225,10 +266,30 @@ fn message(source: &mut Source<'_>, board: &mut Board) -> Result<(), PlanError>
         board,
         name: &named.name,
     })?;
-    source.semicolon()?;
+    let line = source.message_end()?;
+    let groups = board.groups_in(&frames)?;
+    board.grouped_refusal(&named.name, source.range, groups.as_slice(), line)?;
     board.uses.frame(&frames);
-    board.add_messages(named, source.range, &frames)?;
+    add_message(board, named, source.range, &frames, groups.as_slice())?;
     Ok(())
+}
+
+// Adds a message in which these groups stand: one at most.
+fn add_message(
+    board: &mut Board,
+    named: NameFound,
+    range: Option<Lengths>,
+    frames: &FrameSyntax,
+    groups: &[Name],
+) -> Result<(), AllocError>
+    requires { IfSome range (λ it. is_family (draft board.old) (name_bytes named.name) ≡ false) }
+    ensures { OnOk result (draft board.new ≡
+        with_made (draft board.old) (name_bytes named.name) range (brief_frame frames.now) (map name_bytes groups.now)) }
+{
+    match groups {
+        [] => board.add_messages(named, range, frames),
+        [group, ..] => board.add_grouped(named, range, frames, group),
+    }
 }
 
 // NAME NAME* ;
@@ -258,10 +319,10 @@ fn extend(source: &mut Source<'_>, board: &mut Board) -> Result<(), PlanError>
 // NAME* ; with the messages that these names stand for, for a controller that has some already.
 fn listed(source: &mut Source<'_>, board: &Board, has: &[Name]) -> Result<Vec<Name>, PlanError>
     ensures read { IfOk result (λ it. (names : List (List ℕ)) ×
-        (listed_from (draft board.now) (map name_bytes has.now) [] (place source.old).tokens (place source.old) ≡
+        (names_from (listed_refusal (draft board.now) (map name_bytes has.now)) [] (place source.old).tokens (place source.old) ≡
         Ok (names, place source.new)) × (map name_bytes it.items ≡ all_of (draft board.now) names)) }
     ensures refused { IfErr result (Refuses
-        (listed_from (draft board.now) (map name_bytes has.now) [] (place source.old).tokens (place source.old))) }
+        (names_from (listed_refusal (draft board.now) (map name_bytes has.now)) [] (place source.old).tokens (place source.old))) }
 {
     let mut messages = Vec::new(source.alloc);
     'names: loop {

@@ -16,6 +16,7 @@ mod briefs;
 mod choices;
 mod codes;
 mod frames;
+mod groups;
 mod items;
 pub mod laws;
 mod lint;

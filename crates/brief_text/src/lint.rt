@@ -134,6 +134,15 @@ impl Uses {
         }
     }
 
+    /// The devices with these names are used: a group has them.
+    pub(crate) fn devices(&mut self, names: &[Name]) {
+        for name in names {
+            if let Some(device) = self.devices.get_mut(name) {
+                device.is_used = true;
+            }
+        }
+    }
+
     /// The device that is named in the place of an address is used.
     pub(crate) fn address(&mut self, to: &Value<Address>) {
         if let Value::Named(named) = to {

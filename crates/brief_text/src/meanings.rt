@@ -1,6 +1,6 @@
 // What a message means: names are looked up, repetitions are written out, and a family is its messages.
 
-ghost use Rattle.std.specs.Prelude.{◌≡◌, ◌<◌, ◌≤◌, ◌++◌, length, map, None, codes, decimal, false, IfOk, IfSome, OnOk};
+ghost use Rattle.std.specs.Prelude.{[], ◌≡◌, ◌<◌, ◌≤◌, ◌++◌, length, map, None, codes, decimal, false, IfOk, IfSome, OnOk};
 ghost use Rattle.std.specs.Map.{lookup};
 ghost use Rattle.std.specs.Str.{bytes_eq};
 ghost use Rattle.std.specs.String.{string_bytes};
@@ -9,13 +9,13 @@ ghost use Rattle.brief_text.specs.Codes.{at_start};
 ghost use Rattle.plan_core.specs.Building.{with_message};
 ghost use Rattle.plan_core.specs.NameBytes.{name_bytes};
 ghost use Rattle.brief_text.specs.Judging.{is_family};
-ghost use Rattle.brief_text.specs.Trees.{message};
 ghost use Rattle.brief_text.specs.Drafts.{frame_on, bytes_on, tail_on, made_bits, after_made, how_often, member_name, members};
-ghost use Rattle.brief_text.specs.Drafts.{with_messages, with_item, messages_meant, family_meant, lengths};
+ghost use Rattle.brief_text.specs.Drafts.{with_messages, with_made, messages_meant, family_meant, lengths};
 ghost use Rattle.brief_text.specs.Standing.{brief_frame, brief_bytes, brief_tail, made_of, times_of, draft};
 
 use crate::boards::Board;
 use crate::codes::{Path, header_bits};
+use crate::groups::InPlace;
 use crate::naming::{copied as named_alike, spelled};
 use crate::syntax::{DataSyntax, FrameSyntax, Lengths, MadeSyntax, NameFound, Often, TailSyntax};
 use message_tree::{Frame, Pattern, Payload, Tail};
@@ -26,16 +26,16 @@ use std::alloc::{AllocError, Global};
 
 /// A message of the plan.
 #[derive(Drop)]
-struct Message {
+pub(crate) struct Message {
     name: Name,
     frame: Frame,
 }
 
 impl Board {
     ghost use Rattle.brief_text.specs.Meanings.{message_of};
+    ghost use Rattle.brief_text.specs.Standing.{with_device};
 
     /// Adds a message, or the messages of a family, whose name no other family has.
-    #[tactic(auto, unfolding(crate::specs::Drafts::with_item))]
     pub(crate) fn add_messages(
         &mut self,
         named: NameFound,
@@ -44,9 +44,9 @@ impl Board {
     ) -> Result<(), AllocError>
         requires { IfSome range (λ it. is_family (draft self.old) (name_bytes named.name) ≡ false) }
         ensures { OnOk result (draft self.new ≡
-            with_item (draft self.old) (message (name_bytes named.name) range (brief_frame frames.now))) }
+            with_made (draft self.old) (name_bytes named.name) range (brief_frame frames.now) []) }
     {
-        let messages = self.messages_meant(&named.name, range, frames)?;
+        let messages = self.messages_meant(None, &named.name, range, frames)?;
         self.push_messages(messages, named.line)?;
         match range {
             None => Ok(()),
@@ -54,28 +54,36 @@ impl Board {
         }
     }
 
-    // The messages that these frames make.
-    fn messages_meant(
+    /// The messages that these frames make, with this device in the place of a group.
+    pub(crate) fn messages_meant(
         &self,
+        in_place: Option<InPlace<'_>>,
         name: &Name,
         range: Option<Lengths>,
         frames: &FrameSyntax,
     ) -> Result<Vec<Message>, AllocError>
         ensures { IfOk result (λ it. map message_of it.items ≡
-            messages_meant (draft self.now) (name_bytes name.now) range (brief_frame frames.now)) }
+            messages_meant (with_device (draft self.now) in_place.entry) (name_bytes name.now) range
+            (brief_frame frames.now)) }
     {
         match range {
-            None => self.one_meant(name, frames),
-            Some(range) => self.family_meant(name, range, frames),
+            None => self.one_meant(in_place, name, frames),
+            Some(range) => self.family_meant(in_place, name, range, frames),
         }
     }
 
-    fn one_meant(&self, name: &Name, frames: &FrameSyntax) -> Result<Vec<Message>, AllocError>
+    fn one_meant(
+        &self,
+        in_place: Option<InPlace<'_>>,
+        name: &Name,
+        frames: &FrameSyntax,
+    ) -> Result<Vec<Message>, AllocError>
         ensures { IfOk result (λ it. map message_of it.items ≡
-            messages_meant (draft self.now) (name_bytes name.now) None (brief_frame frames.now)) }
+            messages_meant (with_device (draft self.now) in_place.entry) (name_bytes name.now) None
+            (brief_frame frames.now)) }
     {
         let mut messages = Vec::new(self.alloc);
-        let frame = self.frame(1, frames, Path::at_start())?;
+        let frame = self.frame(in_place, 1, frames, Path::at_start())?;
         let name = named_alike(self.alloc, name)?;
         messages.push(Message { name, frame })?;
         Ok(messages)
@@ -83,25 +91,31 @@ impl Board {
 
     fn family_meant(
         &self,
+        in_place: Option<InPlace<'_>>,
         name: &Name,
         range: Lengths,
         frames: &FrameSyntax,
     ) -> Result<Vec<Message>, AllocError>
         ensures { IfOk result (λ it. map message_of it.items ≡
-            family_meant (draft self.now) (name_bytes name.now) range (brief_frame frames.now)) }
+            family_meant (with_device (draft self.now) in_place.entry) (name_bytes name.now) range
+            (brief_frame frames.now)) }
     {
         let mut messages = Vec::new(self.alloc);
         for k in 0..count(range) {
             let n = range.least as u32 + k;
-            let frame = self.frame(n, frames, Path::at_start())?;
+            let frame = self.frame(in_place, n, frames, Path::at_start())?;
             let name = member(self.alloc, name, n)?;
             messages.push(Message { name, frame })?;
         }
         Ok(messages)
     }
 
-    // These messages go into the plan. They stand on this line.
-    fn push_messages(&mut self, messages: Vec<Message>, line: u64) -> Result<(), AllocError>
+    /// These messages go into the plan. They stand on this line.
+    pub(crate) fn push_messages(
+        &mut self,
+        messages: Vec<Message>,
+        line: u64,
+    ) -> Result<(), AllocError>
         ensures { OnOk result (draft self.new ≡ record (draft self.old) {
           plan = with_messages (draft self.old).plan (map message_of messages.items);
         }) }
@@ -147,15 +161,22 @@ impl Board {
     }
 
     #[cycle(meaning)]
-    fn frame(&self, n: u32, frame: &FrameSyntax, path: Path) -> Result<Frame, AllocError>
-        ensures { IfOk result (λ it. frame_tree it ≡ frame_on (draft self.now) n (brief_frame frame.now) path) }
+    fn frame(
+        &self,
+        in_place: Option<InPlace<'_>>,
+        n: u32,
+        frame: &FrameSyntax,
+        path: Path,
+    ) -> Result<Frame, AllocError>
+        ensures { IfOk result (λ it. frame_tree it ≡ frame_on (with_device (draft self.now) in_place.entry) n
+            (brief_frame frame.now) path) }
     {
         match frame {
             FrameSyntax::Write { to, refused, acked } => {
-                let address = self.address(to);
+                let address = self.address_with(in_place, to);
                 let path = path.after(&header_bits(false, &address));
-                let acked = self.data(n, acked, path)?;
-                let refused = self.tail(n, refused, path)?;
+                let acked = self.data(in_place, n, acked, path)?;
+                let refused = self.tail(in_place, n, refused, path)?;
                 Ok(Frame::Write {
                     address,
                     acked: Box::new(self.alloc, acked)?,
@@ -168,10 +189,10 @@ impl Board {
                 refused,
                 after,
             } => {
-                let address = self.address(to);
+                let address = self.address_with(in_place, to);
                 let path = path.after(&header_bits(true, &address));
-                let after = self.tail(n, after, Path::unknown())?;
-                let refused = self.tail(n, refused, path)?;
+                let after = self.tail(in_place, n, after, Path::unknown())?;
+                let refused = self.tail(in_place, n, refused, path)?;
                 Ok(Frame::Read {
                     address,
                     count: *count,
@@ -183,8 +204,15 @@ impl Board {
     }
 
     #[cycle(meaning)]
-    fn data(&self, n: u32, data: &DataSyntax, path: Path) -> Result<Payload, AllocError>
-        ensures { IfOk result (λ it. payload_tree it ≡ bytes_on (draft self.now) n (brief_bytes «data».now) path) }
+    fn data(
+        &self,
+        in_place: Option<InPlace<'_>>,
+        n: u32,
+        data: &DataSyntax,
+        path: Path,
+    ) -> Result<Payload, AllocError>
+        ensures { IfOk result (λ it. payload_tree it ≡ bytes_on (with_device (draft self.now) in_place.entry) n
+            (brief_bytes «data».now) path) }
     {
         match data {
             DataSyntax::Byte {
@@ -195,9 +223,14 @@ impl Board {
             } => {
                 let times = often.times(n);
                 let bits = self.bits(bits);
-                let mut payload = self.data(n, acked, path.after_all(times, &bits))?;
+                let mut payload = self.data(in_place, n, acked, path.after_all(times, &bits))?;
                 for k in 0..times {
-                    let refused = self.tail(n, refused, path.after_all(times - k, &bits))?;
+                    let refused = self.tail(
+                        in_place,
+                        n,
+                        refused,
+                        path.after_all(times - k, &bits),
+                    )?;
                     payload = Payload::Byte {
                         bits,
                         acked: Box::new(self.alloc, payload)?,
@@ -211,39 +244,55 @@ impl Board {
                 refused,
                 acked,
             } => {
-                let bits = self.made_bits(n, made, path);
+                let bits = self.made_bits(in_place, n, made, path);
                 let path = made.after(path, &bits);
-                let acked = self.data(n, acked, path)?;
-                let refused = self.tail(n, refused, path)?;
+                let acked = self.data(in_place, n, acked, path)?;
+                let refused = self.tail(in_place, n, refused, path)?;
                 Ok(Payload::Byte {
                     bits,
                     acked: Box::new(self.alloc, acked)?,
                     refused,
                 })
             }
-            DataSyntax::Last(tail) => Ok(Payload::Last(self.tail(n, tail, path)?)),
+            DataSyntax::Last(tail) => Ok(Payload::Last(self.tail(in_place, n, tail, path)?)),
         }
     }
 
     #[cycle(meaning)]
-    fn tail(&self, n: u32, tail: &TailSyntax, path: Path) -> Result<Tail, AllocError>
-        ensures { IfOk result (λ it. tail_tree it ≡ tail_on (draft self.now) n (brief_tail tail.now) path) }
+    fn tail(
+        &self,
+        in_place: Option<InPlace<'_>>,
+        n: u32,
+        tail: &TailSyntax,
+        path: Path,
+    ) -> Result<Tail, AllocError>
+        ensures { IfOk result (λ it. tail_tree it ≡ tail_on (with_device (draft self.now) in_place.entry) n
+            (brief_tail tail.now) path) }
     {
         match tail {
             TailSyntax::Stop => Ok(Tail::Stop),
             TailSyntax::Frames(frame) => {
-                let frame = self.frame(n, frame, path)?;
+                let frame = self.frame(in_place, n, frame, path)?;
                 Ok(Tail::Again(Box::new(self.alloc, frame)?))
             }
         }
     }
 
     // A byte that follows from others, or is a choice.
-    fn made_bits(&self, n: u32, made: &MadeSyntax, path: Path) -> Pattern
-        ensures { result ≡ made_bits (draft self.now) n (made_of made.now) path }
+    fn made_bits(
+        &self,
+        in_place: Option<InPlace<'_>>,
+        n: u32,
+        made: &MadeSyntax,
+        path: Path,
+    ) -> Pattern
+        ensures { result ≡ made_bits (with_device (draft self.now) in_place.entry) n (made_of made.now) path }
     {
         match made {
-            MadeSyntax::Header { reads, to } => header_bits(*reads, &self.address(to)),
+            MadeSyntax::Header { reads, to } => header_bits(
+                *reads,
+                &self.address_with(in_place, to),
+            ),
             MadeSyntax::PacketCode => path.packet_code(),
             MadeSyntax::Checksum => path.checksum(),
             MadeSyntax::Chosen(choice) => choice.bits(n),
@@ -278,8 +327,8 @@ impl Often {
     }
 }
 
-// How many messages a family has.
-fn count(range: Lengths) -> u32
+/// How many messages a family has.
+pub(crate) fn count(range: Lengths) -> u32
     ensures count { result ≡ length (lengths range) }
     ensures small { result ≤ 256 }
 {

@@ -1,11 +1,12 @@
 // Values by their names.
 
-ghost use Rattle.std.specs.Prelude.{◌≡◌, [], ◌∷◌, ◌++◌, None, is_some, IfOk, OnOk};
+ghost use Rattle.std.specs.Prelude.{◌≡◌, [], ◌∷◌, ◌++◌, map, None, is_some, IfOk, OnOk};
 ghost use Rattle.std.specs.Map.{lookup};
 ghost use Rattle.std.specs.Str.{bytes_eq};
 ghost use Rattle.plan_core.specs.Building.{has_name};
 ghost use Rattle.plan_core.specs.NameBytes.{name_bytes};
 
+use crate::passed::{after, is_number};
 use indexmap::IndexMap;
 use plan_core::Name;
 use std::alloc::{AllocError, Global};
@@ -43,6 +44,42 @@ impl<T: Copy> Named<T> {
         Ok(())
     }
 
+    /// The same value for each of these names. None has one by then.
+    pub(crate) fn add_all(
+        &mut self,
+        alloc: Global,
+        names: &[Name],
+        value: T,
+    ) -> Result<(), AllocError>
+        ensures { OnOk result (entries_of self.new ≡
+            entries_of self.old ++ map (λ name. (name, value)) (map name_bytes names.now)) }
+    {
+        for name in names {
+            self.add_copied(alloc, name, value)?;
+        }
+        Ok(())
+    }
+
+    fn add_copied(&mut self, alloc: Global, name: &Name, value: T) -> Result<(), AllocError>
+        ensures { OnOk result (entries_of self.new ≡ entries_of self.old ++ (name_bytes name.now, value) ∷ []) }
+    {
+        if self.get(name).is_some() {
+            return Err(AllocError);
+        }
+        let name = copied(alloc, name)?;
+        self.add(name, value)
+    }
+
+    /// Whether a text is one of these names, or one with `_` and a number after it.
+    pub(crate) fn has_front_of(&self, text: &[u8]) -> bool {
+        for name in self.entries.keys() {
+            if is_front(name.as_str().as_bytes(), text) {
+                return true;
+            }
+        }
+        false
+    }
+
     /// All names, in the order of the text.
     pub(crate) fn names(&self, alloc: Global) -> Result<Vec<Name>, AllocError> {
         let mut names = Vec::new(alloc);
@@ -67,5 +104,16 @@ pub(crate) fn spelled(alloc: Global, text: &str) -> Result<Name, AllocError>
     match Name::new(alloc, text) {
         Ok(name) => Ok(name),
         Err(_) => Err(AllocError),
+    }
+}
+
+// Whether a text is this name, or has `_` and a number after it.
+fn is_front(name: &[u8], text: &[u8]) -> bool {
+    if name == text {
+        return true;
+    }
+    match after(name, text) {
+        Some(number) => is_number(number),
+        None => false,
     }
 }

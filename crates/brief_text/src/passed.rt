@@ -1,6 +1,8 @@
 // Which names count as known because an item that was refused would have given them, and what follows from that.
 
+use crate::naming::Named;
 use crate::passing::{Gives, PassedOver};
+use message_tree::Address;
 use origins::{Kind, halves};
 use plan_text::{Expected, Place, PlanError};
 use std::alloc::{AllocError, Global};
@@ -20,8 +22,9 @@ struct PassedName<'a> {
 #[derive(Drop)]
 pub(crate) struct Passed<'a> {
     names: Vec<PassedName<'a>>,
-    // whether there are others, of which nothing is known
+    // whether there are others, of which nothing is known, or groups
     has_others: bool,
+    has_groups: bool,
     told: Limits,
 }
 
@@ -52,6 +55,7 @@ impl<'a> Passed<'a> {
         Passed {
             names: Vec::new(alloc),
             has_others: false,
+            has_groups: false,
             told: Limits {
                 messages: false,
                 controllers: false,
@@ -79,11 +83,16 @@ impl<'a> Passed<'a> {
         self.has_others = true;
     }
 
-    /// Whether a refusal follows from what was passed over, or from one that was told.
-    pub(crate) fn explains(&mut self, wrong: &Wrong<'_>) -> bool {
+    /// And a group: what messages make by it is not known.
+    pub(crate) fn add_group(&mut self) {
+        self.has_groups = true;
+    }
+
+    /// Whether a refusal follows from what was passed over, or from one that was told. Messages make names by devices.
+    pub(crate) fn explains(&mut self, wrong: &Wrong<'_>, devices: &Named<Address>) -> bool {
         match wrong.error {
-            PlanError::Unknown(_) => self.has_others || self.has_unknown(wrong),
-            PlanError::Twice(_) => self.has_twice(wrong),
+            PlanError::Unknown(_) => self.has_others || self.has_unknown(wrong, devices),
+            PlanError::Twice(_) => self.has_twice(wrong, devices),
             PlanError::TooMany(_) => self.has_limit(wrong),
             PlanError::Unexpected(_) => { wrong.may_be_name && is_for_a_name(wrong.place.expected) }
             _ => false,
@@ -92,14 +101,16 @@ impl<'a> Passed<'a> {
 
     // ---- P8
 
-    fn has_unknown(&self, wrong: &Wrong<'_>) -> bool {
+    fn has_unknown(&self, wrong: &Wrong<'_>, devices: &Named<Address>) -> bool {
         let word = wrong.word;
         match wrong.place.expected {
-            Some(Expected::Sending) => self.has(Kind::Message, word),
-            Some(Expected::Target | Expected::KnownTarget) => self.has(Kind::Device, word),
+            Some(Expected::Sending) => self.has_message(word, devices),
+            Some(Expected::Target | Expected::KnownTarget | Expected::Device { .. }) => {
+                self.has(Kind::Device, word)
+            }
             Some(Expected::Party) => match halves(word) {
                 Some((controller, label)) => {
-                    self.has(Kind::Controller, controller) || self.has(Kind::Message, label)
+                    self.has(Kind::Controller, controller) || self.has_message(label, devices)
                 }
                 None => self.has(Kind::Controller, word),
             },
@@ -109,15 +120,25 @@ impl<'a> Passed<'a> {
         }
     }
 
-    // Whether one of this kind would have had this name. A message may be one of a family.
+    // Whether one of this kind would have had this name.
     fn has(&self, kind: Kind, word: &[u8]) -> bool {
         for one in self.names.iter() {
-            let is_kind = match one.kind {
-                Some(other) => other == kind,
-                None => true,
-            };
-            let is_name = one.name == word || kind == Kind::Message && is_member(one.name, word);
-            if is_kind && is_name {
+            if is_of(one.kind, kind) && one.name == word {
+                return true;
+            }
+        }
+        false
+    }
+
+    // Whether a message would have had this name, or would have made it.
+    fn has_message(&self, word: &[u8], devices: &Named<Address>) -> bool {
+        if self.has_groups && word.contains(&b'_') {
+            return true;
+        }
+        for one in self.names.iter() {
+            if is_of(one.kind, Kind::Message)
+                && (one.name == word || is_made(one.name, word, devices))
+            {
                 return true;
             }
         }
@@ -127,9 +148,9 @@ impl<'a> Passed<'a> {
     // ---- P7
 
     // Whether what stands already stands there only in the place of what was passed over.
-    fn has_twice(&self, wrong: &Wrong<'_>) -> bool {
+    fn has_twice(&self, wrong: &Wrong<'_>, devices: &Named<Address>) -> bool {
         for one in self.names.iter() {
-            if one.stands && is_twice(wrong, one.kind, one.name) {
+            if one.stands && is_twice(wrong, one.kind, one.name, devices) {
                 return true;
             }
         }
@@ -157,7 +178,7 @@ fn is_for_a_name(expected: Option<Expected>) -> bool {
 }
 
 // Whether this is refused because one of this kind has this name.
-fn is_twice(wrong: &Wrong<'_>, kind: Option<Kind>, name: &[u8]) -> bool {
+fn is_twice(wrong: &Wrong<'_>, kind: Option<Kind>, name: &[u8], devices: &Named<Address>) -> bool {
     match (wrong.place.expected, wrong.over.gives) {
         (Some(Expected::Name(given)), _) => kind == Some(given) && name == wrong.word,
         (Some(Expected::Party), _) => {
@@ -165,18 +186,31 @@ fn is_twice(wrong: &Wrong<'_>, kind: Option<Kind>, name: &[u8]) -> bool {
         }
         // (of a family)
         (_, Gives::One(Kind::Message)) => {
-            kind == Some(Kind::Message) && is_member(wrong.over.second, name)
+            kind == Some(Kind::Message) && is_made(wrong.over.second, name, devices)
         }
         _ => false,
     }
 }
 
-// Whether a family of this name may have a message of this one.
-fn is_member(family: &[u8], name: &[u8]) -> bool {
-    match after(family, name) {
-        Some(number) => !number.is_empty() && number.iter().all(u8::is_ascii_digit),
+// Whether something of which this much is known is of a kind.
+fn is_of(known: Option<Kind>, kind: Kind) -> bool {
+    match known {
+        Some(other) => other == kind,
+        None => true,
+    }
+}
+
+// Whether a message of this name may make that one: by a number, by a device, or by both.
+fn is_made(message: &[u8], name: &[u8], devices: &Named<Address>) -> bool {
+    match after(message, name) {
+        Some(rest) => is_number(rest) || devices.has_front_of(rest),
         None => false,
     }
+}
+
+/// Whether these are digits.
+pub(crate) fn is_number(text: &[u8]) -> bool {
+    !text.is_empty() && text.iter().all(u8::is_ascii_digit)
 }
 
 // Whether the part that a label makes has this name.
@@ -187,7 +221,7 @@ fn is_part(label: &[u8], name: &[u8]) -> bool {
     }
 }
 
-// What stands in a name after this one and `_`.
-fn after<'n>(front: &[u8], name: &'n [u8]) -> Option<&'n [u8]> {
+/// What stands in a name after this one and `_`.
+pub(crate) fn after<'n>(front: &[u8], name: &'n [u8]) -> Option<&'n [u8]> {
     name.strip_prefix(front)?.strip_prefix(b"_")
 }

@@ -33,6 +33,8 @@ pub(crate) struct Next {
 pub(crate) enum Gives {
     Nothing,
     One(Kind),
+    /// A group of devices.
+    Group,
     /// Its first word is none of items.
     Anything,
     /// All that another file gives names to.
@@ -182,7 +184,7 @@ fn given_by(token: Token<'_>) -> Gives {
     match token.symbol {
         Symbol::Keyword(Keyword::Never) => Gives::Nothing,
         Symbol::Keyword(Keyword::With) => Gives::File,
-        Symbol::Keyword(Keyword::Group) => Gives::One(Kind::Device),
+        Symbol::Keyword(Keyword::Group) => Gives::Group,
         // (it gives none, but says more of it)
         Symbol::Keyword(Keyword::Extend) => Gives::One(Kind::Controller),
         _ => match token.kind() {

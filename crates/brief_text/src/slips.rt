@@ -247,7 +247,7 @@ impl<'a> Finder<'a> {
             over,
             may_be_name,
         };
-        if !is_again && !self.passed.explains(&wrong) {
+        if !is_again && !self.passed.explains(&wrong, &self.board.devices) {
             self.add(text.file, refused)?;
         }
         self.keep(over, item.line)?;
@@ -274,13 +274,22 @@ impl<'a> Finder<'a> {
                 self.passed.add(None, over.first, false)?;
                 self.passed.add(None, over.second, false)
             }
-            Gives::One(kind) => match name_of(self.alloc, over.second)? {
-                Some(name) => {
-                    let stands = self.board.stand_in(kind, NameFound { name, line })?;
-                    self.passed.add(Some(kind), over.second, stands)
-                }
-                None => Ok(()),
-            },
+            Gives::One(kind) => self.keep_one(kind, over.second, line),
+            Gives::Group => {
+                self.passed.add_group();
+                self.keep_one(Kind::Device, over.second, line)
+            }
+        }
+    }
+
+    // Of this kind and this name.
+    fn keep_one(&mut self, kind: Kind, word: &'a [u8], line: u64) -> Result<(), AllocError> {
+        match name_of(self.alloc, word)? {
+            Some(name) => {
+                let stands = self.board.stand_in(kind, NameFound { name, line })?;
+                self.passed.add(Some(kind), word, stands)
+            }
+            None => Ok(()),
         }
     }
 }

@@ -130,6 +130,19 @@ impl<'a> Source<'a> {
         })
     }
 
+    /// The NAME of a device
+    pub(crate) fn device(&mut self) -> Result<NameFound, PlanError>
+        ensures { FindsOut (λ it. name_bytes it.name) (λ it. it.line) result (token_as name_in (place self.old))
+            (place self.new) }
+    {
+        let token = self.next(Wanted::Device);
+        let name = self.name_of(token)?;
+        Ok(NameFound {
+            name,
+            line: token.line,
+        })
+    }
+
     /// The NAME that this token is.
     pub(crate) fn name_of(&self, token: Token<'_>) -> Result<Name, PlanError>
         ensures { (after : Place) → FindsOut name_bytes (λ it. token.entry.line) result
@@ -304,6 +317,17 @@ impl<'a> Source<'a> {
         let token = self.next(Wanted::CloseAddress);
         match token.symbol {
             Symbol::Sign(Sign::Close) => Ok(()),
+            _ => Err(token.unexpected()),
+        }
+    }
+
+    /// The `;` of a message, and its line
+    pub(crate) fn message_end(&mut self) -> Result<u64, PlanError>
+        ensures { FindsOut (λ it. tt) (λ it. it) result (token_as end_in (place self.old)) (place self.new) }
+    {
+        let token = self.next(Wanted::End);
+        match token.symbol {
+            Symbol::Sign(Sign::Semicolon) => Ok(token.line),
             _ => Err(token.unexpected()),
         }
     }

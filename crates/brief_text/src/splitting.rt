@@ -7,7 +7,7 @@ ghost use Rattle.plan_core.specs.BuilderContents.{builder_contents};
 ghost use Rattle.plan_core.specs.Building.{with_controller};
 ghost use Rattle.plan_core.specs.NameBytes.{name_bytes};
 ghost use Rattle.plan_core.specs.PlanContents.{plan_contents};
-ghost use Rattle.brief_text.specs.Splitting.{parts, parts_of, plan_meant, label_messages, labels_of, is_label, is_in_part};
+ghost use Rattle.brief_text.specs.Splitting.{parts, parts_of, plan_meant, label_names, is_of_device, is_of_labelled, label_messages, labels_of, is_label, is_in_part};
 ghost use Rattle.brief_text.specs.Splitting.{sends_any, rest_part, label_part, part_name, label_means, side_means};
 ghost use Rattle.brief_text.specs.Splitting.{pairs_apart, pairs_among, pairs_between, pairs_meant, parts_meant, are_of_one};
 ghost use Rattle.brief_text.specs.Splitting.{whole, with_parts, with_pair, with_pairs};
@@ -89,11 +89,23 @@ impl Board {
     fn all_families(&self) -> Result<Vec<FamilyOrigin>, AllocError> {
         let mut families = Vec::new(self.alloc);
         for family in self.families.names(self.alloc)?.as_slice() {
-            let name = copied(self.alloc, family)?;
-            let messages = self.named(family)?;
-            families.push(FamilyOrigin { name, messages })?;
+            self.push_family(&mut families, family)?;
+        }
+        for grouped in self.grouped.as_slice() {
+            self.push_family(&mut families, &grouped.name)?;
         }
         Ok(families)
+    }
+
+    fn push_family(
+        &self,
+        families: &mut Vec<FamilyOrigin>,
+        family: &Name,
+    ) -> Result<(), AllocError> {
+        let name = copied(self.alloc, family)?;
+        let messages = self.named(family)?;
+        families.push(FamilyOrigin { name, messages })?;
+        Ok(())
     }
 
     /// The controllers of the plan.
@@ -243,19 +255,76 @@ impl Board {
         let named = self.label_messages(label)?;
         let mut messages = Vec::new(self.alloc);
         for message in listed {
-            let is_in_part = self.is_in_part(label, named.as_slice(), message);
+            let is_in_part = self.is_in_part(label, named.as_slice(), message)?;
             push_if(self.alloc, &mut messages, is_in_part, message)?;
         }
         Ok(messages)
     }
 
     // Whether a message is in the part of a label, which stands for these.
-    fn is_in_part(&self, label: &Party, named: &[Name], message: &Name) -> bool
-        ensures { map name_bytes named.now ≡ label_messages (draft self.now) (side label.now) →
-            result ≡ is_in_part (draft self.now) (labels_of (draft self.now) (side label.now).controller)
-            (side label.now) (name_bytes message.now) }
+    fn is_in_part(&self, label: &Party, named: &[Name], message: &Name) -> Result<bool, AllocError>
+        requires { map name_bytes named.now ≡ label_messages (draft self.now) (side label.now) }
+        ensures { IfOk result (λ it. it ≡ is_in_part (draft self.now) (labels_of (draft self.now) (side label.now).controller)
+            (side label.now) (name_bytes message.now)) }
     {
-        is_among(named, message) && self.is_left_to(label, message)
+        let is_of_device = self.is_of_device(label, message)?;
+        let is_left = self.is_left_to(label, message) && !is_of_device;
+        Ok(is_among(named, message) && is_left)
+    }
+
+    // Whether a device for which the label stands has a label of its own, which stands for the message.
+    fn is_of_device(&self, label: &Party, message: &Name) -> Result<bool, AllocError>
+        ensures { IfOk result (λ it. it ≡ is_of_device (draft self.now)
+            (labels_of (draft self.now) (side label.now).controller) (side label.now) (name_bytes message.now)) }
+    {
+        self.is_of_one(&label.controller, message, self.label_names(label))
+    }
+
+    // Whether a label of this controller is one of these names, which stands for the message.
+    fn is_of_one(
+        &self,
+        controller: &Name,
+        message: &Name,
+        names: &[Name],
+    ) -> Result<bool, AllocError>
+        ensures { IfOk result (λ it. it ≡ list_any (is_of_labelled (draft self.now)
+            (labels_of (draft self.now) (name_bytes controller.now)) (name_bytes message.now)) (map name_bytes names.now)) }
+    {
+        match names {
+            [] => Ok(false),
+            [name, others @ ..] => {
+                let is_first = self.is_of_labelled(controller, message, name)?;
+                let is_other = self.is_of_one(controller, message, others)?;
+                Ok(is_first || is_other)
+            }
+        }
+    }
+
+    // Whether a label of this controller is this name, which stands for the message.
+    fn is_of_labelled(
+        &self,
+        controller: &Name,
+        message: &Name,
+        name: &Name,
+    ) -> Result<bool, AllocError>
+        ensures { IfOk result (λ it. it ≡ is_of_labelled (draft self.now)
+            (labels_of (draft self.now) (name_bytes controller.now)) (name_bytes message.now) (name_bytes name.now)) }
+    {
+        if !self.has_label_of(controller, name) {
+            return Ok(false);
+        }
+        let named = self.named_alone(name)?;
+        Ok(is_among(named.as_slice(), message))
+    }
+
+    // The names of devices for which a label stands.
+    fn label_names(&self, party: &Party) -> &[Name]
+        ensures { map name_bytes result.now ≡ label_names (draft self.now) (side party.now) }
+    {
+        match &party.label {
+            None => &[],
+            Some(label) => self.names_made(label),
+        }
     }
 
     // Whether the label is this message, or none of its controller is.
@@ -315,13 +384,25 @@ impl Board {
         push_pairs_between(self.alloc, pairs, firsts.as_slice(), seconds.as_slice())
     }
 
+    // What a label stands for: names of devices, and messages.
+    fn label_parts(&self, party: &Party) -> Result<Vec<Name>, AllocError>
+        ensures { IfOk result (λ it. map name_bytes it.items ≡
+            label_names (draft self.now) (side party.now) ++ label_messages (draft self.now) (side party.now)) }
+    {
+        let mut parts = Vec::new(self.alloc);
+        push_all(self.alloc, &mut parts, self.label_names(party))?;
+        let messages = self.label_messages(party)?;
+        push_all(self.alloc, &mut parts, messages.as_slice())?;
+        Ok(parts)
+    }
+
     // The names of the parts that a party means.
     fn names_meant(&self, party: &Party, all: &[Part]) -> Result<Vec<Name>, AllocError>
         requires { map part all.now ≡ parts (draft self.now) }
         ensures { IfOk result (λ it. map name_bytes it.items ≡
             map part_name (parts_meant (draft self.now) (side party.now))) }
     {
-        let named = self.label_messages(party)?;
+        let named = self.label_parts(party)?;
         let mut names = Vec::new(self.alloc);
         for part in all {
             let name = part.party.name(self.alloc)?;
@@ -332,22 +413,22 @@ impl Board {
     }
 }
 
-// Whether a party whose label stands for these messages means the part.
-fn means(party: &Party, messages: &[Name], it: &Part) -> bool
-    ensures { (draft : Draft) → map name_bytes messages.now ≡ label_messages draft (side party.now) →
+// Whether a party whose label stands for these names means the part.
+fn means(party: &Party, names: &[Name], it: &Part) -> bool
+    ensures { (draft : Draft) → map name_bytes names.now ≡ label_names draft (side party.now) ++ label_messages draft (side party.now) →
         result ≡ side_means draft (side party.now) (part it.now) }
 {
-    party.controller == it.party.controller && label_means(party, messages, it)
+    party.controller == it.party.controller && label_means(party, names, it)
 }
 
-fn label_means(party: &Party, messages: &[Name], it: &Part) -> bool
-    ensures { (draft : Draft) → map name_bytes messages.now ≡ label_messages draft (side party.now) →
+fn label_means(party: &Party, names: &[Name], it: &Part) -> bool
+    ensures { (draft : Draft) → map name_bytes names.now ≡ label_names draft (side party.now) ++ label_messages draft (side party.now) →
         result ≡ label_means draft (side party.now).label (part it.now).side.label }
 {
     match (&party.label, &it.party.label) {
         (None, _) => true,
         (Some(_), None) => false,
-        (Some(label), Some(other)) => *label == *other || is_among(messages, other),
+        (Some(label), Some(other)) => *label == *other || is_among(names, other),
     }
 }
 
@@ -543,8 +624,8 @@ fn all_copied(alloc: Global, names: &[Name]) -> Result<Vec<Name>, AllocError>
     Ok(copies)
 }
 
-// Whether one of these is this name.
-fn is_among(names: &[Name], name: &Name) -> bool
+/// Whether one of these is this name.
+pub(crate) fn is_among(names: &[Name], name: &Name) -> bool
     ensures { result ≡ list_any (λ other. bytes_eq other (name_bytes name.now)) (map name_bytes names.now) }
 {
     names.contains(name)

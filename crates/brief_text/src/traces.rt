@@ -2,16 +2,17 @@
 
 ghost use Rattle.std.specs.Prelude.{◌≡◌};
 
-use brief_tokens::{Sign, Symbol, Token};
+use brief_tokens::{Keyword, Sign, Symbol, Token};
 use plan_text::places::{Further, Kind, Over, Spot};
 use plan_text::{Expected, PlanError, Refused};
 
 /// What a token is to be, where it is taken.
-#[derive(Clone, Copy)]
+#[derive(Clone, Copy, PartialEq, Eq)]
 pub(crate) enum Wanted {
     Item,
     Name,
     Controller,
+    Device,
     Sending,
     Party,
     Address,
@@ -82,7 +83,7 @@ impl Trace {
             before: self.wanted,
             depth,
             item: match wanted {
-                Wanted::Item => token.kind().unwrap_or(self.item),
+                Wanted::Item => kind_of(token).unwrap_or(self.item),
                 _ => self.item,
             },
             made: self.made,
@@ -101,6 +102,9 @@ impl Trace {
             Wanted::Item => Expected::BriefItem,
             Wanted::Name => Expected::Name(self.item),
             Wanted::Controller => Expected::Controller,
+            Wanted::Device => Expected::Device {
+                ends: self.before == Wanted::Device,
+            },
             Wanted::Sending => Expected::Sending,
             Wanted::Party => Expected::Party,
             Wanted::Address => Expected::BriefAddress,
@@ -139,5 +143,13 @@ impl Trace {
             made: self.made,
             is_inner: self.depth != 0,
         })
+    }
+}
+
+// What an item that begins with this token gives a name to. Groups have names among those of devices.
+fn kind_of(token: Token<'_>) -> Option<Kind> {
+    match token.symbol {
+        Symbol::Keyword(Keyword::Group) => Some(Kind::Device),
+        _ => token.kind(),
     }
 }

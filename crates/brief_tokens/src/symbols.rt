@@ -119,6 +119,7 @@ impl<'a> Token<'a> {
         match self.part() {
             Some(Part::Item(ItemKind::Gives(kind))) => Some(kind),
             Some(Part::Item(ItemKind::Extends)) => Some(Kind::Controller),
+            Some(Part::Item(ItemKind::Groups)) => Some(Kind::Device),
             _ => None,
         }
     }
@@ -159,11 +160,12 @@ fn part_of_keyword(keyword: Keyword) -> Part<'static> {
         Keyword::Message => Part::Item(ItemKind::Gives(Kind::Message)),
         Keyword::Controller => Part::Item(ItemKind::Gives(Kind::Controller)),
         Keyword::Extend => Part::Item(ItemKind::Extends),
+        Keyword::Group => Part::Item(ItemKind::Groups),
         Keyword::Interrupt => Part::Item(ItemKind::Gives(Kind::Interrupt)),
         Keyword::Never => Part::Item(ItemKind::Never),
         Keyword::Write | Keyword::Read => Part::Direction,
         Keyword::Brief | Keyword::Any | Keyword::Else | Keyword::Stop => Part::Other,
-        Keyword::With | Keyword::Group | Keyword::But => Part::Other,
+        Keyword::With | Keyword::But => Part::Other,
         Keyword::Wr | Keyword::Rd | Keyword::Pec | Keyword::Sum => Part::Other,
     }
 }

@@ -50,7 +50,9 @@ fn span_of(words: PlanWords<'_>, oddity: Oddity<'_>, items: &Items<'_>, texts: &
             items.named(Kind::Message, words.message_name(message))
         }
         Oddity::Idle { controller, .. } => items.named(Kind::Controller, words.name(controller)),
-        Oddity::AddressByte { at, .. } | Oddity::IdleNever { at, .. } => Some(at.span),
+        Oddity::UnusedGroup { at, .. }
+        | Oddity::AddressByte { at, .. }
+        | Oddity::IdleNever { at, .. } => Some(at.span),
     };
     match named {
         Some(span) => span,

@@ -36,6 +36,7 @@ pub(crate) fn words_of(
 const SECOND_ITEMS: &[&str] = &[
     "'device'",
     "'byte'",
+    "'group'",
     "'message'",
     "'controller'",
     "'extend'",
@@ -99,6 +100,8 @@ fn few(expected: Expected) -> &'static [&'static str] {
         Expected::Count { ranges: true } => &["a count from 1 to 255", "two of them as '2..4'"],
         Expected::Target => &[ADDRESS, "the name of a device"],
         Expected::KnownTarget => &[KNOWN_ADDRESS, "the name of a device"],
+        Expected::Device { ends: false } => &["the name of a device"],
+        Expected::Device { ends: true } => &["the name of a device", "';'"],
         Expected::BriefAddress => &[ADDRESS],
         Expected::BriefByte => &[BYTE],
         Expected::Times { ranges: false } => &["a number from 1 to 255"],

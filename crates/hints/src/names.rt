@@ -31,8 +31,9 @@ struct Known<'a> {
     range: &'a [u8],
     // whether it is given to a device whose address has open bits
     is_open: bool,
-    // whether its item adds to a controller
+    // whether its item adds to a controller, or gives its name to a group
     adds: bool,
+    is_group: bool,
 }
 
 impl Known<'_> {
@@ -135,6 +136,7 @@ fn push_known<'a>(
                 range: texts.range(at),
                 is_open: is_open(texts, at),
                 adds: adds(texts, at),
+                is_group: texts.is_group(at),
             },
         )?),
     }
@@ -192,6 +194,10 @@ enum Stands {
     Part(Option<Stand>),
     // a `never` that names the controller to which an item adds
     Apart(Option<Stand>),
+    // a name that a message makes by its group
+    Made,
+    // a device of the group
+    Grouped,
 }
 
 impl Stands {
@@ -203,7 +209,7 @@ impl Stands {
             | Stands::Never(stand)
             | Stands::Part(stand)
             | Stands::Apart(stand) => stand,
-            Stands::Side => None,
+            Stands::Side | Stands::Made | Stands::Grouped => None,
         }
     }
 }
@@ -237,6 +243,8 @@ fn stands_in(alloc: Global, refused: &RefusedIn<'_>) -> Result<Stands, AllocErro
 fn stands_among(known: &[Known<'_>], refused: &RefusedIn<'_>) -> Stands {
     let word = refused.token();
     match refused.place.expected {
+        _ if word == b";".as_slice() => Stands::Made,
+        Some(Expected::Device { .. }) => Stands::Grouped,
         Some(Expected::Name(kind)) => Stands::Named(
             kind,
             stand_of(known, kind, word).or(stand_of_maker(known, kind, word)),
@@ -267,6 +275,10 @@ fn push_stands(alloc: Global, lines: &mut Lines, refused: &RefusedIn<'_>, stands
         Stands::Never(_) => lines.part("these two stand in a 'never' already"),
         Stands::Part(_) => lines.part(
             "a label makes a controller, with '_' in place of '/': an earlier one has this name",
+        ),
+        Stands::Grouped => lines.part("this group has that device already"),
+        Stands::Made => lines.part(
+            "a name that this message makes for a device of its group stands already, or is made twice",
         ),
         Stands::Apart(_) => {
             lines.part("what adds to a controller stands before each 'never' that names it")
@@ -445,7 +457,10 @@ fn push_absent(alloc: Global, lines: &mut Lines, refused: &RefusedIn<'_>, known:
     let word = refused.token();
     match refused.place.expected {
         Some(Expected::Sending) => push_nearest(alloc, lines, refused, known, Kind::Message, word),
-        Some(Expected::Target | Expected::KnownTarget) => {
+        Some(Expected::Device { .. }) if is_group(known, word) => {
+            lines.say("this is a group itself, and a group has devices alone");
+        }
+        Some(Expected::Target | Expected::KnownTarget | Expected::Device { .. }) => {
             push_nearest(alloc, lines, refused, known, Kind::Device, word)
         }
         Some(expected @ Expected::Further(_)) => {
@@ -579,7 +594,8 @@ fn add_near(
 // Whether a name of the kind that is wanted could stand in the place that is refused.
 fn could_stand(refused: &RefusedIn<'_>, known: &[Known<'_>], one: Known<'_>) -> bool {
     match refused.place.expected {
-        Some(Expected::KnownTarget) => !one.is_open,
+        Some(Expected::KnownTarget) => !one.is_open && !one.is_group,
+        Some(Expected::Device { .. }) => !one.is_group,
         Some(Expected::Sending) => stand_in_list(known, one.name).is_none(),
         Some(Expected::Party | Expected::Controller) => could_be_side(refused, known, one.name),
         _ => true,
@@ -626,6 +642,11 @@ fn line_below(
             None
         }
     }
+}
+
+// Whether a group has this name.
+fn is_group(known: &[Known<'_>], word: &[u8]) -> bool {
+    known.iter().any(|one| one.is_group && one.name == word)
 }
 
 fn has_any(known: &[Known<'_>], kind: Kind) -> bool {

@@ -88,6 +88,9 @@ fn push_oddity(
             let name = device.name.as_str();
             lines.say(format_args!("no message and no interrupt names device '{name}'"));
         }
+        Oddity::UnusedGroup { name, .. } => {
+            lines.say(format_args!("no message names group '{name}'"));
+        }
         Oddity::UnusedByte(byte) => {
             let name = byte.name.as_str();
             lines.say(format_args!("no message names byte '{name}'"));

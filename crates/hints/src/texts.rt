@@ -322,6 +322,7 @@ fn takes_semicolon(expected: Expected) -> bool {
         expected,
         Expected::Semicolon
             | Expected::Sending
+            | Expected::Device { ends: true }
             | Expected::Further(Further {
                 is_inner: false,
                 ..
@@ -333,7 +334,7 @@ fn ends_item(refused: &RefusedIn<'_>) -> bool {
     match refused.token() {
         b"message" | b"controller" | b"interrupt" | b"never" => true,
         b"device" | b"byte" => matches!(refused.language, Language::Brief),
-        b"extend" => refused.is_second(),
+        b"extend" | b"group" => refused.is_second(),
         b"" => true,
         _ => false,
     }
@@ -409,6 +410,10 @@ fn push_span(
 fn push_fault(alloc: Global, lines: &mut Lines, refused: &RefusedIn<'_>, fault: Fault) {
     match (fault, refused.place.expected) {
         (Fault::NoSemicolon(span), _) => push_semicolon(lines, refused, span),
+        // (the `;` itself is as it should be)
+        (_, Some(expected)) if refused.token() == b";".as_slice() && takes_semicolon(expected) => {
+            lines.say(GROUPED);
+        }
         (Fault::Range(_), _) => {
             lines.say(RANGES);
             push_all(alloc, lines, refused, Expected::Count { ranges: false });
@@ -421,6 +426,9 @@ fn push_fault(alloc: Global, lines: &mut Lines, refused: &RefusedIn<'_>, fault: 
         (_, None) => lines.say(FILE_EXPECTED),
     }
 }
+
+const GROUPED: &str =
+    "a message has one group, and each name that it makes for a device has at most 32 characters";
 
 const FILE_REFUSED: &str =
     "a file has 1 to 255 characters here, and 'learn --names' takes one brief that names no files";

@@ -306,6 +306,7 @@ fn takes_name(expected: Expected) -> bool {
             | Expected::Party
             | Expected::Target
             | Expected::KnownTarget
+            | Expected::Device { .. }
     )
 }
 

@@ -8,7 +8,7 @@ use crate::winners::push_winners;
 use given_plans::GivenPlan;
 use growing_text::Text;
 use order::{Order, order_of, scores_of};
-use origins::{Kind, NamedTexts};
+use origins::{Kind, NameAt, NamedTexts, Role};
 use plan_core::Plan;
 use plan_words::{PlanWords, Sides, sides_of};
 use std::alloc::{AllocError, Global};
@@ -59,6 +59,10 @@ fn value_hover(
         return Ok(None);
     };
     let mut text = Text::new(alloc);
+    if names.is_group(given) {
+        push_group(&mut text, names, given);
+        return Ok(Some(text.finish()?));
+    }
     text.push(what);
     text.push(" `");
     text.push(str::from_utf8(name.bytes).unwrap_or(""));
@@ -68,6 +72,20 @@ fn value_hover(
     text.push(str::from_utf8(names.value(given)).unwrap_or(""));
     text.push("`");
     Ok(Some(text.finish()?))
+}
+
+// The devices of a group, which gets its name there.
+fn push_group(text: &mut Text, names: &NamedTexts<'_>, given: NameAt) {
+    text.push("group `");
+    text.push(str::from_utf8(names.word(given)).unwrap_or(""));
+    text.push("`:");
+    for at in names.names() {
+        if at.item == given.item && at.role == Role::Used {
+            text.push(" `");
+            text.push(str::from_utf8(names.word(*at)).unwrap_or(""));
+            text.push("`");
+        }
+    }
 }
 
 // ---- messages

@@ -1,15 +1,18 @@
 //! What is allowed in briefs, and is likely a mistake. Nothing of it decides anything, and no clause speaks of it.
 //!
-//! `headers` says which messages part in their first byte, and which are a header alone; `nevers` which `never` items keep apart
-//! what parts there anyway, and `address_bytes` which data bytes are written where others have an address.
+//! `headers` says which messages part in their first byte, and which are a header alone; `groups` which groups of devices stand in
+//! no message; `nevers` which `never` items keep apart what parts anyway, and `address_bytes` which data bytes are written where
+//! others have an address.
 #![tactic(auto)]
 
 mod address_bytes;
+mod groups;
 mod headers;
 mod nevers;
 
 use address_bytes::push_address_bytes;
 use brief_tokens::begin;
+use groups::push_groups;
 use headers::push_headers;
 use lexer::Letters;
 use message_tree::{Address, Bit};
@@ -32,6 +35,11 @@ pub enum Oddity<'a> {
     ReservedAddress(&'a Device),
     /// No message and no interrupt names the device.
     UnusedDevice(&'a Device),
+    /// No message names the group of devices.
+    UnusedGroup {
+        name: &'a str,
+        at: Placed,
+    },
     /// No message names the data byte.
     UnusedByte(&'a NamedByte),
     /// No controller lists these messages: so many, from this one of the plan on. Several are of one family.
@@ -91,6 +99,7 @@ impl Oddity<'_> {
             Oddity::SameAddress(..) => "same address",
             Oddity::ReservedAddress(_) => "reserved address",
             Oddity::UnusedDevice(_) => "unused device",
+            Oddity::UnusedGroup { .. } => "unused group",
             Oddity::UnusedByte(_) => "unused byte",
             Oddity::Unsent { .. } => "unsent message",
             Oddity::Idle { .. } => "idle controller",
@@ -111,13 +120,15 @@ impl Oddity<'_> {
             Oddity::Unsent { spot, .. }
             | Oddity::Idle { spot, .. }
             | Oddity::BareHeader { spot, .. } => spot,
-            Oddity::AddressByte { at, .. } | Oddity::IdleNever { at, .. } => at.spot(),
+            Oddity::UnusedGroup { at, .. }
+            | Oddity::AddressByte { at, .. }
+            | Oddity::IdleNever { at, .. } => at.spot(),
         }
     }
 }
 
 /// What is likely a mistake in the briefs of these texts, where briefs mean this plan: first of the texts, whose items are these,
-/// then of devices, bytes, messages, data bytes in these, controllers, and `never` items, each in the order of the briefs.
+/// then of devices, groups of these, bytes, messages, data bytes in these, controllers, and `never` items, each in the order of the briefs.
 ///
 /// # Errors
 ///
@@ -135,6 +146,7 @@ pub fn oddities<'a>(
     };
     push_texts(&mut found, texts, spans)?;
     push_devices(&mut found, origins.devices.as_slice())?;
+    push_groups(alloc, &mut found, texts, spans)?;
     push_bytes(&mut found, origins.bytes.as_slice())?;
     push_messages(&mut found, plan, origins)?;
     push_headers(&mut found, plan, origins)?;

@@ -38,6 +38,7 @@ fn add_names(lines: &mut ObjectLines, words: PlanWords<'_>, oddity: Oddity<'_>) 
         Oddity::ReservedAddress(device)
         | Oddity::UnusedDevice(device)
         | Oddity::AddressByte { device, .. } => lines.word_element(device.name.as_str()),
+        Oddity::UnusedGroup { name, .. } => lines.word_element(name),
         Oddity::UnusedByte(byte) => lines.word_element(byte.name.as_str()),
         Oddity::Unsent { first, count, .. } => add_messages(lines, words.plan(), first, count),
         Oddity::Idle { controller, .. } => add_side(lines, words, controller),

@@ -132,6 +132,8 @@ impl Spans {
             ItemKind::Never => self.add_side(word, at),
             ItemKind::Extends if words == 0 => self.add(word, at, Kind::Controller, Role::Used),
             ItemKind::Extends => self.add(word, at, Kind::Message, Role::Used),
+            ItemKind::Groups if words == 0 => self.add(word, at, Kind::Device, Role::Given),
+            ItemKind::Groups => self.add(word, at, Kind::Device, Role::Used),
             ItemKind::Gives(given) if words == 0 => self.add(word, at, given, Role::Given),
             ItemKind::Gives(given) => {
                 if words == 1 {

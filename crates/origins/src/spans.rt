@@ -36,6 +36,8 @@ pub enum ItemKind {
     Gives(Kind),
     /// It adds to a controller that has its name from another one.
     Extends,
+    /// It gives a name to a group of devices, which stands wherever a device does.
+    Groups,
     /// It names two sides.
     Never,
 }

@@ -1,6 +1,6 @@
 // Names in texts: which they are, where they are given, and what they stand for.
 
-use crate::spans::{Item, Kind, NameAt, Spans};
+use crate::spans::{Item, ItemKind, Kind, NameAt, Role, Spans};
 use std::alloc::{AllocError, Global};
 
 /// Texts, and the names in them.
@@ -88,14 +88,61 @@ impl<'a> NamedTexts<'a> {
         None
     }
 
-    // Where the family gets its name that makes the message of this one.
+    // Where the family gets its name that makes the message of this one, or a family of it for a device.
     fn family(&self, name: &[u8]) -> Option<NameAt> {
+        let mut message: Option<NameAt> = None;
         for at in self.names() {
-            if at.gives(Kind::Message) && has_member(self.word(*at), self.range(*at), name) {
-                return Some(*at);
+            if at.gives(Kind::Message) {
+                if has_member(self.word(*at), self.range(*at), name) {
+                    return Some(*at);
+                }
+                message = Some(*at);
+            } else if let Some(given) = message
+                && self.makes_by(given, *at, name)
+            {
+                return Some(given);
             }
         }
         None
+    }
+
+    // Whether a message has the name of a group there, and makes one of this name by that.
+    fn makes_by(&self, message: NameAt, used: NameAt, name: &[u8]) -> bool {
+        if used.item != message.item || used.kind != Kind::Device {
+            return false;
+        }
+        match (after(self.word(message), name), self.group(self.word(used))) {
+            (Some(rest), Some(group)) => self.has_device(group, self.range(message), rest),
+            _ => false,
+        }
+    }
+
+    /// Where a group gets this name.
+    pub fn group(&self, name: &[u8]) -> Option<NameAt> {
+        let at = self.given(Kind::Device, name)?;
+        self.is_group(at).then_some(at)
+    }
+
+    /// Whether a name is given to a group there.
+    pub fn is_group(&self, at: NameAt) -> bool {
+        match self.spans.item(at) {
+            Some(item) => item.kind == ItemKind::Groups && at.role == Role::Given,
+            None => false,
+        }
+    }
+
+    // Whether this is the name of a device of the group, or that and a number of the range.
+    fn has_device(&self, group: NameAt, range: &[u8], name: &[u8]) -> bool {
+        for at in self.names() {
+            let device = self.word(*at);
+            if at.item == group.item
+                && at.role == Role::Used
+                && (device == name || has_member(device, range, name))
+            {
+                return true;
+            }
+        }
+        false
     }
 
     /// The range of the message in whose item a name stands. Without one it is no family.
@@ -136,9 +183,14 @@ fn range_of(word: &[u8]) -> Option<(u8, u8)> {
     Some((least.parse::<u8>().ok()?, greatest.parse::<u8>().ok()?))
 }
 
+// What stands in a name after this one and `_`.
+fn after<'n>(front: &[u8], name: &'n [u8]) -> Option<&'n [u8]> {
+    name.strip_prefix(front)?.strip_prefix(b"_")
+}
+
 // The number that stands after the name of a family and `_`, without leading zeros.
 fn number_after(family: &[u8], name: &[u8]) -> Option<u8> {
-    let digits = name.strip_prefix(family)?.strip_prefix(b"_")?;
+    let digits = after(family, name)?;
     if !digits.iter().all(u8::is_ascii_digit)
         || digits.len() != 1 && digits.first() == Some(&b'0')
     {

@@ -52,6 +52,8 @@ pub enum Expected {
     Target,
     /// The same with no open bits.
     KnownTarget,
+    /// The name of a device of a brief, or `;` where a group has one by then.
+    Device { ends: bool },
     /// An address of a brief.
     BriefAddress,
     /// A data byte of a brief.

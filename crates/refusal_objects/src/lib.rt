@@ -154,6 +154,7 @@ fn text_word(expected: InText) -> &'static str {
         InText::Count { .. } => "count",
         InText::Target => "target",
         InText::KnownTarget => "known target",
+        InText::Device { .. } => "device",
         InText::BriefByte => "byte",
         InText::Times { .. } => "times",
         InText::Bracket { .. } => "bracket",

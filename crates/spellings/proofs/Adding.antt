@@ -42,27 +42,16 @@ pub bits_after : (front old b : List ℕ) (bits : List Bit) (n : ℕ) → length
 bits_after front old b bits n long written =
     written ∙ ap (λ l. (old ++ (32 ∷ front)) ++ map bit_symbol l) (take_all n bits long) ∙ append_assoc old (32 ∷ front) (map bit_symbol bits) ∙ ap (λ l. old ++ l) (sym (append-nil (32 ∷ (front ++ map bit_symbol bits))))
 
--- a word, what follows an ACK, 'else' and what follows a NACK
-pub adds_node : {X E : Type 0} (r : Result X E) (t0 t1 t2 t3 t4 : List ℕ) (word else_word : List ℕ) (acked refused : List (List ℕ))
-    → Adds t0 t1 (word ∷ []) → Adds t1 t2 acked → Adds t2 t3 (else_word ∷ []) → OnOk r (Adds t3 t4 refused) → OnOk r (Adds t0 t4 (word ∷ (acked ++ (else_word ∷ refused))))
-adds_node r t0 t1 t2 t3 t4 word else_word acked refused e1 e2 e3 e4 =
-    then_adds r t0 t1 t4 (word ∷ []) (acked ++ (else_word ∷ refused)) e1
-    (then_adds r t1 t2 t4 acked (else_word ∷ refused) e2
-    (then_adds r t2 t3 t4 (else_word ∷ []) refused e3 e4))
+-- words, and then these and those
+pub adds_three : {X E : Type 0} (r : Result X E) (t0 t1 t2 t3 : List ℕ) (word : List ℕ) (xs ys : List (List ℕ)) → Adds t0 t1 (word ∷ []) → Adds t1 t2 xs → OnOk r (Adds t2 t3 ys) → OnOk r (Adds t0 t3 (word ∷ (xs ++ ys)))
+adds_three r t0 t1 t2 t3 word xs ys e1 e2 e3 = then_adds r t0 t1 t3 (word ∷ []) (xs ++ ys) e1 (then_adds r t1 t2 t3 xs ys e2 e3)
 
--- the same after one more word
-pub adds_write : {X E : Type 0} (r : Result X E) (t0 t1 t2 t3 t4 t5 : List ℕ) (kind address else_word : List ℕ) (acked refused : List (List ℕ))
-    → Adds t0 t1 (kind ∷ []) → Adds t1 t2 (address ∷ []) → Adds t2 t3 acked → Adds t3 t4 (else_word ∷ []) → OnOk r (Adds t4 t5 refused)
-    → OnOk r (Adds t0 t5 (kind ∷ (address ∷ (acked ++ (else_word ∷ refused)))))
-adds_write r t0 t1 t2 t3 t4 t5 kind address else_word acked refused e1 e2 e3 e4 e5 =
-    then_adds r t0 t1 t5 (kind ∷ []) (address ∷ (acked ++ (else_word ∷ refused))) e1 (adds_node r t1 t2 t3 t4 t5 address else_word acked refused e2 e3 e4 e5)
+pub adds_four : {X E : Type 0} (r : Result X E) (t0 t1 t2 t3 t4 : List ℕ) (kind word : List ℕ) (xs ys : List (List ℕ)) → Adds t0 t1 (kind ∷ []) → Adds t1 t2 (word ∷ []) → Adds t2 t3 xs → OnOk r (Adds t3 t4 ys) → OnOk r (Adds t0 t4 (kind ∷ (word ∷ (xs ++ ys))))
+adds_four r t0 t1 t2 t3 t4 kind word xs ys e1 e2 e3 e4 = then_adds r t0 t1 t4 (kind ∷ []) (word ∷ (xs ++ ys)) e1 (adds_three r t1 t2 t3 t4 word xs ys e2 e3 e4)
 
--- the same after two more words
-pub adds_read : {X E : Type 0} (r : Result X E) (t0 t1 t2 t3 t4 t5 t6 : List ℕ) (kind address count else_word : List ℕ) (after refused : List (List ℕ))
-    → Adds t0 t1 (kind ∷ []) → Adds t1 t2 (address ∷ []) → Adds t2 t3 (count ∷ []) → Adds t3 t4 after → Adds t4 t5 (else_word ∷ []) → OnOk r (Adds t5 t6 refused)
-    → OnOk r (Adds t0 t6 (kind ∷ (address ∷ (count ∷ (after ++ (else_word ∷ refused))))))
-adds_read r t0 t1 t2 t3 t4 t5 t6 kind address count else_word after refused e1 e2 e3 e4 e5 e6 =
-    then_adds r t0 t1 t6 (kind ∷ []) (address ∷ (count ∷ (after ++ (else_word ∷ refused)))) e1 (adds_write r t1 t2 t3 t4 t5 t6 address count else_word after refused e2 e3 e4 e5 e6)
+pub adds_five : {X E : Type 0} (r : Result X E) (t0 t1 t2 t3 t4 t5 : List ℕ) (kind word count : List ℕ) (xs ys : List (List ℕ)) → Adds t0 t1 (kind ∷ []) → Adds t1 t2 (word ∷ []) → Adds t2 t3 (count ∷ []) → Adds t3 t4 xs → OnOk r (Adds t4 t5 ys)
+    → OnOk r (Adds t0 t5 (kind ∷ (word ∷ (count ∷ (xs ++ ys)))))
+adds_five r t0 t1 t2 t3 t4 t5 kind word count xs ys e1 e2 e3 e4 e5 = then_adds r t0 t1 t5 (kind ∷ []) (word ∷ (count ∷ (xs ++ ys))) e1 (adds_four r t1 t2 t3 t4 t5 word count xs ys e2 e3 e4 e5)
 
 -- the entry of this name and this value
 pub entry_at : {X : Type 0} (entries : List (List ℕ × X)) (k : ℕ) (name : List ℕ) (x : X) → slice_get (keys_of entries) k ≡ Some name → slice_get (values_of entries) k ≡ Some x → slice_get entries k ≡ Some (name, x)

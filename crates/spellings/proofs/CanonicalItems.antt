@@ -4,7 +4,8 @@ use Rattle.std.specs.Prelude.{All, AllPairs, nat_lt, nat_le, if◌then◌else◌
 use Rattle.std.specs.List.{list_any, cons_option, position_or_len}
 use Rattle.std.specs.Map.{keys_of}
 use Rattle.std.specs.Str.{bytes_eq}
-use Rattle.std.proofs.lemmas.Bool.{false_from_ne_true, or_from, lt-leb, lt-ltb, le-ltb}
+use Rattle.std.proofs.lemmas.Bool.{false_from_ne_true, lt-leb, lt-ltb, le-ltb}
+use Rattle.std.proofs.lemmas.List.Folds.{list_any_none}
 use Rattle.std.proofs.lemmas.List.{get_or_at, get_or_append_left, length-map, map-append}
 use Rattle.std.proofs.lemmas.Bool.Decides.{nat_tests}
 use Rattle.std.proofs.lemmas.List.Elements.{All-head, All-tail, All-map}
@@ -45,12 +46,8 @@ module _ {X : Type 0} (before : List X) (x : X) (after whole : List X) (split : 
       let there : get_or whole k d ≡ get_or before k d = ap (λ l. get_or l k d) (sym split) ∙ get_or_append_left before (x ∷ after) d k h in
       subst P there (all k d (omega (arith, within)))
 
-none_passes : {X : Type 0} (test : X → Bool) (xs : List X) → All (λ x. test x ≡ false) xs → list_any test xs ≡ false
-none_passes test [] none = refl
-none_passes test (x ∷ xs) none = or_from _ _ (All-head (λ x. test x ≡ false) x xs none) (none_passes test xs (All-tail (λ x. test x ≡ false) x xs none))
-
 -- a pair is named by the same pairs as it names
-turned : (m n : ℕ × ℕ) → names_both m.0 m.1 n ≡ false → names_both n.0 n.1 m ≡ false
+pub turned : (m n : ℕ × ℕ) → names_both m.0 m.1 n ≡ false → names_both n.0 n.1 m ≡ false
 turned m n h = grind (arith, nat_tests)
 
 -- ---- names and numbers
@@ -67,7 +64,7 @@ position_found test names k h before here =
     let e : position_or_len test names ≡ k = position_or_len_is test names k [] (omega arith) before (λ h. here) in
     ap (λ m. cond (nat_lt m n) (Some m) None) e ∙ ap (λ t. cond t (Some k) None) (lt-ltb k n h)
 
-not_equal : (x y : List ℕ) → x ≢ y → bytes_eq x y ≡ false
+pub not_equal : (x y : List ℕ) → x ≢ y → bytes_eq x y ≡ false
 not_equal x y differ = false_from_ne_true (bytes_eq x y) (λ e. differ (same-bytes_eq x y e))
 
 module _ {X : Type 0} where
@@ -96,7 +93,7 @@ module _ {X : Type 0} where
   name_at-is entries k are h = are.formed k [] (omega (arith, length-map entries (λ e. e.0)))
 
   -- two numbers have two names
-  names_differ : (entries : List (List ℕ × X)) (j k : ℕ) → AreNames (keys_of entries) → j < length entries → k < length entries → j ≢ k → name_at entries j ≢ name_at entries k
+  pub names_differ : (entries : List (List ℕ × X)) (j k : ℕ) → AreNames (keys_of entries) → j < length entries → k < length entries → j ≢ k → name_at entries j ≢ name_at entries k
   names_differ entries j k are within_j within_k differ e =
       let one : Some j ≡ Some k = sym (number_at entries j are within_j) ∙ ap (λ name. number_of name entries) e ∙ number_at entries k are within_k in
       let same : j ≡ k = cc in
@@ -171,7 +168,7 @@ module _ (plan : Contents) (limits : IsWithinLimits plan) where
         let before_known = All-before done k ks x.1 e (λ n. n < length plan.messages) known in
         let others = AllPairs-here done k ks x.1 e ◌≢◌ (All-here before x after plan.controllers split (λ c. AllPairs ◌≢◌ c.1) limits.controllers.once) in
         let new : list_any (λ other. bytes_eq other name) names ≡ false =
-        none_passes (λ other. bytes_eq other name) names (All-map (λ other. bytes_eq other name ≡ false) (name_at plan.messages) done
+        list_any_none (λ other. bytes_eq other name) names (All-map (λ other. bytes_eq other name ≡ false) (name_at plan.messages) done
         (λ j d h. not_equal (name_at plan.messages (get_or done j d)) name (names_differ plan.messages (get_or done j d) k limits.messages.names (before_known j d h) is_known (others j d h)))) in
         let sends : sending_count plan.controllers ≡ sending_count before + (length x.1 + sending_count after) = sym (ap sending_count split) ∙ sum_by-append (λ c. length c.1) before (x ∷ after) ∙ ap (λ n. sending_count before + n) (sum_by-cons (λ c. length c.1) x after) in
         let few : nat_le 512 (sending_count before + length names) ≡ false =
@@ -221,7 +218,7 @@ module _ (plan : Contents) (limits : IsWithinLimits plan) where
         let two = All-here before x after plan.nevers split (λ n. n.0 ≢ n.1) limits.nevers.two in
         let differ = not_equal (name_at plan.controllers x.0) (name_at plan.controllers x.1) (names_differ plan.controllers x.0 x.1 limits.controllers.names both_known.0 both_known.1 two) in
         let others = AllPairs-here before x after plan.nevers split (λ m n. names_both m.0 m.1 n ≡ false) limits.nevers.once in
-        let new : is_never (up_to_nevers plan before) x.0 x.1 ≡ false = none_passes (names_both x.0 x.1) before (λ j d h. turned (get_or before j d) x (others j d h)) in
+        let new : is_never (up_to_nevers plan before) x.0 x.1 ≡ false = list_any_none (names_both x.0 x.1) before (λ j d h. turned (get_or before j d) x (others j d h)) in
         rw (first_number, differ, second_number, new) refl
 
     pub never_adds : up_to_nevers plan (before ++ (x ∷ [])) ≡ with_never (up_to_nevers plan before) (name_at plan.controllers x.0) (name_at plan.controllers x.1)

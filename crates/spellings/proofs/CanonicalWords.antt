@@ -10,7 +10,6 @@ use Rattle.std.proofs.lemmas.Bool.Decides.{nat_tests}
 use Rattle.std.proofs.lemmas.Fmt.{decimal_is_IsNumeral}
 use Rattle.std.proofs.lemmas.Str.Parse.{digit_from_value}
 use Rattle.lexer.specs.declared.lexemes.Letters.{Letters}
-use Rattle.lexer.specs.declared.lexemes.Letters.TheVariants.{Dots}
 use Rattle.lexer.specs.Lexemes.{is_word_part}
 use Rattle.message_tree.specs.declared.counts.Count.{Count}
 use Rattle.message_tree.specs.Counts.{least_of, greatest_of}
@@ -34,7 +33,7 @@ unfolding is_name
 name_is_word ls [] is = is
 name_is_word ls (byte ∷ bytes) is = parts_of_names ls (byte ∷ bytes) (and_parts _ _ (and_parts _ _ (and_parts _ _ is).0).0).1
 
-none_at : {X : Type 0} (test : X → Bool) (xs : List X) → list_any test xs ≡ false → (k : ℕ) (d : X) → k < length xs → test (get_or xs k d) ≡ false
+pub none_at : {X : Type 0} (test : X → Bool) (xs : List X) → list_any test xs ≡ false → (k : ℕ) (d : X) → k < length xs → test (get_or xs k d) ≡ false
 none_at test [] none k d within = absurd (omega arith)
 none_at test (x ∷ xs) none zero d within = (or_parts (test x) (list_any test xs) none).0
 none_at test (x ∷ xs) none (suc k) d within = none_at test xs (or_parts (test x) (list_any test xs) none).1 k d (omega arith)
@@ -44,21 +43,11 @@ unfolding is_name token_of_word
 name_token name is =
     let none : is_reserved name ≡ false = not-true (is_reserved name) (and_parts _ (not (is_reserved name)) is).1 in
     let other = none_at (bytes_eq name) reserved_words none in
-    let plan : bytes_eq name (codes "plan") ≡ false = other 0 [] (lit< tt) in
-    let message : bytes_eq name (codes "message") ≡ false = other 1 [] (lit< tt) in
-    let controller : bytes_eq name (codes "controller") ≡ false = other 2 [] (lit< tt) in
-    let interrupt : bytes_eq name (codes "interrupt") ≡ false = other 3 [] (lit< tt) in
-    let write : bytes_eq name (codes "write") ≡ false = other 4 [] (lit< tt) in
-    let read : bytes_eq name (codes "read") ≡ false = other 5 [] (lit< tt) in
-    let again : bytes_eq name (codes "again") ≡ false = other 6 [] (lit< tt) in
-    let else_word : bytes_eq name (codes "else") ≡ false = other 7 [] (lit< tt) in
-    let stop : bytes_eq name (codes "stop") ≡ false = other 8 [] (lit< tt) in
-    let never : bytes_eq name (codes "never") ≡ false = other 9 [] (lit< tt) in
-    rw (plan, message, controller, interrupt, never, write, read, again, else_word, stop) refl
+    rw (other 0 [] (lit< tt), other 1 [] (lit< tt), other 2 [] (lit< tt), other 3 [] (lit< tt), other 9 [] (lit< tt), other 4 [] (lit< tt), other 5 [] (lit< tt), other 6 [] (lit< tt), other 7 [] (lit< tt), other 8 [] (lit< tt)) refl
 
 -- ---- counts
 
-digit_is : (byte : ℕ) → is_ascii_digit byte ≡ true → (48 ≤ byte) × (byte ≤ 57)
+pub digit_is : (byte : ℕ) → is_ascii_digit byte ≡ true → (48 ≤ byte) × (byte ≤ 57)
 digit_is byte h = (grind (arith, nat_tests), grind (arith, nat_tests))
 
 digit_is_part : (ls : Letters) (byte : ℕ) → is_ascii_digit byte ≡ true → is_word_part ls byte ≡ true
@@ -77,11 +66,25 @@ digits_are_word : (ls : Letters) (digits rest : List ℕ) → is_digits digits �
 digits_are_word ls [] rest all more = absurd (true≢false (sym all))
 digits_are_word ls (byte ∷ digits) rest all more = digits_are_parts ls (byte ∷ digits) rest all more
 
-digits_token : (digits rest : List ℕ) → is_digits digits ≡ true → token_of_word (digits ++ rest) ≡ word (digits ++ rest)
-digits_token [] rest all = absurd (true≢false (sym all))
-digits_token (byte ∷ digits) rest all =
-    let digit = digit_is byte (and_parts _ _ all).0 in
-    no_keyword byte (digits ++ rest) (λ h. omega (arith, digit.1))
+pub digits_word : (ls : Letters) (digits : List ℕ) → is_digits digits ≡ true → is_word ls digits ≡ true
+digits_word ls digits all = subst (λ l. is_word ls l ≡ true) (append-nil digits) (digits_are_word ls digits [] all refl)
+
+abbrev pub begins_with_digit : List ℕ → Bool
+begins_with_digit [] = false
+begins_with_digit (byte ∷ bytes) = is_ascii_digit byte
+
+pub first_digit : (digits : List ℕ) → is_digits digits ≡ true → begins_with_digit digits ≡ true
+first_digit [] all = all
+first_digit (byte ∷ digits) all = (and_parts _ _ all).0
+
+digits_begin : (digits rest : List ℕ) → is_digits digits ≡ true → begins_with_digit (digits ++ rest) ≡ true
+digits_begin [] rest all = absurd (true≢false (sym all))
+digits_begin (byte ∷ digits) rest all = (and_parts _ _ all).0
+
+-- such a word is no keyword
+pub digit_token : (w : List ℕ) → begins_with_digit w ≡ true → token_of_word w ≡ word w
+digit_token [] digit = absurd (true≢false (sym digit))
+digit_token (byte ∷ bytes) digit = let small = digit_is byte digit in no_keyword byte bytes (λ h. omega (arith, small.1))
 
 numerals : (digits : List ℕ) → AllDigits 10 digits → list_all is_ascii_digit digits ≡ true
 numerals [] all = refl
@@ -122,21 +125,23 @@ list_of_digits : (digits : List ℕ) → is_digits digits ≡ true → list_all 
 list_of_digits [] is = refl
 list_of_digits (x ∷ digits) is = is
 
--- a count's word, where two different ends need dots
+-- dots are parts of words, as two different ends of a count need it
+abbrev pub HasDots : Letters → Type 0
+HasDots ls = is_word_part ls 46 ≡ true
+
 pub record IsCountWord (ls : Letters) (bytes : List ℕ) (count : Count) : Type 0 where
   pub is_word : is_word ls bytes ≡ true
-  pub token : token_of_word bytes ≡ word bytes
+  pub digit : begins_with_digit bytes ≡ true
   pub writes : WritesCount bytes count
 
-count_of : (ls : Letters) (c : Count) (same : Bool) → (least_of c == greatest_of c) ≡ same → (nat_lt (least_of c) (greatest_of c) ≡ true → ls ≡ Dots)
+count_of : (ls : Letters) (c : Count) (same : Bool) → (least_of c == greatest_of c) ≡ same → (nat_lt (least_of c) (greatest_of c) ≡ true → HasDots ls)
     → IsCountWord ls (if same then decimal (least_of c) else (decimal (least_of c) ++ (codes ".." ++ decimal (greatest_of c)))) c
 count_of ls c true one needs =
     let least = decimal_digits (least_of c) (omega (arith, c.ordered, c.is_byte)) in
     let w = decimal (least_of c) in
-    let whole : w ++ [] ≡ w = append-nil w in
     record {
-      is_word = subst (λ l. is_word ls l ≡ true) whole (digits_are_word ls w [] least.0 refl);
-      token = subst (λ l. token_of_word l ≡ word l) whole (digits_token w [] least.0);
+      is_word = digits_word ls w least.0;
+      digit = first_digit w least.0;
       writes = record { ends = (w, w); form = ends_whole w least.0; least = least.1; greatest = least.1 ∙ eqb-true (least_of c) (greatest_of c) one };
     }
 count_of ls c false two needs =
@@ -145,14 +150,13 @@ count_of ls c false two needs =
     let l = decimal (least_of c) in
     let g = decimal (greatest_of c) in
     let differ : least_of c ≡ greatest_of c → ⊥ = eqb-false (least_of c) (greatest_of c) two in
-    let dotted : ls ≡ Dots = needs (lt-ltb (least_of c) (greatest_of c) (omega (arith, c.ordered, differ))) in
-    let g_parts : (b : Letters) → list_all (is_word_part b) g ≡ true = λ b. subst (λ x. list_all (is_word_part b) x ≡ true) (append-nil g) (digits_are_parts b g [] (list_of_digits g greatest.0) refl) in
-    let tail_parts : list_all (is_word_part ls) (46 ∷ (46 ∷ g)) ≡ true = subst (λ b. list_all (is_word_part b) (46 ∷ (46 ∷ g)) ≡ true) (sym dotted) (g_parts Dots) in
+    let dotted = needs (lt-ltb (least_of c) (greatest_of c) (omega (arith, c.ordered, differ))) in
+    let g_parts = subst (λ x. list_all (is_word_part ls) x ≡ true) (append-nil g) (digits_are_parts ls g [] (list_of_digits g greatest.0) refl) in
     record {
-      is_word = digits_are_word ls l (46 ∷ (46 ∷ g)) least.0 tail_parts;
-      token = digits_token l (46 ∷ (46 ∷ g)) least.0;
+      is_word = digits_are_word ls l (46 ∷ (46 ∷ g)) least.0 (and_from _ _ dotted (and_from _ _ dotted g_parts));
+      digit = digits_begin l (46 ∷ (46 ∷ g)) least.0;
       writes = record { ends = (l, g); form = ends_apart (l ++ (46 ∷ (46 ∷ g))) l g (range_no_digits l (46 ∷ g)) (around_two l g (list_of_digits l least.0)) least.0 greatest.0; least = least.1; greatest = greatest.1 };
     }
 
-pub count_is_word : (ls : Letters) (c : Count) → (nat_lt (least_of c) (greatest_of c) ≡ true → ls ≡ Dots) → IsCountWord ls (count_word c) c
+pub count_is_word : (ls : Letters) (c : Count) → (nat_lt (least_of c) (greatest_of c) ≡ true → HasDots ls) → IsCountWord ls (count_word c) c
 count_is_word ls c needs = count_of ls c (least_of c == greatest_of c) refl needs

@@ -1,4 +1,5 @@
 pub mod Adding
+pub mod Saying
 pub mod CanonicalWords
 pub mod CanonicalPhrases
 pub mod CanonicalItems

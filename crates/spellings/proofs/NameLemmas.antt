@@ -1,9 +1,10 @@
 -- The first of some names that is a word of briefs, name by name.
-use Rattle.std.proofs.Common.{◌≡◌, ℕ, ◌+◌, Bool, true, false, ◌||◌, List, [], ◌∷◌, ◌++◌, drop, Option, Some, None, slice_get, ap, refl, sym, ◌∙◌, cond}
+use Rattle.std.proofs.Common.{◌≡◌, ℕ, ◌+◌, Bool, true, false, ◌||◌, List, [], ◌∷◌, ◌++◌, length, drop, Option, Some, None, slice_get, ap, refl, sym, ◌∙◌, cond}
 use Rattle.std.specs.List.{list_any, find}
 use Rattle.std.specs.Option.{option_map, option_or, is_some}
-use Rattle.std.proofs.lemmas.List.{drop_more}
-use Rattle.std.proofs.lemmas.List.Folds.{find-append}
+use Rattle.std.specs.Map.{keys_of}
+use Rattle.std.proofs.lemmas.List.{drop_more, length-map}
+use Rattle.std.proofs.lemmas.List.Folds.{find-append, list_any-append}
 use Rattle.std.proofs.lemmas.Option.{slice_get_within, get_or_from_slice_get}
 
 find_from : (f : List ℕ → Bool) (names : List (List ℕ)) (k : ℕ) (name : List ℕ) → slice_get names k ≡ Some name →
@@ -25,6 +26,14 @@ pub passed_at : (f : List ℕ → Bool) (names : List (List ℕ)) (k : ℕ) (nam
     f name ≡ false → find f (drop k names) ≡ find f names → find f (drop (k + 1) names) ≡ find f names
 passed_at f names k name at is before =
     sym (find_from f names k name at ∙ ap (λ (b : Bool). cond b (Some name) (find f (drop (k + 1) names))) is) ∙ before
+
+-- each entry has one
+pub all_named : {X : Type 0} (entries : List (List ℕ × X)) → length (keys_of entries) ≡ length entries
+all_named entries = length-map entries (λ e. e.0)
+
+or_apart : (a b c : Bool) → (a || (b || c)) ≡ ((a || b) || c)
+or_apart true b c = refl
+or_apart false b c = refl
 
 -- names of three kinds, where the first of each kind is known, as something that has a name
 module _ {N : Type 0} (name : N → List ℕ) (f : List ℕ → Bool) where
@@ -55,19 +64,12 @@ module _ {N : Type 0} (name : N → List ℕ) (f : List ℕ → Bool) where
       by true rest = refl
       by false rest = rest
 
-  is_mapped : (a : Option N) (xs : List (List ℕ)) → option_map name a ≡ find f xs → is_some a ≡ list_any f xs
-  is_mapped None xs same = ap is_some same ∙ finds_any xs
-  is_mapped (Some x) xs same = ap is_some same ∙ finds_any xs
+  is_mapped : (a : Option N) → is_some (option_map name a) ≡ is_some a
+  is_mapped None = refl
+  is_mapped (Some x) = refl
 
-  some_or : (a b : Option N) → is_some (option_or a b) ≡ (is_some a || is_some b)
-  some_or None b = refl
-  some_or (Some x) b = refl
-
-  pub some_of_three : (a b c : Option N) (xs ys zs : List (List ℕ)) → option_map name a ≡ find f xs →
-      option_map name b ≡ find f ys → option_map name c ≡ find f zs →
-      is_some (option_or (option_or a b) c) ≡ ((list_any f xs || list_any f ys) || list_any f zs)
-  some_of_three a b c xs ys zs one two three =
-      some_or (option_or a b) c ∙ (ap (λ t. t || is_some c) (some_or a b)
-      ∙ (ap (λ t. (t || is_some b) || is_some c) (is_mapped a xs one)
-      ∙ (ap (λ t. (list_any f xs || t) || is_some c) (is_mapped b ys two)
-      ∙ ap (λ t. (list_any f xs || list_any f ys) || t) (is_mapped c zs three))))
+  pub some_of_three : (a : Option N) (xs ys zs : List (List ℕ)) → option_map name a ≡ find f (xs ++ (ys ++ zs)) →
+      is_some a ≡ ((list_any f xs || list_any f ys) || list_any f zs)
+  some_of_three a xs ys zs same =
+      sym (is_mapped a) ∙ ap is_some same ∙ finds_any (xs ++ (ys ++ zs)) ∙ list_any-append f xs (ys ++ zs)
+      ∙ ap (λ t. list_any f xs || t) (list_any-append f ys zs) ∙ or_apart (list_any f xs) (list_any f ys) (list_any f zs)

@@ -1,5 +1,5 @@
 -- A brief that is written for a plan spells its items, and means it.
-use Rattle.std.proofs.Common.{◌≡◌, ℕ, zero, suc, ◌+◌, ◌<◌, Bool, true, false, cond, List, [], ◌∷◌, ◌++◌, length, get_or, map, take, drop, Some, None, refl, ap, sym, ◌∙◌, subst, arith, codes, append-nil, append_assoc, inr, one-add}
+use Rattle.std.proofs.Common.{◌≡◌, ℕ, zero, suc, ◌+◌, ◌<◌, Bool, true, false, cond, List, [], ◌∷◌, ◌++◌, length, get_or, map, take, drop, Some, None, refl, ap, sym, ◌∙◌, subst, arith, codes, append-nil, append_assoc, one-add}
 use Rattle.std.specs.Prelude.{All, ◌||◌, if◌then◌else◌}
 use Rattle.std.specs.List.{flat_map, list_any, list_all, prefix_len}
 use Rattle.std.specs.Map.{keys_of}
@@ -12,68 +12,34 @@ use Rattle.plan_core.specs.Contents.{Contents}
 use Rattle.plan_core.specs.Labels.{name_at}
 use Rattle.plan_core.specs.Limits.{IsWithinLimits}
 use Rattle.plan_core.specs.Names.{IsName, is_name, is_name_byte}
-use Rattle.spellings.specs.Canonical.{spaced, item_line, controller_line, never_line}
+use Rattle.spellings.specs.Canonical.{controller_line, never_line}
 use Rattle.lexer.specs.Lexemes.{text_end}
 use Rattle.plan_text.specs.Values.{address_by}
 use Rattle.spellings.proofs.CanonicalItems.{All-here, message_named, controller_named, sent_named, interrupt_named, both_named}
 use Rattle.lexer.specs.Lexemes.{lexemes_of}
 use Rattle.lexer.specs.declared.lexemes.Letters.TheVariants.{Brief}
 use Rattle.brief_tokens.specs.Heads.{begun, opened}
-use Rattle.brief_tokens.specs.declared.symbols.Keyword.{Keyword}
-use Rattle.brief_tokens.specs.declared.symbols.Keyword.TheVariants as keywords
-use Rattle.brief_tokens.specs.declared.symbols.Sign.TheVariants as signs
 use Rattle.brief_text.specs.Briefs.{Means}
-use Rattle.brief_text.specs.Grammar.{Phrase, one, ◌▸◌, SpellsAs, SpellsItem, SpellsItems, Spells}
+use Rattle.brief_text.specs.Grammar.{one, SpellsAs, SpellsItem, SpellsItems, Spells}
 use Rattle.brief_tokens.specs.Names.{is_brief_word, has_brief_word}
 use Rattle.spellings.specs.Spelling.{message_line, interrupt_line, brief_spelled}
 use Rattle.brief_text.specs.Splitting.{whole}
-use Rattle.brief_tokens.specs.Tokens.{Token, keyword, word, sign, Tokens, next, tokens_of, token_of_word}
+use Rattle.brief_tokens.specs.Tokens.{tokens_of, token_of_word}
 use Rattle.brief_tokens.specs.Tokens as tokens
 use Rattle.brief_text.specs.Trees.{BriefItem}
 use Rattle.brief_text.specs.Words.{side_by, around_slash, halves_at, is_no_slash}
 use Rattle.spellings.specs.Writing.{message_brief, controller_brief, interrupt_brief, never_brief, brief_items}
-use Rattle.spellings.proofs.Adding.{spaced-append}
 use Rattle.brief_text.proofs.SaidLemmas.{said_meant}
-use Rattle.spellings.proofs.SpelledPhrases.{Said, spaced_apart, said_word, said_name, said_names, said_frame}
-use Rattle.spellings.proofs.SpelledWords.{is_word, word_token, none_at, target_said}
-use Rattle.brief_tokens.proofs.TokenLemmas.{skips_space, skips_line_feed, sign_here, ends_here}
+use Rattle.plan_text.proofs.WholeWords.{is_word}
+use Rattle.spellings.proofs.CanonicalWords.{none_at}
+use Rattle.spellings.proofs.Saying.{Spelled, ended_last, ended_then, item_said}
+use Rattle.spellings.proofs.SpelledPhrases.{Says, end, said_as, said_name, said_names, said_frame}
+use Rattle.spellings.proofs.SpelledWords.{spelled_one, target_said}
+use Rattle.brief_tokens.proofs.TokenLemmas.{ends_here}
 use Rattle.spellings.proofs.WrittenPlans.{plan_said}
 
--- ---- items: a keyword, words, and `;` at the end of a line
-
-end_token : (line : ℕ) (rest : List ℕ) → tokens_of line (codes " ;\n" ++ rest) ≡ next (sign signs.Semicolon) line (tokens_of (line + 1) rest)
-end_token line rest =
-    sym (skips_space line 32 (codes " ;\n" ++ rest) (codes ";\n" ++ rest) refl (inr (inr refl)))
-    ∙ sign_here line 59 (codes ";\n" ++ rest) (codes "\n" ++ rest) refl refl
-    ∙ ap (next (sign signs.Semicolon) line) (sym (skips_line_feed line (codes "\n" ++ rest) rest refl))
-
--- the words of an item with its end
-record Ended (words : List (List ℕ)) (P : Phrase) : Type 0 where
-  says : (line : ℕ) (rest : List ℕ) → P (tokens_of line (spaced words ++ (codes " ;\n" ++ rest))) (tokens_of (line + 1) rest)
-
-ended_last : {xs : List (List ℕ)} {P : Phrase} → Said xs P → Ended xs (P ▸ one (sign signs.Semicolon))
-ended_last {xs} {P} p = record {
-  says = λ line rest.
-      let end : List ℕ = codes " ;\n" ++ rest in
-      (tokens_of line end, p.says line end refl, (line, end_token line rest));
-}
-
-ended_then : {xs ys : List (List ℕ)} {P Q : Phrase} → Said xs P → Ended ys Q → Ended (xs ++ ys) (P ▸ Q)
-ended_then {xs} {ys} {P} {Q} p q = record {
-  says = λ line rest.
-      let end : List ℕ = codes " ;\n" ++ rest in
-      let e : spaced (xs ++ ys) ++ end ≡ spaced xs ++ (spaced ys ++ end) = ap (λ l. l ++ end) (spaced-append xs ys) ∙ append_assoc (spaced xs) (spaced ys) end in
-      let more : List ℕ = spaced ys ++ end in
-      (tokens_of line more, subst (λ l. P (tokens_of line l) (tokens_of line more)) (sym e) (p.says line more (spaced_apart ys end refl)), q.says line rest);
-}
-
-item_said : (first : List ℕ) {words : List (List ℕ)} {P : Phrase} (k : Keyword) → is_word first ≡ true → token_of_word first ≡ keyword k → Ended words P
-    → (line : ℕ) (rest : List ℕ) → (one (keyword k) ▸ P) (tokens_of line (item_line first words ++ rest)) (tokens_of (line + 1) rest)
-item_said first {words} {P} k is e ended line rest =
-    let end : List ℕ = codes " ;\n" ++ rest in
-    let more : List ℕ = spaced words ++ end in
-    let all : item_line first words ++ rest ≡ first ++ more = append_assoc first (spaced words ++ codes " ;\n") rest ∙ ap (λ l. first ++ l) (append_assoc (spaced words) (codes " ;\n") rest) in
-    (tokens_of line more, (line, ap (tokens_of line) all ∙ word_token line first more (keyword k) is e (spaced_apart words end refl)), ended.says line rest)
+pub keyword : (w : List ℕ) → is_word Brief w ≡ true → Spelled tokens_of Brief w (one (token_of_word w))
+keyword w is = spelled_one w (token_of_word w) is refl
 
 -- ---- what a `never` names
 
@@ -100,7 +66,7 @@ side_read : (name : List ℕ) → IsName name → side_by Brief name ≡ Some (w
 unfolding side_by
 side_read name is = rw (no_halves name is, is) refl
 
-said_side : (name : List ℕ) → IsName name → is_brief_word name ≡ false → Said (name ∷ []) (SpellsAs (side_by Brief) (whole name))
+said_side : (name : List ℕ) → IsName name → is_brief_word name ≡ false → Says (name ∷ []) (SpellsAs (side_by Brief) (whole name))
 said_side name is free = record { says = λ line rest apart. (name, ((said_name name is free).says line rest apart).0, side_read name is) }
 
 -- ---- items one by one
@@ -110,21 +76,21 @@ IsFree name = is_brief_word name ≡ false
 
 message_said : (name : List ℕ) (f : FrameTree) → IsName name → IsFree name → (line : ℕ) (rest : List ℕ) → SpellsItem Brief (message_brief (name, f)) (tokens_of line (message_line (name, f) ++ rest)) (tokens_of (line + 1) rest)
 unfolding token_of_word
-message_said name f is free line rest = item_said (codes "message") keywords.Message refl refl (ended_then (said_name name is free) (ended_last (said_frame f))) line rest
+message_said name f is free line rest = item_said (keyword (codes "message") refl) (ended_then (said_name name is free) (ended_last (said_frame f) end)) line rest
 
 controller_said : (plan : Contents) (c : List ℕ × List ℕ) → IsName c.0 → IsFree c.0 → All IsName (map (name_at plan.messages) c.1) → All IsFree (map (name_at plan.messages) c.1)
     → (line : ℕ) (rest : List ℕ) → SpellsItem Brief (controller_brief plan c) (tokens_of line (controller_line plan c ++ rest)) (tokens_of (line + 1) rest)
 unfolding token_of_word
-controller_said plan c is free are all_free line rest = item_said (codes "controller") keywords.Controller refl refl (ended_then (said_name c.0 is free) (ended_last (said_names (map (name_at plan.messages) c.1) are all_free))) line rest
+controller_said plan c is free are all_free line rest = item_said (keyword (codes "controller") refl) (ended_then (said_name c.0 is free) (ended_last (said_names (map (name_at plan.messages) c.1) are all_free) end)) line rest
 
 interrupt_said : (i : List ℕ × ℕ) → IsName i.0 → IsFree i.0 → (line : ℕ) (rest : List ℕ) → SpellsItem Brief (interrupt_brief i) (tokens_of line (interrupt_line i ++ rest)) (tokens_of (line + 1) rest)
 unfolding token_of_word
-interrupt_said i is free line rest = item_said (codes "interrupt") keywords.Interrupt refl refl (ended_then (said_name i.0 is free) (ended_last (said_word (target_said (address_by 127 i.1))))) line rest
+interrupt_said i is free line rest = item_said (keyword (codes "interrupt") refl) (ended_then (said_name i.0 is free) (ended_last (said_as (target_said (address_by 127 i.1))) end)) line rest
 
 never_said : (plan : Contents) (n : ℕ × ℕ) → IsName (name_at plan.controllers n.0) × IsName (name_at plan.controllers n.1) → IsFree (name_at plan.controllers n.0) → IsFree (name_at plan.controllers n.1)
     → (line : ℕ) (rest : List ℕ) → SpellsItem Brief (never_brief plan n) (tokens_of line (never_line plan n ++ rest)) (tokens_of (line + 1) rest)
 unfolding token_of_word
-never_said plan n are one_free other_free line rest = item_said (codes "never") keywords.Never refl refl (ended_then (said_side _ are.0 one_free) (ended_last (said_side _ are.1 other_free))) line rest
+never_said plan n are one_free other_free line rest = item_said (keyword (codes "never") refl) (ended_then (said_side _ are.0 one_free) (ended_last (said_side _ are.1 other_free) end)) line rest
 
 -- ---- items up to the end of a text
 
@@ -134,10 +100,10 @@ UpToEnd items bytes = (line : ℕ) → (last_line : ℕ) × SpellsItems Brief it
 module _ {X : Type 0} (item : X → BriefItem) (line_of : X → List ℕ) (all : List X)
     (said : (before : List X) (x : X) (after : List X) → before ++ (x ∷ after) ≡ all → (line : ℕ) (rest : List ℕ) → SpellsItem Brief (item x) (tokens_of line (line_of x ++ rest)) (tokens_of (line + 1) rest)) where
   spelled_from : (before xs : List X) → before ++ xs ≡ all → (others : List BriefItem) (rest : List ℕ) → UpToEnd others rest → UpToEnd (map item xs ++ others) (flat_map line_of xs ++ rest)
-  spelled_from before [] e others rest end line = end line
-  spelled_from before (x ∷ xs) e others rest end line =
+  spelled_from before [] e others rest ending line = ending line
+  spelled_from before (x ∷ xs) e others rest ending line =
       let after : List ℕ = flat_map line_of xs ++ rest in
-      let more = spelled_from (before ++ (x ∷ [])) xs (append_assoc before (x ∷ []) xs ∙ e) others rest end (line + 1) in
+      let more = spelled_from (before ++ (x ∷ [])) xs (append_assoc before (x ∷ []) xs ∙ e) others rest ending (line + 1) in
       let front = ap (tokens_of line) (append_assoc (line_of x) (flat_map line_of xs) rest) in
       (more.0, (tokens_of (line + 1) after, subst (λ from. SpellsItem Brief (item x) from (tokens_of (line + 1) after)) (sym front) (said before x xs e line after), more.1))
 
@@ -173,11 +139,11 @@ module _ (plan : Contents) (limits : IsWithinLimits plan) (free : has_brief_word
       let c = plan.controllers in
       let t = plan.interrupts in
       let n = plan.nevers in
-      let end : UpToEnd [] [] = λ line. (line, sym (ends_here line [] refl)) in
+      let none_left : UpToEnd [] [] = λ line. (line, sym (ends_here line [] refl)) in
       let lasts = spelled_from (never_brief plan) (never_line plan) n
       (λ before x after e. let known = All-here before x after n e (λ k. (k.0 < length c) × (k.1 < length c)) limits.nevers.known in
       never_said plan x (both_named plan limits before x after e) (free_at c x.0 controllers_free known.0) (free_at c x.1 controllers_free known.1))
-      [] n refl [] [] end in
+      [] n refl [] [] none_left in
       let nevers : UpToEnd (map (never_brief plan) n) (flat_map (never_line plan) n) =
       subst (λ items. UpToEnd items (flat_map (never_line plan) n)) (append-nil (map (never_brief plan) n)) (subst (λ l. UpToEnd (map (never_brief plan) n ++ []) l) (append-nil (flat_map (never_line plan) n)) lasts) in
       spelled_from message_brief message_line m (λ before x after e. message_said x.0 x.1 (message_named plan limits before x after e) (All-here before x after m e (λ y. IsFree y.0) (free_entries m messages_free))) [] m refl _ _

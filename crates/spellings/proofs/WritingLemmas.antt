@@ -1,7 +1,7 @@
 -- What the writer of briefs adds, bit by bit.
-use Rattle.std.proofs.Common.{◌≡◌, ◌≢◌, ℕ, ◌+◌, ◌<◌, ◌≤◌, ◌^◌, Bool, true, false, ◌&&◌, List, [], ◌∷◌, ◌++◌, length, get_or, map, take, drop, Option, Some, inl, inr, refl, ap, sym, ◌∙◌, subst, arith, append_assoc}
+use Rattle.std.proofs.Common.{◌≡◌, ◌≢◌, ℕ, ◌+◌, ◌<◌, ◌≤◌, ◌^◌, Bool, true, false, ◌&&◌, List, [], ◌∷◌, ◌++◌, length, get_or, take, drop, Some, refl, ap, sym, ◌∙◌, subst, arith, append_assoc}
 use Rattle.std.specs.List.{list_all}
-use Rattle.std.specs.Prelude.{◌⊎◌, ◌==◌, None, Result, Ok, Err, OnOk, codes, if◌then◌else◌}
+use Rattle.std.specs.Prelude.{◌==◌, Result, Ok, Err, OnOk, codes, if◌then◌else◌}
 use Rattle.std.proofs.lemmas.Bool.Decides.{nat_tests}
 use Rattle.std.proofs.Math.Pow.{pow_mono}
 use Rattle.std.proofs.lemmas.List.{drop_more}
@@ -11,10 +11,9 @@ use Rattle.message_tree.specs.declared.bits.Address.{Address}
 use Rattle.message_tree.specs.Patterns.{address_bits, pattern_bits}
 use Rattle.message_tree.specs.Bits.{bits_below}
 use Rattle.message_tree.proofs.BitLemmas.{bits_below-masked}
-use Rattle.plan_text.specs.Symbols.{bit_symbol}
 use Rattle.spellings.specs.Canonical.{Adds, spaced, item_line}
 use Rattle.plan_text.specs.Values.{address_by}
-use Rattle.spellings.proofs.Adding.{adds_then, then_adds}
+use Rattle.spellings.proofs.Adding.{adds_then}
 use Rattle.spellings.specs.Spelling.{digit_symbol, data_of, data_word, target_of, target_word}
 
 module _ {X : Type 0} (xs : List X) (k : ℕ) (d x : X) (within : k < length xs) (is : get_or xs k d ≡ x) where
@@ -31,18 +30,6 @@ module _ {X : Type 0} (xs : List X) (k : ℕ) (d x : X) (within : k < length xs)
 -- at most four digits in base 2
 pub four_digits : (n k : ℕ) → n < 2 ^ k → k ≤ 4 → n < 16
 four_digits n k small few = omega (arith, small, pow_mono few)
-
--- ---- words one after the other
-
-pub adds_three : {X E : Type 0} (r : Result X E) (t0 t1 t2 t3 : List ℕ) (word : List ℕ) (xs ys : List (List ℕ)) → Adds t0 t1 (word ∷ []) → Adds t1 t2 xs → OnOk r (Adds t2 t3 ys) → OnOk r (Adds t0 t3 (word ∷ (xs ++ ys)))
-adds_three r t0 t1 t2 t3 word xs ys e1 e2 e3 = then_adds r t0 t1 t3 (word ∷ []) (xs ++ ys) e1 (then_adds r t1 t2 t3 xs ys e2 e3)
-
-pub adds_four : {X E : Type 0} (r : Result X E) (t0 t1 t2 t3 t4 : List ℕ) (kind word : List ℕ) (xs ys : List (List ℕ)) → Adds t0 t1 (kind ∷ []) → Adds t1 t2 (word ∷ []) → Adds t2 t3 xs → OnOk r (Adds t3 t4 ys) → OnOk r (Adds t0 t4 (kind ∷ (word ∷ (xs ++ ys))))
-adds_four r t0 t1 t2 t3 t4 kind word xs ys e1 e2 e3 e4 = then_adds r t0 t1 t4 (kind ∷ []) (word ∷ (xs ++ ys)) e1 (adds_three r t1 t2 t3 t4 word xs ys e2 e3 e4)
-
-pub adds_five : {X E : Type 0} (r : Result X E) (t0 t1 t2 t3 t4 t5 : List ℕ) (kind word count : List ℕ) (xs ys : List (List ℕ)) → Adds t0 t1 (kind ∷ []) → Adds t1 t2 (word ∷ []) → Adds t2 t3 (count ∷ []) → Adds t3 t4 xs → OnOk r (Adds t4 t5 ys)
-    → OnOk r (Adds t0 t5 (kind ∷ (word ∷ (count ∷ (xs ++ ys)))))
-adds_five r t0 t1 t2 t3 t4 t5 kind word count xs ys e1 e2 e3 e4 e5 = then_adds r t0 t1 t5 (kind ∷ []) (word ∷ (count ∷ (xs ++ ys))) e1 (adds_four r t1 t2 t3 t4 t5 word count xs ys e2 e3 e4 e5)
 
 -- ---- addresses and data bytes
 
@@ -75,39 +62,6 @@ module _ (p : Pattern) (bits : List Bit) (is : bits ≡ pattern_bits p) where
 
     pub hex_low : low ≢ 88 → codes "0x" ++ high ∷ low ∷ [] ≡ data_word p
     hex_low differ = sym (by_digits ∙ ap (λ (t : Bool). if t then codes "any" else (codes "0x" ++ high ∷ low ∷ [])) (other_low high low differ))
-
-    pub any_word : high ≡ 88 → low ≡ 88 → codes "any" ≡ data_word p
-    any_word a b = sym (by_digits ∙ rw (a, b) refl)
-
-  pub bits_word : (high low : Option ℕ) → high ≡ digit_symbol (take 4 bits) → low ≡ digit_symbol (take 4 (drop 4 bits)) → (high ≡ None) ⊎ (low ≡ None) → codes "0b" ++ map bit_symbol bits ≡ data_word p
-  bits_word high low first second none =
-      in_two high low none ∙ (λ i. data_of (first i) (second i) bits) ∙ (λ i. data_of (digit_symbol (take 4 (is i))) (digit_symbol (low_are i)) (is i))
-    where
-      in_two : (a b : Option ℕ) → (a ≡ None) ⊎ (b ≡ None) → codes "0b" ++ map bit_symbol bits ≡ data_of a b bits
-      in_two None b e = refl
-      in_two (Some a) None e = refl
-      in_two (Some a) (Some b) (inl e) = absurd cc
-      in_two (Some a) (Some b) (inr e) = absurd cc
-
-low_bits : (a : Address) → take 4 (drop 3 (address_bits a)) ≡ drop 3 (address_bits a)
-unfolding address_bits
-low_bits a = refl
-
-module _ (a : Address) (bits : List Bit) (is : bits ≡ address_bits a) (high low : Option ℕ) (first : high ≡ digit_symbol (take 3 bits)) (second : low ≡ digit_symbol (take 4 (drop 3 bits))) where
-  target_digits : target_of high low bits ≡ target_word a
-  target_digits = (λ i. target_of (first i) (second i) bits) ∙ (λ i. target_of (digit_symbol (take 3 (is i))) (digit_symbol ((ap (λ l. take 4 (drop 3 l)) is ∙ low_bits a) i)) (is i))
-
-  pub target_hex : (h l : ℕ) → high ≡ Some h → low ≡ Some l → codes "0x" ++ h ∷ l ∷ [] ≡ target_word a
-  target_hex h l e f = (λ i. target_of (sym e i) (sym f i) bits) ∙ target_digits
-
-  pub target_bits : (high ≡ None) ⊎ (low ≡ None) → codes "0b" ++ map bit_symbol bits ≡ target_word a
-  target_bits none = in_two high low none ∙ target_digits
-    where
-      in_two : (x y : Option ℕ) → (x ≡ None) ⊎ (y ≡ None) → codes "0b" ++ map bit_symbol bits ≡ target_of x y bits
-      in_two None y e = refl
-      in_two (Some x) None e = refl
-      in_two (Some x) (Some y) (inl e) = absurd cc
-      in_two (Some x) (Some y) (inr e) = absurd cc
 
 -- a word in the place of an equal one
 pub same_word : {X E : Type 0} (r : Result X E) (a b v w : List ℕ) → v ≡ w → OnOk r (Adds a b (v ∷ [])) → OnOk r (Adds a b (w ∷ []))

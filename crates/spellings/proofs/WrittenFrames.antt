@@ -1,5 +1,5 @@
 -- The frames of a brief that is written mean the message that they are written for, and need no name and no range.
-use Rattle.std.proofs.Common.{◌≡◌, ℕ, zero, suc, ◌+◌, Bool, true, false, Option, Some, None, refl, ap, sym, ◌∙◌, arith}
+use Rattle.std.proofs.Common.{◌≡◌, ℕ, zero, suc, ◌+◌, ◌++◌, List, [], Bool, true, false, Option, Some, None, refl, ap, sym, ◌∙◌, arith}
 use Rattle.std.specs.Prelude.{◌==◌, nat_lt, map, if◌then◌else◌}
 use Rattle.std.proofs.lemmas.Bool.{and_parts, eqb-true}
 use Rattle.message_tree.specs.Bits.{bits_below}
@@ -10,13 +10,10 @@ use Rattle.message_tree.specs.declared.bits.Pattern.{Pattern}
 use Rattle.plan_text.specs.Symbols.{bit_symbol, pattern_word}
 use Rattle.plan_text.proofs.ValueLemmas.{pattern_found}
 use Rattle.brief_text.specs.Codes.{unknown, after_bits}
-use Rattle.brief_text.specs.Drafts.{Draft, frame_on, bytes_on, tail_on, repeated, repeated_on, after_header}
+use Rattle.brief_text.specs.Drafts.{Draft, frame_on, bytes_on, tail_on, frame_groups, bytes_groups, tail_groups, repeated, repeated_on, after_header}
 use Rattle.brief_text.specs.Fitting.{KnowsFrame, KnowsBytes, KnowsTail, frame_ranges, bytes_ranges, tail_ranges}
 use Rattle.brief_text.specs.Trees.{spelled, times, BriefBytes, data_byte, no_more, stop_here, go_on}
 use Rattle.spellings.specs.Writing.{Run, same_pattern, goes_on, ended_by, with_byte, after_run, frame_brief, bytes_brief, tail_brief}
-
-some_is : {A : Type 0} (x y : A) → Some x ≡ Some y → x ≡ y
-some_is x y e = cc
 
 -- ---- runs
 
@@ -27,9 +24,8 @@ pattern_is p q e =
     let known = eqb-true p.known q.known parts.0 in
     let value = eqb-true p.value q.value parts.1 in
     let words : pattern_word q ≡ pattern_word p = λ i. map bit_symbol (bits_below 8 (sym known i) (sym value i)) in
-    let first = pattern_found (pattern_word p) p refl in
-    let second = pattern_found (pattern_word p) q words in
-    some_is p q (sym first ∙ second)
+    let both : Some p ≡ Some q = sym (pattern_found (pattern_word p) p refl) ∙ pattern_found (pattern_word p) q words in
+    cc
 
 -- a run of a byte, and this byte after it
 one_more : (n : ℕ) (bits : Pattern) (acked : PayloadTree) (refused : TailTree) → repeated (n + 1) bits acked refused ≡ repeated n bits (trees.byte bits acked refused) refused
@@ -112,6 +108,32 @@ module _ (draft : Draft) where
     tail_known : (t : TailTree) → KnowsTail draft (tail_brief t)
     tail_known stop = tt
     tail_known (again frame) = frame_known frame
+
+-- no name, so no group
+module _ (draft : Draft) where
+  run_plain : (run : Option Run) (b : BriefBytes) → bytes_groups draft b ≡ [] → bytes_groups draft (after_run run b) ≡ []
+  run_plain None b none = none
+  run_plain (Some run) b none = none
+
+  both_plain : (xs ys : List (List ℕ)) → xs ≡ [] → ys ≡ [] → xs ++ ys ≡ []
+  both_plain xs ys e f = ap (λ zs. zs ++ ys) e ∙ f
+
+  mutual
+    pub frame_plain : (f : FrameTree) → frame_groups draft (frame_brief f) ≡ []
+    frame_plain (write address acked refused) = both_plain (tail_groups draft (tail_brief refused)) (bytes_groups draft (bytes_brief acked None)) (tail_plain refused) (bytes_plain acked None)
+    frame_plain (read address count after refused) = both_plain (tail_groups draft (tail_brief refused)) (tail_groups draft (tail_brief after)) (tail_plain refused) (tail_plain after)
+
+    bytes_plain : (p : PayloadTree) (run : Option Run) → bytes_groups draft (bytes_brief p run) ≡ []
+    bytes_plain (trees.byte bits acked stop) run =
+        run_plain (ended_by run bits) (bytes_brief acked (Some (with_byte run bits))) (bytes_plain acked (Some (with_byte run bits)))
+    bytes_plain (trees.byte bits acked (again frame)) run =
+        run_plain run (data_byte (spelled bits) (times 1) (go_on (frame_brief frame)) (bytes_brief acked None))
+        (both_plain (frame_groups draft (frame_brief frame)) (bytes_groups draft (bytes_brief acked None)) (frame_plain frame) (bytes_plain acked None))
+    bytes_plain (last tail) run = run_plain run (no_more (tail_brief tail)) (tail_plain tail)
+
+    tail_plain : (t : TailTree) → tail_groups draft (tail_brief t) ≡ []
+    tail_plain stop = refl
+    tail_plain (again frame) = frame_plain frame
 
 -- no byte has a range
 run_free : (run : Option Run) (b : BriefBytes) → bytes_ranges b ≡ 0 → bytes_ranges (after_run run b) ≡ 0

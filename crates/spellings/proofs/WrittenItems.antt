@@ -1,14 +1,15 @@
 -- The items of a brief that is written fit one after the other.
-use Rattle.std.proofs.Common.{◌≡◌, ℕ, zero, suc, ◌+◌, ◌*◌, ◌/◌, ◌^◌, ◌<◌, ◌≤◌, Bool, false, List, [], ◌∷◌, ◌++◌, length, get_or, map, Some, None, is_some, refl, ap, sym, ◌∙◌, subst, arith, append_assoc, append-nil}
+use Rattle.std.proofs.Common.{◌≡◌, ℕ, zero, suc, ◌+◌, ◌*◌, ◌/◌, ◌^◌, ◌<◌, ◌≤◌, false, List, [], ◌∷◌, ◌++◌, length, map, Some, None, is_some, refl, ap, sym, ◌∙◌, subst, arith, append_assoc, append-nil}
 use Rattle.std.specs.Prelude.{nat_lt, unwrap_or}
 use Rattle.std.specs.Int.{bit_at}
 use Rattle.std.specs.List.{list_any, flat_map, fold}
 use Rattle.std.specs.Map.{keys_of}
 use Rattle.std.specs.Str.{bytes_eq}
-use Rattle.std.proofs.lemmas.Bool.{lt-leb, le-ltb, or_from}
+use Rattle.std.proofs.lemmas.Bool.{lt-leb, le-ltb}
 use Rattle.std.proofs.Math.Nat.{pow-suc, div-div-eq-div-mul}
 use Rattle.std.proofs.lemmas.List.{length-map, map-append}
 use Rattle.std.proofs.lemmas.List.Concat.{flat_map_single}
+use Rattle.std.proofs.lemmas.List.Folds.{list_any_none}
 use Rattle.std.proofs.lemmas.Nat.Bits.{bit_at_ones, bit_at-lt}
 use Rattle.message_tree.specs.Bits.{bit_from, bits_below}
 use Rattle.message_tree.specs.declared.bits.Bit.{Bit}
@@ -24,16 +25,17 @@ use Rattle.plan_core.proofs.BuildingLemmas.{position-None, message_parts, contro
 use Rattle.plan_text.specs.Values.{address_by}
 use Rattle.spellings.proofs.CanonicalItems.{up_to_messages, up_to_controllers, message_fits, controller_fits, interrupt_fits}
 use Rattle.brief_text.specs.Codes.{at_start}
-use Rattle.brief_text.specs.Drafts.{Draft, with_item}
+use Rattle.brief_text.specs.Drafts.{Draft, with_item, with_made}
 use Rattle.brief_text.specs.Fitting.{Fits, ListFits, MakeUp}
-use Rattle.brief_text.specs.Judging.{message_refusal_of, is_taken, controller_refusal_of, all_of, sendings, listing_refusal}
+use Rattle.brief_text.specs.Items.{listed_refusal}
+use Rattle.brief_text.specs.Judging.{grouped_by, message_refusal_of, is_taken, controller_refusal_of, all_of, sendings, listing_refusal}
 use Rattle.brief_text.specs.Splitting.{Part, whole, parts}
 use Rattle.brief_text.specs.Trees.{Side, BriefItem}
 use Rattle.brief_text.specs.Words.{known_number}
 use Rattle.spellings.specs.Writing.{frame_brief, message_brief, controller_brief, interrupt_brief}
 use Rattle.brief_text.proofs.GrowLemmas.{each_within}
 use Rattle.brief_text.proofs.PathLemmas.{outline_of}
-use Rattle.spellings.proofs.WrittenFrames.{frame_said, frame_known, frame_free}
+use Rattle.spellings.proofs.WrittenFrames.{frame_said, frame_known, frame_free, frame_plain}
 
 -- ---- items of one kind, each of which fits what those before it make up
 
@@ -74,10 +76,6 @@ same_names : (names : List (List ℕ)) → flat_map (λ (n : List ℕ). n ∷ []
 same_names [] = refl
 same_names (n ∷ names) = ap (λ l. n ∷ l) (same_names names)
 
-none_any : {X : Type 0} (test : X → Bool) (xs : List X) → ((k : ℕ) (d : X) → k < length xs → test (get_or xs k d) ≡ false) → list_any test xs ≡ false
-none_any test [] none = refl
-none_any test (x ∷ xs) none = or_from _ _ (none 0 x (omega arith)) (none_any test xs (λ k d h. none (suc k) d (omega arith)))
-
 module _ (plan : Contents) where
   abbrev pub listed : List ℕ × List ℕ → List ℕ × List (List ℕ)
   listed c = (c.0, map (name_at plan.messages) c.1)
@@ -92,6 +90,8 @@ module _ (plan : Contents) where
     bytes = [];
     plan = record { messages = ms; controllers = []; interrupts = is; nevers = [] };
     families = [];
+    groups = [];
+    grouped = [];
     controllers = map listed cs;
     labels = [];
     nevers = map sides ns;
@@ -127,12 +127,15 @@ module _ (plan : Contents) where
             knows = frame_known d x.1;
             ranges = frame_free x.1;
             members = tt;
+            grouped = ap (λ (groups : List (List ℕ)). grouped_by d x.0 None groups 0 None) (frame_plain d x.1);
             each = each_within d x.0 None (frame_brief x.1) (outline_of d 1 (frame_brief x.1) (ap size_refusal (frame_said d 1 x.1 at_start) ∙ fit.1));
           }
 
       pub message_adds_here : with_item (staged before [] [] []) (message_brief x) ≡ staged (before ++ (x ∷ [])) [] [] []
       unfolding with_item with_message
-      message_adds_here = λ i. staged (before ++ ((x.0, frame_said (staged before [] [] []) 1 x.1 at_start i) ∷ [])) [] [] []
+      message_adds_here =
+          ap (with_made (staged before [] [] []) x.0 None (frame_brief x.1)) (frame_plain (staged before [] [] []) x.1)
+          ∙ (λ i. staged (before ++ ((x.0, frame_said (staged before [] [] []) 1 x.1 at_start i) ∷ [])) [] [] [])
 
     -- ---- controllers
 
@@ -152,7 +155,7 @@ module _ (plan : Contents) where
           let room : nat_lt MOST_SENDINGS (sending_count before + length first + 1) ≡ false = le-ltb MOST_SENDINGS (sending_count before + length first + 1) (omega (arith, few)) in
           rw (known, all_are first, new, sendings_are, room) refl
 
-      may_list : (first names : List (List ℕ)) → list_refusal (up_to_controllers plan before) first names ≡ None → ListFits here [] first names
+      may_list : (first names : List (List ℕ)) → list_refusal (up_to_controllers plan before) first names ≡ None → ListFits (listed_refusal here []) first names
       may_list first [] e = tt
       may_list first (n ∷ names) e =
           let a = name_allowed (up_to_controllers plan before) first n names e in
@@ -161,7 +164,7 @@ module _ (plan : Contents) where
       may_stand : number_of x.0 before ≡ None → length before < MOST_CONTROLLERS → controller_refusal_of here x.0 ≡ None
       unfolding controller_refusal_of
       may_stand new few =
-          let others : list_any (bytes_eq x.0) (keys_of before) ≡ false = none_any (bytes_eq x.0) (keys_of before) (position-None (bytes_eq x.0) (keys_of before) new) in
+          let others : list_any (bytes_eq x.0) (keys_of before) ≡ false = list_any_none (bytes_eq x.0) (keys_of before) (position-None (bytes_eq x.0) (keys_of before) new) in
           let taken : is_taken here x.0 ≡ false = ap (list_any (bytes_eq x.0)) (append-nil (keys_of (map listed before)) ∙ keys_listed before) ∙ others in
           let count : length (parts here) ≡ length before = ap length (parts_are plan.messages before [] []) ∙ length-map (map listed before) whole_part ∙ length-map before listed in
           rw (taken, count, lt-leb MOST_CONTROLLERS (length before) few) refl

@@ -5,16 +5,14 @@ use Rattle.std.specs.List.{list_any}
 use Rattle.std.specs.Map.{lookup}
 use Rattle.std.specs.Str.{bytes_eq}
 use Rattle.std.proofs.lemmas.Bool.{eqb-true, eqb-false, false_from_ne_true, or_from}
-use Rattle.std.proofs.lemmas.Bool.Decides.{nat_tests}
 use Rattle.std.proofs.lemmas.List.{map-append}
 use Rattle.std.proofs.lemmas.List.Elements.{All-head, All-tail}
-use Rattle.plan_core.specs.Building.{number_of}
 use Rattle.plan_core.specs.Contents.{Contents}
 use Rattle.plan_core.specs.Labels.{name_at}
 use Rattle.plan_core.specs.Limits.{IsWithinLimits}
 use Rattle.plan_core.specs.Participants.{names_both}
-use Rattle.plan_core.proofs.BuildingLemmas.{bytes_eq-same, same-bytes_eq}
-use Rattle.spellings.proofs.CanonicalItems.{All-here, AllPairs-here, All-before, number_at}
+use Rattle.plan_core.proofs.BuildingLemmas.{bytes_eq-same}
+use Rattle.spellings.proofs.CanonicalItems.{All-here, AllPairs-here, All-before, turned, not_equal, names_differ}
 use Rattle.brief_text.specs.Drafts.{Draft, with_item}
 use Rattle.brief_text.specs.Fitting.{Fits}
 use Rattle.brief_text.specs.Judging.{first_refusal, second_refusal, are_sides}
@@ -26,9 +24,6 @@ and_true : (a : Bool) → (a && true) ≡ a
 and_true true = refl
 and_true false = refl
 
-turned : (m n : ℕ × ℕ) → names_both m.0 m.1 n ≡ false → names_both n.0 n.1 m ≡ false
-turned m n h = grind (arith, nat_tests)
-
 module _ (plan : Contents) (limits : IsWithinLimits plan) where
   -- two numbers of controllers have one name exactly if they are equal
   pub name_eq : (j k : ℕ) → j < length plan.controllers → k < length plan.controllers → bytes_eq (name_at plan.controllers j) (name_at plan.controllers k) ≡ (j == k)
@@ -36,11 +31,7 @@ module _ (plan : Contents) (limits : IsWithinLimits plan) where
     where
       by_test : (t : Bool) → (j == k) ≡ t → bytes_eq (name_at plan.controllers j) (name_at plan.controllers k) ≡ t
       by_test true e = bytes_eq-same _ _ (ap (name_at plan.controllers) (eqb-true j k e))
-      by_test false e =
-          false_from_ne_true _ (λ h.
-          let one : Some j ≡ Some k = sym (number_at plan.controllers j limits.controllers.names j_in) ∙ ap (λ name. number_of name plan.controllers) (same-bytes_eq _ _ h) ∙ number_at plan.controllers k limits.controllers.names k_in in
-          let same : j ≡ k = cc in
-          eqb-false j k e same)
+      by_test false e = not_equal _ _ (names_differ plan.controllers j k limits.controllers.names j_in k_in (eqb-false j k e))
 
   -- a name of a controller is found
   found : (name : List ℕ) (cs : List (List ℕ × List ℕ)) (k : ℕ) → k < length cs → name_at cs k ≡ name → (them : List (List ℕ)) × (lookup (bytes_eq name) (map (listed plan) cs) ≡ Some them)

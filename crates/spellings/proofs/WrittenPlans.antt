@@ -1,18 +1,16 @@
 -- The items of a brief that is written mean the plan that they are written for.
-use Rattle.std.proofs.Common.{◌≡◌, ◌≢◌, ℕ, zero, suc, ◌<◌, false, List, [], ◌∷◌, ◌++◌, length, map, is_some, refl, ap, sym, ◌∙◌, subst, arith, append_assoc, append-nil}
+use Rattle.std.proofs.Common.{◌≡◌, ◌≢◌, ℕ, zero, suc, ◌<◌, List, [], ◌∷◌, ◌++◌, length, map, is_some, refl, ap, sym, ◌∙◌, subst, arith, append_assoc, append-nil}
 use Rattle.std.specs.Prelude.{All, AllPairs, if◌then◌else◌}
 use Rattle.std.specs.List.{filter, flat_map}
 use Rattle.std.specs.Map.{keys_of}
-use Rattle.std.specs.Str.{bytes_eq}
-use Rattle.std.proofs.lemmas.Bool.{false_from_ne_true}
 use Rattle.std.proofs.lemmas.List.{length-map}
 use Rattle.std.proofs.lemmas.List.Elements.{All-head, All-tail, filter-append}
 use Rattle.plan_core.specs.Building.{with_controller, with_sender, with_never}
 use Rattle.plan_core.specs.Contents.{Contents}
 use Rattle.plan_core.specs.Labels.{name_at}
 use Rattle.plan_core.specs.Limits.{IsWithinLimits}
-use Rattle.plan_core.proofs.BuildingLemmas.{bytes_eq-same, same-bytes_eq}
-use Rattle.spellings.proofs.CanonicalItems.{up_to_controllers, up_to_nevers, controller_adds, never_fits, never_adds}
+use Rattle.plan_core.proofs.BuildingLemmas.{bytes_eq-same}
+use Rattle.spellings.proofs.CanonicalItems.{not_equal, up_to_controllers, up_to_nevers, controller_adds, never_fits, never_adds}
 use Rattle.brief_text.specs.Drafts.{Draft, no_items}
 use Rattle.brief_text.specs.Fitting.{MakeUp}
 use Rattle.brief_text.specs.Splitting.{Part, part_name, whole, parts, are_of_one, pairs_among, side_means, parts_meant, pairs_meant, pairs_apart, with_parts, with_pair, with_pairs, plan_meant}
@@ -32,9 +30,6 @@ module _ (c : List ℕ × List ℕ) (cs : Names) (distinct : AllPairs ◌≢◌ 
   head_differs : All (λ name. c.0 ≢ name) (keys_of cs)
   head_differs k d within = distinct zero (suc k) d (omega arith) (omega arith)
 
-not_same : (x y : List ℕ) → x ≢ y → bytes_eq x y ≡ false
-not_same x y differ = false_from_ne_true (bytes_eq x y) (λ e. differ (same-bytes_eq x y e))
-
 module _ (plan : Contents) where
   abbrev part : List ℕ × List ℕ → Part
   part c = whole_part plan (listed plan c)
@@ -47,7 +42,7 @@ module _ (plan : Contents) where
   none_with : (c : List ℕ × List ℕ) (cs : Names) → All (λ name. c.0 ≢ name) (keys_of cs) → filter are_of_one (map (λ y. (part c, y)) (parts_for cs)) ≡ []
   none_with c [] differ = refl
   none_with c (x ∷ cs) differ =
-      rw (not_same c.0 x.0 (All-head (λ name. c.0 ≢ name) x.0 (keys_of cs) differ)) (none_with c cs (All-tail (λ name. c.0 ≢ name) x.0 (keys_of cs) differ))
+      rw (not_equal c.0 x.0 (All-head (λ name. c.0 ≢ name) x.0 (keys_of cs) differ)) (none_with c cs (All-tail (λ name. c.0 ≢ name) x.0 (keys_of cs) differ))
 
   none_of_one : (cs : Names) → AllPairs ◌≢◌ (keys_of cs) → filter are_of_one (pairs_among (parts_for cs)) ≡ []
   none_of_one [] distinct = refl
@@ -61,7 +56,7 @@ module _ (plan : Contents) where
     no_other : (cs : Names) → All (λ other. name ≢ other) (keys_of cs) → filter (side_means draft (whole name)) (parts_for cs) ≡ []
     no_other [] differ = refl
     no_other (c ∷ cs) differ =
-        rw (not_same name c.0 (All-head (λ other. name ≢ other) c.0 (keys_of cs) differ)) (no_other cs (All-tail (λ other. name ≢ other) c.0 (keys_of cs) differ))
+        rw (not_equal name c.0 (All-head (λ other. name ≢ other) c.0 (keys_of cs) differ)) (no_other cs (All-tail (λ other. name ≢ other) c.0 (keys_of cs) differ))
 
     one_part : (cs : Names) (k : ℕ) → k < length cs → AllPairs ◌≢◌ (keys_of cs) → name_at cs k ≡ name → (p : Part) × (filter (side_means draft (whole name)) (parts_for cs) ≡ p ∷ []) × (part_name p ≡ name)
     one_part [] k within distinct e = absurd (omega arith)
@@ -71,7 +66,7 @@ module _ (plan : Contents) where
     one_part (c ∷ cs) (suc k) within distinct e =
         let later = one_part cs k (omega arith) (later_distinct c cs distinct) e in
         let differ : name ≢ c.0 = λ same. head_differs c cs distinct k [] (omega (arith, length-map cs (λ x. x.0))) (sym same ∙ sym e) in
-        (later.0, rw (not_same name c.0 differ) later.1, later.2)
+        (later.0, rw (not_equal name c.0 differ) later.1, later.2)
 
   module _ (limits : IsWithinLimits plan) where
     abbrev all : Draft

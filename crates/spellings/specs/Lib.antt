@@ -2,4 +2,5 @@ pub mod Canonical
 pub mod Writing
 pub mod Spelling
 pub mod Runs
+pub mod Kinds
 pub mod Spellings

@@ -1,9 +1,8 @@
 // A brief of a plan.
 
 ghost use Rattle.std.specs.Prelude.{◌≡◌, ◌<◌, ◌≤◌, ◌⊎◌, [], ◌∷◌, ◌++◌, IfOk, IfErr, IfSome, OnOk, length};
-ghost use Rattle.std.specs.Prelude.{codes, string_bytes, true, false, is_some};
-ghost use Rattle.std.specs.List.{find, flat_map, list_all};
-ghost use Rattle.std.specs.Map.{keys_of};
+ghost use Rattle.std.specs.Prelude.{codes, string_bytes, true, false, Some, is_some};
+ghost use Rattle.std.specs.List.{find, flat_map, list_all, slice_get};
 ghost use Rattle.std.specs.Option.{option_map};
 ghost use Rattle.message_tree.specs.Trees.{frame_tree, payload_tree, tail_tree};
 ghost use Rattle.plan_core.specs.NameBytes.{name_bytes};
@@ -12,6 +11,7 @@ ghost use Rattle.spellings.specs.Canonical.{Adds};
 ghost use Rattle.brief_text.specs.Briefs.{Means};
 ghost use Rattle.brief_tokens.specs.Names.{is_brief_word, has_brief_word, first_brief_word, LacksBrief};
 ghost use Rattle.spellings.specs.Runs.{run_of, run_before};
+ghost use Rattle.spellings.specs.Kinds.{names_of};
 ghost use Rattle.spellings.specs.Spelling.{hex_symbol, is_open, digit_symbol, target_word, data_word, run_word};
 ghost use Rattle.spellings.specs.Spelling.{run_words, frame_words, bytes_words, refused_words, next_words};
 ghost use Rattle.spellings.specs.Spelling.{message_line, interrupt_line, brief_spelled};
@@ -72,17 +72,25 @@ pub fn brief_word(plan: &Plan) -> Option<&Name>
     ensures some { is_some result ≡ has_brief_word (plan_contents plan.now) }
     ensures first { option_map (λ name. name_bytes name.now) result ≡ first_brief_word (plan_contents plan.now) }
 {
-    word_of_message(plan)
-        .or(word_of_controller(plan))
-        .or(word_of_interrupt(plan))
+    word_of(plan, Kind::Message)
+        .or(word_of(plan, Kind::Controller))
+        .or(word_of(plan, Kind::Interrupt))
 }
 
-fn word_of_message(plan: &Plan) -> Option<&Name>
+// What has a name in a plan.
+#[derive(Clone, Copy)]
+enum Kind {
+    Message,
+    Controller,
+    Interrupt,
+}
+
+fn word_of(plan: &Plan, kind: Kind) -> Option<&Name>
     ensures { option_map (λ name. name_bytes name.now) result ≡
-        find is_brief_word (keys_of (plan_contents plan.now).messages) }
+        find is_brief_word (names_of kind (plan_contents plan.now)) }
 {
-    for k in 0..plan.messages() {
-        let name = plan.message_name(k);
+    for k in 0..count_in(plan, kind) {
+        let name = name_in(plan, kind, k);
         if is_brief_word(name.as_str()) {
             return Some(name);
         }
@@ -90,30 +98,27 @@ fn word_of_message(plan: &Plan) -> Option<&Name>
     None
 }
 
-fn word_of_controller(plan: &Plan) -> Option<&Name>
-    ensures { option_map (λ name. name_bytes name.now) result ≡
-        find is_brief_word (keys_of (plan_contents plan.now).controllers) }
+#[tactic(auto, using(crate::proofs::NameLemmas::all_named))]
+fn count_in(plan: &Plan, kind: Kind) -> u32
+    ensures { result ≡ length (names_of kind (plan_contents plan.now)) }
 {
-    for k in 0..plan.controllers() {
-        let name = plan.controller_name(k);
-        if is_brief_word(name.as_str()) {
-            return Some(name);
-        }
+    match kind {
+        Kind::Message => plan.messages(),
+        Kind::Controller => plan.controllers(),
+        Kind::Interrupt => plan.interrupts(),
     }
-    None
 }
 
-fn word_of_interrupt(plan: &Plan) -> Option<&Name>
-    ensures { option_map (λ name. name_bytes name.now) result ≡
-        find is_brief_word (keys_of (plan_contents plan.now).interrupts) }
+#[tactic(auto, using(crate::proofs::NameLemmas::all_named))]
+fn name_in(plan: &Plan, kind: Kind, k: u32) -> &Name
+    requires { k < length (names_of kind (plan_contents plan.now)) }
+    ensures { slice_get (names_of kind (plan_contents plan.now)) k ≡ Some (name_bytes result.now) }
 {
-    for k in 0..plan.interrupts() {
-        let name = plan.interrupt_name(k);
-        if is_brief_word(name.as_str()) {
-            return Some(name);
-        }
+    match kind {
+        Kind::Message => plan.message_name(k),
+        Kind::Controller => plan.controller_name(k),
+        Kind::Interrupt => plan.interrupt_name(k),
     }
-    None
 }
 
 // The text of a brief that means the plan.

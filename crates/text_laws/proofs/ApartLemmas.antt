@@ -10,16 +10,17 @@ use Rattle.plan_core.specs.Building.{number_of}
 use Rattle.plan_core.specs.Contents.{Contents}
 use Rattle.plan_core.specs.Participants.{is_never, same_controller, forbidden, apart, sendings_from, participants_of}
 use Rattle.plan_core.proofs.BuildingLemmas.{bytes_eq-same, same-bytes_eq}
-use Rattle.brief_text.specs.declared.syntax.Lengths.{Lengths}
-use Rattle.brief_text.specs.Drafts.{Draft, members_or, stands_for}
-use Rattle.brief_text.specs.Splitting.{Part, part_name, label_messages, is_label, is_in_part, label_part, rest_part, sends_any, split_by, labels_of, parts_of, parts, pairs_among, are_of_one, label_means, side_means, parts_meant, pairs_meant, pairs_apart, with_parts, plan_meant, whole}
+use Rattle.std.specs.Prelude.{unwrap_or}
+use Rattle.brief_text.specs.Drafts.{Draft, stands_for, stands_alone_for, all_or, names_made}
+use Rattle.brief_text.specs.Splitting.{Part, part_name, label_messages, label_names, is_own_or_free, is_of_labelled, is_of_device, is_label, is_in_part, label_part, rest_part, sends_any, split_by, labels_of, parts_of, parts, pairs_among, are_of_one, label_means, side_means, parts_meant, pairs_meant, pairs_apart, with_parts, plan_meant, whole}
 use Rattle.brief_text.specs.Trees.{Side}
 use Rattle.text_laws.specs.Covering.{Sent, label_covers, side_covers, covers_both, told_apart, SendsFor}
-use Rattle.text_laws.proofs.PartLemmas.{is_plain, in_one, from_parts, part_names_once, parts_once, part_of, labels_within}
+use Rattle.text_laws.proofs.PartLemmas.{from_parts, part_names_once, parts_once, part_of, labels_within}
 use Rattle.text_laws.proofs.MeantPlans.{entry, parts_are, pairs_controllers, pairs_messages, pairs_added, pairs_from, never_turned, sending_at, from_numbers, meant_within}
 use Rattle.text_laws.proofs.Membership.{In, Distinct, in_left, in_right, in_either, in_filter, from_filter, in_map, from_map, in_flat, from_flat, any_in, in_any, is_false, not_both, or_either, or_first, or_second, holds, holds_in, in_holds, distinct_one, true_or_false, distinct_from_map, count-cons, count_none}
 use Rattle.text_laws.proofs.EntryNames.{two, slice_in, slice_map, slice_from_map, number_key, key_number, among_places, from_among, in_between, from_between, none_number, distinct_at}
-use Rattle.text_laws.proofs.SoundDrafts.{Sound, family_of}
+use Rattle.text_laws.proofs.SoundDrafts.{Sound, grouped_of}
+use Rattle.text_laws.proofs.Standings.{Alone, alone_cases, head_known, known_plain, stands_plain, Stands, stands_cases, nested, is_plain}
 use Rattle.std.proofs.lemmas.Option.{slice_get_within}
 use Rattle.plan_core.specs.Labels.{label_of, participant_label}
 use Rattle.plan_core.specs.declared.plans.Participant.TheVariants.{Sending, Interrupt}
@@ -45,6 +46,8 @@ module _ (draft : Draft) (sound : Sound draft) where
     rest : p.side.label ≡ None → (s : Side) → In s draft.labels → s.controller ≡ p.side.controller → In m (label_messages draft s) → ⊥
     -- the label stands for it, and no label is the message itself, or this one is
     labelled : (l : List ℕ) → p.side.label ≡ Some l → In m (stands_for draft l) × ((l ≡ m) ⊎ ((s : Side) → In s draft.labels → s.controller ≡ p.side.controller → s.label ≡ Some m → ⊥))
+    -- and no label is of a device for which it stands
+    nearest : (l : List ℕ) → p.side.label ≡ Some l → (s : Side) → In s draft.labels → s.controller ≡ p.side.controller → (h : List ℕ) → s.label ≡ Some h → In h (names_made draft l) → In m (stands_alone_for draft h) → ⊥
 
   label_is : (s : Side) (m : List ℕ) → is_label m s ≡ true → s.label ≡ Some m
   label_is s m h = by s.label refl h
@@ -58,6 +61,9 @@ module _ (draft : Draft) (sound : Sound draft) where
 
   messages_by : (s : Side) (l : List ℕ) → s.label ≡ Some l → label_messages draft s ≡ stands_for draft l
   messages_by s l e = ap (λ (o : Option (List ℕ)). elim o [ None ↦ [] | Some label ↦ stands_for draft label ]) e
+
+  names_by : (s : Side) (l : List ℕ) → s.label ≡ Some l → label_names draft s ≡ names_made draft l
+  names_by s l e = ap (λ (o : Option (List ℕ)). elim o [ None ↦ [] | Some label ↦ names_made draft label ]) e
 
   own_label : (c : List ℕ) (s : Side) → In s draft.labels → s.controller ≡ c → In s (labels_of draft c)
   own_label c s h e = in_filter (λ (side : Side). bytes_eq side.controller c) draft.labels s h (bytes_eq-same s.controller c e)
@@ -79,6 +85,7 @@ module _ (draft : Draft) (sound : Sound draft) where
             listed = all m (subst (λ (q : Part). In m q.messages) e inside);
             rest = λ none s k same i. subst (λ (ls : List Side). In s ls) are (own_label c.0 s k (same ∙ ap (λ (q : Part). q.side.controller) e));
             labelled = λ l is. let none : None ≡ Some l = sym (ap (λ (q : Part). q.side.label) e) ∙ is in absurd cc;
+            nearest = λ l is. let none : None ≡ Some l = sym (ap (λ (q : Part). q.side.label) e) ∙ is in absurd cc;
           }
           by [] are (inr k) = absurd k
           by (t ∷ ts) are k = split (from_filter sends_any (rest_part draft (t ∷ ts) c.1 c.0 ∷ map (label_part draft (t ∷ ts) c.1) (t ∷ ts)) p k).0
@@ -95,6 +102,7 @@ module _ (draft : Draft) (sound : Sound draft) where
                     rest = λ none s i same j.
                         not_both (holds m (flat_map (label_messages draft) (t ∷ ts))) (in_holds m _ (in_flat (label_messages draft) (t ∷ ts) s m (own s i (same ∙ ap (λ (q : Part). q.side.controller) e)) j)) (not_true _ f.1);
                     labelled = λ l is. let none : None ≡ Some l = sym (ap (λ (q : Part). q.side.label) e) ∙ is in absurd cc;
+                    nearest = λ l is. let none : None ≡ Some l = sym (ap (λ (q : Part). q.side.label) e) ∙ is in absurd cc;
                   }
               split (inr i) = of_label f.0 f.1 f.2
                 where
@@ -104,7 +112,8 @@ module _ (draft : Draft) (sound : Sound draft) where
                   of_label : (s : Side) → In s (t ∷ ts) → p ≡ label_part draft (t ∷ ts) c.1 s → Placed p m
                   of_label s j e =
                       let g = from_filter (is_in_part draft (t ∷ ts) s) c.1 m (subst (λ (q : Part). In m q.messages) e inside) in
-                      let tests = and_parts (holds m (label_messages draft s)) (is_label m s || not (list_any (is_label m) (t ∷ ts))) g.1 in
+                      let both = and_parts (holds m (label_messages draft s)) (is_own_or_free (t ∷ ts) s m && not (is_of_device draft (t ∷ ts) s m)) g.1 in
+                      let inner = and_parts (is_own_or_free (t ∷ ts) s m) (not (is_of_device draft (t ∷ ts) s m)) both.1 in
                       let known_label = from_filter (λ (side : Side). bytes_eq side.controller c.0) draft.labels s (subst (λ (ls : List Side). In s ls) (sym are) j) in
                       let side_is = ap (λ (q : Part). q.side) e in
                       let label = sound.labels.each s known_label.0 in
@@ -114,9 +123,15 @@ module _ (draft : Draft) (sound : Sound draft) where
                         rest = λ none. let no_label : None ≡ Some label.label = sym none ∙ ap (λ (x : Side). x.label) side_is ∙ label.is in absurd cc;
                         labelled = λ l is.
                             let label_now = sym (ap (λ (x : Side). x.label) side_is) ∙ is in (
-                              subst (λ (names : List (List ℕ)). In m names) (messages_by s l label_now) (holds_in m (label_messages draft s) tests.0),
-                              which s l label_now (or_either (is_label m s) (not (list_any (is_label m) (t ∷ ts))) tests.1) (ap (λ (x : Side). x.controller) side_is ∙ owner),
+                              subst (λ (names : List (List ℕ)). In m names) (messages_by s l label_now) (holds_in m (label_messages draft s) both.0),
+                              which s l label_now (or_either (is_label m s) (not (list_any (is_label m) (t ∷ ts))) inner.0) (ap (λ (x : Side). x.controller) side_is ∙ owner),
                             );
+                        nearest = λ l is r k same h named made alone.
+                            let label_now = sym (ap (λ (x : Side). x.label) side_is) ∙ is in
+                            not_both (is_of_device draft (t ∷ ts) s m)
+                            (in_any (is_of_labelled draft (t ∷ ts) m) (label_names draft s) h (subst (λ (names : List (List ℕ)). In h names) (sym (names_by s l label_now)) made)
+                            (both_true (list_any (is_label h) (t ∷ ts)) (holds m (stands_alone_for draft h)) (in_any (is_label h) (t ∷ ts) r (own r k (same ∙ ap (λ (x : Side). x.controller) side_is ∙ owner)) (is_labelled r h named)) (in_holds m (stands_alone_for draft h) alone)))
+                            (not_true _ inner.1);
                       }
                     where
                       which : (s : Side) (l : List ℕ) → s.label ≡ Some l → (is_label m s ≡ true) ⊎ (not (list_any (is_label m) (t ∷ ts)) ≡ true) → p.side.controller ≡ c.0
@@ -127,46 +142,90 @@ module _ (draft : Draft) (sound : Sound draft) where
   -- ---- a side of a `never` means a part exactly where it covers what the part sends
 
   module _ (p : Part) (m : List ℕ) (at : Placed p m) where
-    -- a member of a family, or the label itself
-    stands : (l label : List ℕ) → In l (stands_for draft label) → (l ≡ label) ⊎ In l (keys_of draft.plan.messages)
-    stands l label h = by (family_of label draft.families) refl h
+    -- a member of a family, what is made by a group, or the label itself
+    stands : (l label : List ℕ) → In l (stands_for draft label) → (l ≡ label) ⊎ (In l (names_made draft label) ⊎ In l (keys_of draft.plan.messages))
+    stands l label h = by (stands_cases draft sound l label h)
       where
-        by : (o : Option Lengths) → family_of label draft.families ≡ o → In l (members_or label o) → (l ≡ label) ⊎ In l (keys_of draft.plan.messages)
-        by None e (inl same) = inl same
-        by None e (inr k) = absurd k
-        by (Some r) e g = inr (sound.families.known l label r e g)
+        member : (n : List ℕ) → Alone draft sound l n → (l ≡ n) ⊎ In l (keys_of draft.plan.messages)
+        member n (inl same) = inl same
+        member n (inr r) = inr (sound.families.known l n r.0 r.1 r.2)
+
+        of_head : (k : List ℕ) → In k (names_made draft label) → (l ≡ k) ⊎ In l (keys_of draft.plan.messages) → (l ≡ label) ⊎ (In l (names_made draft label) ⊎ In l (keys_of draft.plan.messages))
+        of_head k made (inl same) = inr (inl (subst (λ (n : List ℕ). In n (names_made draft label)) (sym same) made))
+        of_head k made (inr known) = inr (inr known)
+
+        itself : (l ≡ label) ⊎ In l (keys_of draft.plan.messages) → (l ≡ label) ⊎ (In l (names_made draft label) ⊎ In l (keys_of draft.plan.messages))
+        itself (inl same) = inl same
+        itself (inr known) = inr (inr known)
+
+        by : Stands draft sound l label → (l ≡ label) ⊎ (In l (names_made draft label) ⊎ In l (keys_of draft.plan.messages))
+        by (inl x) = itself (member label (alone_cases draft sound l label x.1))
+        by (inr k) = of_head k.0 k.1 (member k.0 (alone_cases draft sound l k.0 k.2))
+
+    -- the names that a label makes, and its messages
+    abbrev meant_by : List ℕ → List (List ℕ)
+    meant_by label = names_made draft label ++ stands_for draft label
 
     by_labels : (s : Side) (label l : List ℕ) → In s draft.labels → s.controller ≡ p.side.controller → s.label ≡ Some label → p.side.label ≡ Some l
-        → (bytes_eq label l || holds l (stands_for draft label)) ≡ holds m (stands_for draft label)
+        → (bytes_eq label l || holds l (meant_by label)) ≡ holds m (stands_for draft label)
     by_labels s label l h owner is own = same_test _ _ there back
       where
         here : In m (stands_for draft l)
         here = (at.labelled l own).0
 
-        member : (l ≡ label) ⊎ In l (keys_of draft.plan.messages) → In l (stands_for draft label) → In m (stands_for draft label)
+        -- of a name that is made all messages are among those of the label
+        of_made : In l (names_made draft label) → In m (stands_for draft label)
+        of_made made = by (grouped_of label draft.grouped) refl made
+          where
+            plain : grouped_of l draft.grouped ≡ None
+            plain = known_plain draft sound l (head_known draft sound label l made)
+
+            alone : In m (stands_alone_for draft l)
+            alone = subst (λ (names : List (List ℕ)). In m names) (stands_plain draft sound l plain) here
+
+            by : (o : Option (List (List ℕ))) → grouped_of label draft.grouped ≡ o → In l (unwrap_or o []) → In m (stands_for draft label)
+            by None e k = absurd k
+            by (Some names) e k = subst (λ (o : Option (List (List ℕ))). In m (all_or draft label o)) (sym e) (in_flat (stands_alone_for draft) names l m k alone)
+
+        member : (l ≡ label) ⊎ (In l (names_made draft label) ⊎ In l (keys_of draft.plan.messages)) → In l (stands_for draft label) → In m (stands_for draft label)
         member (inl same) k = subst (λ (n : List ℕ). In m (stands_for draft n)) same here
-        member (inr known) k =
+        member (inr (inl made)) k = of_made made
+        member (inr (inr known)) k =
             let single = subst (λ (names : List (List ℕ)). In m names) (is_plain draft sound l known) here in
             elim single [ inl same ↦ subst (λ (n : List ℕ). In n (stands_for draft label)) (sym same) k | inr none ↦ absurd none ]
 
-        there : (bytes_eq label l || holds l (stands_for draft label)) ≡ true → holds m (stands_for draft label) ≡ true
-        there k = in_holds m (stands_for draft label) (by (or_either (bytes_eq label l) (holds l (stands_for draft label)) k))
+        there : (bytes_eq label l || holds l (meant_by label)) ≡ true → holds m (stands_for draft label) ≡ true
+        there k = in_holds m (stands_for draft label) (by (or_either (bytes_eq label l) (holds l (meant_by label)) k))
           where
-            by : (bytes_eq label l ≡ true) ⊎ (holds l (stands_for draft label) ≡ true) → In m (stands_for draft label)
+            among : In l (names_made draft label) ⊎ In l (stands_for draft label) → In m (stands_for draft label)
+            among (inl made) = of_made made
+            among (inr inside) = member (stands l label inside) inside
+
+            by : (bytes_eq label l ≡ true) ⊎ (holds l (meant_by label) ≡ true) → In m (stands_for draft label)
             by (inl same) = subst (λ (n : List ℕ). In m (stands_for draft n)) (sym (same-bytes_eq label l same)) here
-            by (inr k) = let inside = holds_in l (stands_for draft label) k in member (stands l label inside) inside
+            by (inr k) = among (in_either l (names_made draft label) (stands_for draft label) (holds_in l (meant_by label) k))
 
-        back : holds m (stands_for draft label) ≡ true → (bytes_eq label l || holds l (stands_for draft label)) ≡ true
-        back k = by (in_one draft sound m l label here (holds_in m (stands_for draft label) k)) (at.labelled l own).1
+        back : holds m (stands_for draft label) ≡ true → (bytes_eq label l || holds l (meant_by label)) ≡ true
+        back k = by (nested draft sound m l label here inside) (at.labelled l own).1
           where
-            found : l ≡ m → (bytes_eq label l || holds l (stands_for draft label)) ≡ true
-            found e = or_second (bytes_eq label l) (holds l (stands_for draft label)) (ap (λ (n : List ℕ). holds n (stands_for draft label)) e ∙ k)
+            inside : In m (stands_for draft label)
+            inside = holds_in m (stands_for draft label) k
 
-            by : (m ≡ l) ⊎ ((m ≡ label) ⊎ (l ≡ label)) → (l ≡ m) ⊎ ((r : Side) → In r draft.labels → r.controller ≡ p.side.controller → r.label ≡ Some m → ⊥) → (bytes_eq label l || holds l (stands_for draft label)) ≡ true
-            by (inl e) which = found (sym e)
-            by (inr (inl e)) (inl same) = found same
+            found : In l (meant_by label) → (bytes_eq label l || holds l (meant_by label)) ≡ true
+            found i = or_second (bytes_eq label l) (holds l (meant_by label)) (in_holds l (meant_by label) i)
+
+            itself : l ≡ m → (bytes_eq label l || holds l (meant_by label)) ≡ true
+            itself e = found (in_right l (names_made draft label) (stands_for draft label) (subst (λ (n : List ℕ). In n (stands_for draft label)) (sym e) inside))
+
+            by : (m ≡ l) ⊎ ((m ≡ label) ⊎ ((l ≡ label) ⊎ (In label (names_made draft l) ⊎ In l (names_made draft label)))) → (l ≡ m) ⊎ ((r : Side) → In r draft.labels → r.controller ≡ p.side.controller → r.label ≡ Some m → ⊥) → (bytes_eq label l || holds l (meant_by label)) ≡ true
+            by (inl e) which = itself (sym e)
+            by (inr (inl e)) (inl same) = itself same
             by (inr (inl e)) (inr none) = absurd (none s h owner (is ∙ ap (λ (n : List ℕ). Some n) (sym e)))
-            by (inr (inr e)) which = or_first (bytes_eq label l) (holds l (stands_for draft label)) (bytes_eq-same label l (sym e))
+            by (inr (inr (inl e))) which = or_first (bytes_eq label l) (holds l (meant_by label)) (bytes_eq-same label l (sym e))
+            by (inr (inr (inr (inl made)))) which =
+                let plain = known_plain draft sound label (head_known draft sound l label made) in
+                absurd (at.nearest l own s h owner label is made (subst (λ (names : List (List ℕ)). In m names) (stands_plain draft sound label plain) inside))
+            by (inr (inr (inr (inr made)))) which = found (in_left l (names_made draft label) (stands_for draft label) made)
 
     means_covers : (s : Side) → (s.label ≡ None) ⊎ In s draft.labels → s.controller ≡ p.side.controller → label_means draft s.label p.side.label ≡ label_covers draft s.label m
     means_covers s (inl none) owner = rw none refl

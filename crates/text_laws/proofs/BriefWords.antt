@@ -3,8 +3,8 @@ use Rattle.std.proofs.Common.{◌≡◌, ℕ, List, [], ◌∷◌, Option, Some,
 use Rattle.brief_text.specs.declared.syntax.Lengths.{Lengths}
 use Rattle.brief_text.specs.Drafts.{Draft}
 use Rattle.brief_text.specs.Fitting.{Says}
-use Rattle.brief_text.specs.Grammar.{Phrase, one, SpellsName, SpellsAs, SpellsTo, SpellsData, SpellsExcepted, SpellsValues, SpellsChoice, SpellsMade, SpellsOften, SpellsFrame, SpellsBytes, SpellsNext, SpellsRefused, SpellsNames, SpellsItem, SpellsItems, Spells}
-use Rattle.brief_text.specs.Trees.{Said, spelled, named, Times, times, ranged, BriefFrame, write_to, read_from, BriefBytes, data_byte, made_byte, no_more, Made, header, packet_code, checksum, Choice, span, all_but, chosen, BriefTail, stop_here, go_on, BriefItem, device, byte, message, controller, extend, interrupt, never_both}
+use Rattle.brief_text.specs.Grammar.{Phrase, one, SpellsName, SpellsAs, SpellsTo, SpellsData, SpellsExcepted, SpellsValues, SpellsChoice, SpellsMade, SpellsOften, SpellsFrame, SpellsBytes, SpellsNext, SpellsRefused, SpellsNames, SpellsSome, SpellsItem, SpellsItems, Spells}
+use Rattle.brief_text.specs.Trees.{Said, spelled, named, Times, times, ranged, BriefFrame, write_to, read_from, BriefBytes, data_byte, made_byte, no_more, Made, header, packet_code, checksum, Choice, span, all_but, chosen, BriefTail, stop_here, go_on, BriefItem, device, byte, device_group, message, controller, extend, interrupt, never_both}
 use Rattle.brief_text.specs.Words.{address_by, data_by, known_byte_by, repetition_by, so_often, from_to, side_by}
 use Rattle.brief_tokens.specs.Tokens.{Token, Tokens, next, last}
 use Rattle.layout.specs.SameWords.{SameWords}
@@ -92,10 +92,15 @@ names_respect : (names : List (List ℕ)) → Keeps (SpellsNames names)
 names_respect [] = nothing_respects
 names_respect (name ∷ names) = name_respects name >> names_respect names
 
+some_respect : (names : List (List ℕ)) → Keeps (SpellsSome names)
+some_respect [] = record { over = λ from to other s same. absurd s; ends = λ from to s. absurd s }
+some_respect (name ∷ names) = name_respects name >> names_respect names
+
 module _ (letters : Letters) where
   item_respects : (item : BriefItem) → Keeps (SpellsItem letters item)
   item_respects (device name address) = token _ >> name_respects name >> as_respects address_by address >> token _
   item_respects (byte name bits) = token _ >> name_respects name >> as_respects data_by bits >> token _
+  item_respects (device_group name devices) = token _ >> name_respects name >> some_respect devices >> token _
   item_respects (message name range frame) = token _ >> name_respects name >> frame_respects range frame >> token _
   item_respects (controller name messages) = token _ >> name_respects name >> names_respect messages >> token _
   item_respects (extend name messages) = token _ >> name_respects name >> names_respect messages >> token _

@@ -9,6 +9,7 @@ pub mod BriefWords
 pub mod SameMeanings
 pub mod SeveralLemmas
 pub mod SoundDrafts
+pub mod Standings
 pub mod Extensions
 pub mod PartLemmas
 pub mod Families

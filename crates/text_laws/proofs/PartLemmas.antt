@@ -1,11 +1,11 @@
 -- Each message that a controller lists is in exactly one of its parts; the parts of a sound draft.
-use Rattle.std.proofs.Common.{◌≡◌, ℕ, ◌⊎◌, inl, inr, ◌&&◌, Bool, true, false, not, cond, List, [], ◌∷◌, map, Option, Some, None, refl, ap, sym, ◌∙◌, subst, arith, true≢false, ◌+◌, length}
+use Rattle.std.proofs.Common.{◌≡◌, ℕ, ◌⊎◌, inl, inr, ◌&&◌, ◌||◌, Bool, true, false, not, cond, List, [], ◌∷◌, map, Option, Some, None, refl, ap, sym, ◌∙◌, subst, arith, true≢false, ◌+◌, length}
 use Rattle.std.proofs.lemmas.Grind.{common_steps}
 use Rattle.std.specs.List.{list_any, filter, flat_map, count_by, sum_by}
 use Rattle.std.specs.Str.{bytes_eq}
 use Rattle.plan_core.proofs.BuildingLemmas.{bytes_eq-same, same-bytes_eq}
-use Rattle.brief_text.specs.Drafts.{Draft, stands_for, members_or}
-use Rattle.brief_text.specs.Splitting.{Part, label_messages, is_label, is_in_part, label_part, rest_part, sends_any, part_name, side_name, whole, split_by, labels_of, parts_of, parts}
+use Rattle.brief_text.specs.Drafts.{Draft, stands_for, stands_alone_for, names_made}
+use Rattle.brief_text.specs.Splitting.{Part, label_messages, label_names, is_of_labelled, is_of_device, is_label, is_in_part, label_part, rest_part, sends_any, part_name, side_name, whole, split_by, labels_of, parts_of, parts}
 use Rattle.brief_text.specs.Trees.{Side}
 use Rattle.text_laws.specs.Sendings.{sends}
 use Rattle.text_laws.proofs.Membership.{In, Distinct, any_in, in_any, in_filter, from_filter, in_flat, from_flat, holds, holds_in, in_holds, is_false, not_both, true_or_false, AtMostOne, count_none, count_one, count-cons, distinct_both, in_map, from_map, distinct_filter, distinct_from_map, distinct_kept, distinct_one}
@@ -13,8 +13,8 @@ use Rattle.std.specs.Map.{keys_of}
 use Rattle.std.proofs.lemmas.List.{map-append}
 use Rattle.std.proofs.lemmas.List.Sums.{sum_by-cons, sum_by-append}
 use Rattle.plan_core.specs.Names.{IsName}
-use Rattle.brief_text.specs.declared.syntax.Lengths.{Lengths}
-use Rattle.text_laws.proofs.SoundDrafts.{Sound, ListSound, family_of}
+use Rattle.text_laws.proofs.SoundDrafts.{Sound, ListSound}
+use Rattle.text_laws.proofs.Standings.{known_plain, head_known, stands_plain, makes_none, message_plain, is_plain, nested}
 
 -- ---- what holds of labels of one controller
 
@@ -26,10 +26,13 @@ pub record Several (draft : Draft) (labels : List Side) : Type 0 where
 
 -- what the labels say of a message
 module _ (draft : Draft) (labels : List Side) (m : List ℕ) (several : Several draft labels)
-    -- the message is no family
+    -- the message is no family, and makes no names
     (plain : stands_for draft m ≡ m ∷ [])
-    -- and it is in one family at most
-    (one : (a b : List ℕ) → In m (stands_for draft a) → In m (stands_for draft b) → (m ≡ a) ⊎ ((m ≡ b) ⊎ (a ≡ b))) where
+    (none_made : names_made draft m ≡ [])
+    -- two names that stand for it: it is one of them, or they are one, or one makes the other
+    (one : (a b : List ℕ) → In m (stands_for draft a) → In m (stands_for draft b) → (m ≡ a) ⊎ ((m ≡ b) ⊎ ((a ≡ b) ⊎ (In b (names_made draft a) ⊎ In a (names_made draft b)))))
+    -- what is made stands for what it stands for alone, and makes no names
+    (head : (a h : List ℕ) → In h (names_made draft a) → (stands_for draft h ≡ stands_alone_for draft h) × (names_made draft h ≡ [])) where
   labelled_by : (s : Side) → is_label m s ≡ true → s.label ≡ Some m
   labelled_by s h = by s.label refl h
     where
@@ -40,6 +43,14 @@ module _ (draft : Draft) (labels : List Side) (m : List ℕ) (several : Several 
   -- the messages of a label
   by_label : (s : Side) (label : List ℕ) → s.label ≡ Some label → label_messages draft s ≡ stands_for draft label
   by_label s label e = ap (λ (o : Option (List ℕ)). elim o [ None ↦ [] | Some l ↦ stands_for draft l ]) e
+
+  -- the names that it makes
+  names_by : (s : Side) (label : List ℕ) → s.label ≡ Some label → label_names draft s ≡ names_made draft label
+  names_by s label e = ap (λ (o : Option (List ℕ)). elim o [ None ↦ [] | Some l ↦ names_made draft l ]) e
+
+  -- a label that makes no names leaves all to itself
+  none_of_device : (s : Side) (label : List ℕ) → s.label ≡ Some label → names_made draft label ≡ [] → is_of_device draft labels s m ≡ false
+  none_of_device s label e none = ap (list_any (is_of_labelled draft labels m)) (names_by s label e ∙ none)
 
   own : (s : Side) → is_label m s ≡ true → In m (label_messages draft s)
   own s h = subst (λ (names : List (List ℕ)). In m names) (sym (by_label s m (labelled_by s h) ∙ plain)) (inl refl)
@@ -60,20 +71,92 @@ module _ (draft : Draft) (labels : List Side) (m : List ℕ) (several : Several 
     not_own : (s : Side) → In s labels → s.label ≡ Some m → ⊥
     not_own s h e = not_both has_own (in_any (is_label m) labels s h (ap (λ (o : Option (List ℕ)). elim o [ None ↦ false | Some label ↦ bytes_eq label m ]) e ∙ bytes_eq-same m m refl)) none_own
 
-    there_is : (s : Side) → there s ≡ holds m (label_messages draft s)
-    there_is s = grind (arith, common_steps)
+    there_is : (s : Side) → there s ≡ (holds m (label_messages draft s) && not (is_of_device draft labels s m))
+    there_is s = by (is_label m s)
+      where
+        by : (b : Bool) → (holds m (label_messages draft s) && ((b || not has_own) && not (is_of_device draft labels s m))) ≡ (holds m (label_messages draft s) && not (is_of_device draft labels s m))
+        by b = grind (arith, common_steps)
 
-    same_family : (s t : Side) → In s labels → In t labels → holds m (label_messages draft s) ≡ true → holds m (label_messages draft t) ≡ true → s ≡ t
-    same_family s t at other h g = grind (arith, common_steps, several.each, by_label, holds_in, not_own, several.same)
+    is_named : (s : Side) (label : List ℕ) → s.label ≡ Some label → is_label label s ≡ true
+    is_named s label e = ap (λ (o : Option (List ℕ)). elim o [ None ↦ false | Some l ↦ bytes_eq l label ]) e ∙ bytes_eq-same label label refl
+
+    -- where a label makes the other one, its part does not have the message
+    of_device : (s t : Side) (a b : List ℕ) → s.label ≡ Some a → In t labels → t.label ≡ Some b → In b (names_made draft a) → In m (stands_for draft b) → is_of_device draft labels s m ≡ true
+    of_device s t a b e other f made inside =
+        let alone = subst (λ (names : List (List ℕ)). In m names) (head a b made).0 inside in
+        in_any (is_of_labelled draft labels m) (label_names draft s) b (subst (λ (names : List (List ℕ)). In b names) (sym (names_by s a e)) made)
+        (both (in_any (is_label b) labels t other (is_named t b f)) (in_holds m (stands_alone_for draft b) alone))
+      where
+        both : {x y : Bool} → x ≡ true → y ≡ true → (x && y) ≡ true
+        both g h = rw (g, h) refl
+
+    same_family : (s t : Side) → In s labels → In t labels → there s ≡ true → there t ≡ true → s ≡ t
+    same_family s t at other h g =
+        let a = several.each s at in
+        let b = several.each t other in
+        let x = parted (holds m (label_messages draft s)) (is_of_device draft labels s m) (sym (there_is s) ∙ h) in
+        let y = parted (holds m (label_messages draft t)) (is_of_device draft labels t m) (sym (there_is t) ∙ g) in
+        let here = subst (λ (names : List (List ℕ)). In m names) (by_label s a.0 a.1) (holds_in m (label_messages draft s) x.0) in
+        let also = subst (λ (names : List (List ℕ)). In m names) (by_label t b.0 b.1) (holds_in m (label_messages draft t) y.0) in
+        by a.0 b.0 a.1 b.1 here also x.1 y.1 (one a.0 b.0 here also)
+      where
+        parted : (p q : Bool) → (p && not q) ≡ true → (p ≡ true) × (q ≡ false)
+        parted true false e = (refl, refl)
+        parted true true e = absurd cc
+        parted false q e = absurd cc
+
+        by : (a b : List ℕ) → s.label ≡ Some a → t.label ≡ Some b → In m (stands_for draft a) → In m (stands_for draft b) → is_of_device draft labels s m ≡ false → is_of_device draft labels t m ≡ false
+            → (m ≡ a) ⊎ ((m ≡ b) ⊎ ((a ≡ b) ⊎ (In b (names_made draft a) ⊎ In a (names_made draft b)))) → s ≡ t
+        by a b e f i j x y (inl same) = absurd (not_own s at (e ∙ ap (λ (n : List ℕ). Some n) (sym same)))
+        by a b e f i j x y (inr (inl same)) = absurd (not_own t other (f ∙ ap (λ (n : List ℕ). Some n) (sym same)))
+        by a b e f i j x y (inr (inr (inl same))) = several.same s t at other (e ∙ ap (λ (n : List ℕ). Some n) same ∙ sym f)
+        by a b e f i j x y (inr (inr (inr (inl made)))) = absurd (not_both (is_of_device draft labels s m) (of_device s t a b e other f made j) x)
+        by a b e f i j x y (inr (inr (inr (inr made)))) = absurd (not_both (is_of_device draft labels t m) (of_device t s b a f at e made i) y)
+
+    -- a label that stands for the message has it in its part, or one of a device has
+    some_there : (s : Side) → In s labels → In m (label_messages draft s) → list_any there labels ≡ true
+    some_there s at inside = by (true_or_false (is_of_device draft labels s m))
+      where
+        holding : holds m (label_messages draft s) ≡ true
+        holding = in_holds m (label_messages draft s) inside
+
+        by : (is_of_device draft labels s m ≡ true) ⊎ (is_of_device draft labels s m ≡ false) → list_any there labels ≡ true
+        by (inr none) = in_any there labels s at (there_is s ∙ rw (holding, none) refl)
+        by (inl some) =
+            let a = several.each s at in
+            let h = any_in (is_of_labelled draft labels m) (label_names draft s) some in
+            let tests = both_parts (list_any (is_label h.0) labels) (holds m (stands_alone_for draft h.0)) h.2 in
+            let t = any_in (is_label h.0) labels tests.0 in
+            let made = subst (λ (names : List (List ℕ)). In h.0 names) (names_by s a.0 a.1) h.1 in
+            let named = label_of t.0 h.0 t.2 in
+            let plain = head a.0 h.0 made in
+            let there_too = subst (λ (names : List (List ℕ)). In m names) (sym (by_label t.0 h.0 named ∙ plain.0)) (holds_in m (stands_alone_for draft h.0) tests.1) in
+            in_any there labels t.0 t.1 (there_is t.0 ∙ rw (in_holds m (label_messages draft t.0) there_too, none_of_device t.0 h.0 named plain.1) refl)
+          where
+            both_parts : (p q : Bool) → (p && q) ≡ true → (p ≡ true) × (q ≡ true)
+            both_parts true true e = (refl, refl)
+            both_parts true false e = absurd cc
+            both_parts false q e = absurd cc
+
+            label_of : (t : Side) (n : List ℕ) → is_label n t ≡ true → t.label ≡ Some n
+            label_of t n h = option_of t.label refl h
+              where
+                option_of : (o : Option (List ℕ)) → t.label ≡ o → (elim o [ None ↦ false | Some label ↦ bytes_eq label n ]) ≡ true → t.label ≡ Some n
+                option_of None e g = absurd (true≢false (sym g))
+                option_of (Some label) e g = e ∙ ap (λ (x : List ℕ). Some x) (same-bytes_eq label n g)
 
     few_there : (sides : List Side) → ((s : Side) → In s sides → In s labels) → Distinct sides → AtMostOne there sides
     few_there [] within once = tt
-    few_there (s ∷ sides) within once = grind (arith, common_steps, is_false, any_in, same_family, there_is, (few_there sides))
+    few_there (s ∷ sides) within once = grind (arith, common_steps, is_false, any_in, same_family, (few_there sides))
 
   -- where one is
   module _ (some_own : has_own ≡ true) where
     there_own : (s : Side) → there s ≡ is_label m s
-    there_own s = grind (arith, common_steps, in_holds, own)
+    there_own s = by (is_label m s) refl
+      where
+        by : (b : Bool) → is_label m s ≡ b → (holds m (label_messages draft s) && ((b || not has_own) && not (is_of_device draft labels s m))) ≡ b
+        by true e = rw (in_holds m (label_messages draft s) (own s e), none_of_device s m (labelled_by s e) none_made) refl
+        by false e = grind (arith, common_steps)
 
     agree : (sides : List Side) → count_by there sides ≡ count_by (is_label m) sides
     agree [] = refl
@@ -100,7 +183,8 @@ module _ (draft : Draft) (labels : List Side) (m : List ℕ) (several : Several 
           either f.0 f.1 f.2 (true_or_false has_own)
         where
           either : (s : Side) → In s labels → In m (label_messages draft s) → (has_own ≡ true) ⊎ (has_own ≡ false) → list_any there labels ≡ true
-          either s e f g = grind (arith, common_steps, any_in, in_any, there_own, there_is, in_holds)
+          either s e f (inl g) = let t = any_in (is_label m) labels g in in_any there labels t.0 t.1 (there_own g t.0 ∙ t.2)
+          either s e f (inr g) = some_there g s e f
 
       by : (a b : Bool) → list_any there labels ≡ a → holds m (flat_map (label_messages draft) labels) ≡ b → a ≡ not (not b)
       by a b e f = grind (arith, common_steps, first, second)
@@ -137,22 +221,11 @@ one_side s t e f = λ i. record { controller = e i; label = f i }
 module _ (draft : Draft) (sound : Sound draft) where
   -- ---- messages that are listed
 
-  -- a message is no family
-  pub is_plain : (m : List ℕ) → In m (keys_of draft.plan.messages) → stands_for draft m ≡ m ∷ []
-  is_plain m h = grind (arith, common_steps, sound.families.apart)
-
-  -- and in one family at most
-  pub in_one : (m a b : List ℕ) → In m (stands_for draft a) → In m (stands_for draft b) → (m ≡ a) ⊎ ((m ≡ b) ⊎ (a ≡ b))
-  in_one m a b h g = by (family_of a draft.families) (family_of b draft.families) refl refl h g
-    where
-      single : (x : List ℕ) → In m (x ∷ []) → m ≡ x
-      single x (inl e) = e
-      single x (inr k) = absurd k
-
-      by : (o p : Option Lengths) → family_of a draft.families ≡ o → family_of b draft.families ≡ p → In m (members_or a o) → In m (members_or b p) → (m ≡ a) ⊎ ((m ≡ b) ⊎ (a ≡ b))
-      by None p e f i j = inl (single a i)
-      by (Some r) None e f i j = inr (inl (single b j))
-      by (Some r) (Some s) e f i j = inr (inr (sound.families.one m a b r s e f i j))
+  -- what is made by a group
+  heads : (a h : List ℕ) → In h (names_made draft a) → (stands_for draft h ≡ stands_alone_for draft h) × (names_made draft h ≡ [])
+  heads a h i =
+      let plain = known_plain draft sound h (head_known draft sound a h i) in
+      (stands_plain draft sound h plain, makes_none draft sound h plain)
 
   pub labels_within : (controller : List ℕ) (s : Side) → In s (labels_of draft controller) → In s draft.labels × (s.controller ≡ controller)
   labels_within controller s h = let f = from_filter (λ (side : Side). bytes_eq side.controller controller) draft.labels s h in (f.0, same-bytes_eq s.controller controller f.1)
@@ -173,7 +246,7 @@ module _ (draft : Draft) (sound : Sound draft) where
       where
         by : (labels : List Side) → Several draft labels → count_by (sends m) (split_by draft labels c.0 c.1) ≡ 1
         by [] s = count-cons (sends m) (record { side = whole c.0; messages = c.1 }) [] ∙ ap (λ (b : Bool). cond b 1 0 + 0) (in_holds m c.1 lists)
-        by (side ∷ sides) s = kept m (rest_part draft (side ∷ sides) c.1 c.0 ∷ map (label_part draft (side ∷ sides) c.1) (side ∷ sides)) ∙ all_parts draft (side ∷ sides) m s (is_plain m (known m lists)) (in_one m) c.0 c.1 lists
+        by (side ∷ sides) s = kept m (rest_part draft (side ∷ sides) c.1 c.0 ∷ map (label_part draft (side ∷ sides) c.1) (side ∷ sides)) ∙ all_parts draft (side ∷ sides) m s (is_plain draft sound m (known m lists)) (makes_none draft sound m (message_plain draft sound m (known m lists))) (nested draft sound m) heads c.0 c.1 lists
 
     -- ---- sizes
 
@@ -200,7 +273,7 @@ module _ (draft : Draft) (sound : Sound draft) where
           let rest = sizes xs (λ m h. within m (inr h)) in
           let here = size-cons unnamed x xs in
           let more = sizes-cons labels x xs in
-          let one = count_there draft labels x s (is_plain x (known x (within x (inl refl)))) (in_one x) in
+          let one = count_there draft labels x s (is_plain draft sound x (known x (within x (inl refl)))) (makes_none draft sound x (message_plain draft sound x (known x (within x (inl refl))))) (nested draft sound x) heads in
           let split = either (unnamed x) in
           omega (arith, rest, here, more, one, split)
         where

@@ -32,6 +32,23 @@ pub record FamiliesSound (messages : Messages) (families : FamilyList) : Type 0 
   pub known : (m a : List ℕ) (r : Lengths) → family_of a families ≡ Some r → In m (members a r) → In m (keys_of messages)
   pub once : (a : List ℕ) (r : Lengths) → family_of a families ≡ Some r → Distinct (members a r)
 
+abbrev pub grouped_of : List ℕ → Listings → Option (List (List ℕ))
+grouped_of name grouped = lookup (bytes_eq name) grouped
+
+-- a family, or a message
+abbrev pub Known : Messages → FamilyList → List ℕ → Type 0
+Known messages families name = ((range : Lengths) × (family_of name families ≡ Some range)) ⊎ In name (keys_of messages)
+
+-- what has a group is no message and no family; the names that it makes are, each once and for it alone, and none of them is a member of
+-- a family
+pub record GroupedSound (messages : Messages) (families : FamilyList) (grouped : Listings) : Type 0 where
+  pub no_message : (a : List ℕ) (names : List (List ℕ)) → grouped_of a grouped ≡ Some names → In a (keys_of messages) → ⊥
+  pub no_family : (a : List ℕ) (names : List (List ℕ)) → grouped_of a grouped ≡ Some names → family_of a families ≡ None
+  pub known : (a h : List ℕ) (names : List (List ℕ)) → grouped_of a grouped ≡ Some names → In h names → Known messages families h
+  pub once : (a : List ℕ) (names : List (List ℕ)) → grouped_of a grouped ≡ Some names → Distinct names
+  pub one : (h a b : List ℕ) (names more : List (List ℕ)) → grouped_of a grouped ≡ Some names → grouped_of b grouped ≡ Some more → In h names → In h more → a ≡ b
+  pub loose : (h a b : List ℕ) (names : List (List ℕ)) (r : Lengths) → grouped_of a grouped ≡ Some names → family_of b families ≡ Some r → In h names → In h (members b r) → ⊥
+
 -- messages, each once
 pub record ListSound (messages : Messages) (names : List (List ℕ)) : Type 0 where
   pub once : Distinct names
@@ -43,18 +60,22 @@ pub record ControllersSound (messages : Messages) (controllers : Listings) : Typ
   pub listed : (c : List ℕ × List (List ℕ)) → In c controllers → ListSound messages c.1
   pub few : sum_by (λ c. length c.1) controllers ≤ MOST_SENDINGS
 
--- what a label stands for is a family or a message
-pub record LabelSound (messages : Messages) (families : FamilyList) (keys : List (List ℕ)) (side : Side) : Type 0 where
+-- what has a group, a family or a message
+abbrev pub Labels : Messages → FamilyList → Listings → List ℕ → Type 0
+Labels messages families grouped name = ((names : List (List ℕ)) × (grouped_of name grouped ≡ Some names)) ⊎ Known messages families name
+
+-- what a label stands for is one of these
+pub record LabelSound (messages : Messages) (families : FamilyList) (grouped : Listings) (keys : List (List ℕ)) (side : Side) : Type 0 where
   pub named : IsName (side_name side)
   pub new : In (side_name side) keys → ⊥
   pub label : List ℕ
   pub is : side.label ≡ Some label
-  pub known : ((range : Lengths) × (family_of label families ≡ Some range)) ⊎ In label (keys_of messages)
+  pub known : Labels messages families grouped label
   pub owned : In side.controller keys
 
-pub record LabelsSound (messages : Messages) (families : FamilyList) (keys : List (List ℕ)) (labels : List Side) : Type 0 where
+pub record LabelsSound (messages : Messages) (families : FamilyList) (grouped : Listings) (keys : List (List ℕ)) (labels : List Side) : Type 0 where
   pub once : Distinct (map side_name labels)
-  pub each : (side : Side) → In side labels → LabelSound messages families keys side
+  pub each : (side : Side) → In side labels → LabelSound messages families grouped keys side
 
 -- a side of a `never` is a controller, or has a label that was named
 abbrev pub SideSound : List (List ℕ) → List Side → Side → Type 0
@@ -65,7 +86,9 @@ pub record Sound (draft : Draft) : Type 0 where
   pub no_controllers : draft.plan.controllers ≡ []
   pub no_nevers : draft.plan.nevers ≡ []
   pub families : FamiliesSound draft.plan.messages draft.families
+  pub grouped : GroupedSound draft.plan.messages draft.families draft.grouped
+  pub devices : (a d : List ℕ) (names : List (List ℕ)) → grouped_of a draft.groups ≡ Some names → In d names → IsName d
   pub controllers : ControllersSound draft.plan.messages draft.controllers
-  pub labels : LabelsSound draft.plan.messages draft.families (keys_of draft.controllers) draft.labels
+  pub labels : LabelsSound draft.plan.messages draft.families draft.grouped (keys_of draft.controllers) draft.labels
   pub few_parts : length (parts draft) ≤ MOST_CONTROLLERS
   pub nevers : (never : Side × Side) → In never draft.nevers → SideSound (keys_of draft.controllers) draft.labels never.0 × SideSound (keys_of draft.controllers) draft.labels never.1

@@ -20,19 +20,21 @@ use Rattle.plan_core.specs.declared.builder.BuildError.TheVariants.{Twice, Unkno
 use Rattle.plan_core.specs.declared.limits.TheConstants.{MOST_CONTROLLERS, MOST_SENDINGS}
 use Rattle.plan_core.proofs.BuildingLemmas.{passes, same-bytes_eq, limits-interrupt}
 use Rattle.brief_text.specs.declared.syntax.Lengths.{Lengths}
-use Rattle.brief_text.specs.Drafts.{Draft, members_or, stands_for, extended, address_said, number_said, same_label, same_side, is_new_label, with_label, with_item, no_items}
+use Rattle.brief_text.specs.Drafts.{Draft, stands_for, extended, address_said, number_said, same_label, same_side, is_new_label, with_label, with_item, no_items}
 use Rattle.brief_text.specs.Fitting.{ListFits, Fits, MakeUp, frame_ranges, bytes_ranges, tail_ranges, often_ranges, made_ranges}
+use Rattle.brief_text.specs.Items.{listed_refusal}
 use Rattle.brief_text.specs.Judging.{is_family, is_message, taken_names, is_taken, controller_refusal_of, extend_refusal_of, is_labelled, is_side_of, listed_by, all_of, have_one_of, sendings, listing_refusal, is_side, part_refusal, first_refusal, second_refusal}
 use Rattle.brief_text.specs.Splitting.{side_name, labels_of, parts_of, parts}
-use Rattle.brief_text.specs.Trees.{Side, device, byte, controller, extend, interrupt, never_both, Said, Times, BriefFrame, write_to, read_from, BriefBytes, data_byte, made_byte, no_more, BriefTail, stop_here, go_on, Made, header, packet_code, checksum, chosen, BriefItem, message}
+use Rattle.brief_text.specs.Trees.{Side, device, byte, device_group, controller, extend, interrupt, never_both, Said, Times, BriefFrame, write_to, read_from, BriefBytes, data_byte, made_byte, no_more, BriefTail, stop_here, go_on, Made, header, packet_code, checksum, chosen, BriefItem, message}
 use Rattle.brief_text.specs.Words.{known_number, is_range, is_further_word, is_brief_name, is_no_slash, halves_at, around_slash, whole_side, label_side, side_from, side_by}
-use Rattle.text_laws.proofs.EntryNames.{has_name_in, keys_both, in_keys_left, in_keys_either, lookup_in}
+use Rattle.text_laws.proofs.EntryNames.{has_name_in, keys_both, in_keys_left, in_keys_either, lookup_in, lookup_last}
 use Rattle.text_laws.proofs.Membership.{In, Distinct, in_left, in_right, in_either, in_last, distinct_both, distinct_push, in_map, any_in, in_any, is_false, not_both, true_or_false, or_either, or_neither, in_among, holds, holds_in, in_holds}
 use Rattle.text_laws.proofs.Extensions.{extended_keys, extended_in, extended_sum, extended_parts, same_parts_of, none_where, one_part_of}
-use Rattle.text_laws.proofs.SoundDrafts.{Listings, family_of, ListSound, LabelSound, SideSound, Sound}
+use Rattle.text_laws.proofs.SoundDrafts.{Listings, family_of, grouped_of, Labels, ListSound, LabelSound, SideSound, Sound}
+use Rattle.text_laws.proofs.Standings.{Alone, alone_cases, made_by, Stands, stands_cases, stands_once, stands_known}
 use Rattle.text_laws.proofs.PartLemmas.{one_side}
 use Rattle.plan_core.proofs.ContentsLemmas.{empty_within}
-use Rattle.brief_text.specs.Grammar.{SpellsFrame, SpellsBytes, SpellsNext, SpellsRefused, SpellsMade, SpellsOften, SpellsItem, SpellsItems}
+use Rattle.brief_text.specs.Grammar.{SpellsFrame, SpellsBytes, SpellsNext, SpellsRefused, SpellsMade, SpellsOften, SpellsNames, SpellsSome, SpellsItem, SpellsItems}
 use Rattle.brief_text.proofs.BlockLemmas.{choice_range}
 use Rattle.brief_text.proofs.TakesLemmas.{le_from}
 use Rattle.lexer.specs.declared.lexemes.Letters.{Letters}
@@ -81,34 +83,53 @@ pub sound_byte : (draft : Draft) (name : List ℕ) (bits : Pattern) → Sound dr
 unfolding with_item parts
 sound_byte draft name bits sound = grind (arith, common_steps)
 
+all_named : (names : List (List ℕ)) (from to : Tokens) → SpellsNames names from to → (d : List ℕ) → In d names → IsName d
+all_named [] from to s d h = absurd h
+all_named (n ∷ names) from to s d (inl e) = subst IsName (sym e) s.1.1
+all_named (n ∷ names) from to s d (inr h) = all_named names s.0 to s.2 d h
+
+some_named : (names : List (List ℕ)) (from to : Tokens) → SpellsSome names from to → (d : List ℕ) → In d names → IsName d
+some_named [] from to s d h = absurd s
+some_named (n ∷ names) from to s d (inl e) = subst IsName (sym e) s.1.1
+some_named (n ∷ names) from to s d (inr h) = all_named names s.0 to s.2 d h
+
+pub sound_group : (draft : Draft) (name : List ℕ) (devices : List (List ℕ)) → Sound draft → ((d : List ℕ) → In d devices → IsName d) → Sound (with_item draft (device_group name devices))
+unfolding with_item parts
+sound_group draft name devices sound named = record {
+  limits = sound.limits;
+  no_controllers = sound.no_controllers;
+  no_nevers = sound.no_nevers;
+  families = sound.families;
+  grouped = sound.grouped;
+  devices = λ a d names e h. elim (lookup_last a draft.groups name devices names e) [ inl f ↦ sound.devices a d names f h | inr f ↦ named d (subst (λ (them : List (List ℕ)). In d them) (sym f.1) h) ];
+  controllers = sound.controllers;
+  labels = sound.labels;
+  few_parts = sound.few_parts;
+  nevers = sound.nevers;
+}
+
 -- ---- controllers
 
 module _ (draft : Draft) (sound : Sound draft) where
-  -- what a name stands for, where it may be listed
-  stands_once : (name : List ℕ) → Distinct (stands_for draft name)
-  stands_once name = grind (arith, common_steps, sound.families.once)
-
-  stands_known : (name : List ℕ) → is_message draft name ≡ true → (m : List ℕ) → In m (stands_for draft name) → In m (keys_of draft.plan.messages)
-  stands_known name known m h = by (family_of name draft.families) refl h
+  -- what is a message or a family stands for messages
+  listed_known : (name : List ℕ) → is_message draft name ≡ true → Labels draft.plan.messages draft.families draft.grouped name
+  listed_known name known = by (or_either (is_family draft name) (has_name name draft.plan.messages) known)
     where
-      message : family_of name draft.families ≡ None → In name (keys_of draft.plan.messages)
-      message e = either (or_either (is_family draft name) (has_name name draft.plan.messages) known)
-        where
-          either : (is_family draft name ≡ true) ⊎ (has_name name draft.plan.messages ≡ true) → In name (keys_of draft.plan.messages)
-          either (inl f) = absurd (true≢false (sym f ∙ ap is_some e))
-          either (inr g) = has_name_in name draft.plan.messages g
+      family : (o : Option Lengths) (p : Option (List (List ℕ))) → family_of name draft.families ≡ o → grouped_of name draft.grouped ≡ p → (is_some o || is_some p) ≡ true → Labels draft.plan.messages draft.families draft.grouped name
+      family (Some r) p e f g = inr (inl (r, e))
+      family None (Some names) e f g = inl (names, f)
+      family None None e f g = absurd (true≢false (sym g))
 
-      by : (o : Option Lengths) → family_of name draft.families ≡ o → In m (members_or name o) → In m (keys_of draft.plan.messages)
-      by None e (inl same) = subst (λ (x : List ℕ). In x (keys_of draft.plan.messages)) (sym same) (message e)
-      by None e (inr k) = absurd k
-      by (Some r) e g = sound.families.known m name r e g
+      by : (is_family draft name ≡ true) ⊎ (has_name name draft.plan.messages ≡ true) → Labels draft.plan.messages draft.families draft.grouped name
+      by (inl f) = family (family_of name draft.families) (grouped_of name draft.grouped) refl refl f
+      by (inr g) = inr (inr (has_name_in name draft.plan.messages g))
 
   -- these are listed after those that the controller has already
   record Listing (has names : List (List ℕ)) : Type 0 where
     whole : ListSound draft.plan.messages (has ++ names)
     room : sendings draft + length names ≤ MOST_SENDINGS
 
-  listed_on : (has before names : List (List ℕ)) → ListFits draft has before names → Listing has (all_of draft before) → Listing has (all_of draft (before ++ names))
+  listed_on : (has before names : List (List ℕ)) → ListFits (listed_refusal draft has) before names → Listing has (all_of draft before) → Listing has (all_of draft (before ++ names))
   unfolding listing_refusal
   listed_on has before [] fits so_far = subst (λ (ns : List (List ℕ)). Listing has (all_of draft ns)) (sym (append-nil before)) so_far
   listed_on has before (name ∷ names) fits so_far =
@@ -124,8 +145,8 @@ module _ (draft : Draft) (sound : Sound draft) where
       let fresh : (m : List ℕ) → In m (has ++ listed) → In m (stands_for draft name) → ⊥ = λ m h g.
       elim (in_either m has listed h) [ inl a ↦ fresh_of has m neither.0 a g | inr b ↦ fresh_of listed m neither.1 b g ] in
       let both : ListSound draft.plan.messages ((has ++ listed) ++ stands_for draft name) = record {
-        once = distinct_both (has ++ listed) (stands_for draft name) so_far.whole.once (stands_once name) fresh;
-        known = λ m h. elim (in_either m (has ++ listed) (stands_for draft name) h) [ inl a ↦ so_far.whole.known m a | inr b ↦ stands_known name known m b ];
+        once = distinct_both (has ++ listed) (stands_for draft name) so_far.whole.once (stands_once draft sound name) fresh;
+        known = λ m h. elim (in_either m (has ++ listed) (stands_for draft name) h) [ inl a ↦ so_far.whole.known m a | inr b ↦ stands_known draft sound name (listed_known name known) m b ];
       } in
       let all : ListSound draft.plan.messages (has ++ (listed ++ stands_for draft name)) = subst (ListSound draft.plan.messages) (append_assoc has listed (stands_for draft name)) both in
       let size = length-append listed (stands_for draft name) in
@@ -188,6 +209,8 @@ module _ (draft : Draft) (sound : Sound draft) where
       no_controllers = sound.no_controllers;
       no_nevers = sound.no_nevers;
       families = sound.families;
+      grouped = sound.grouped;
+      devices = sound.devices;
       controllers = record {
         keys = subst Distinct (sym keys_are) (distinct_push (keys_of draft.controllers) name sound.controllers.keys no_key);
         named = λ n h. elim (key_cases n h) [ inl a ↦ sound.controllers.named n a | inr e ↦ subst IsName (sym e) is ];
@@ -276,6 +299,8 @@ module _ (draft : Draft) (sound : Sound draft) where
       no_controllers = sound.no_controllers;
       no_nevers = sound.no_nevers;
       families = sound.families;
+      grouped = sound.grouped;
+      devices = sound.devices;
       controllers = record {
         keys = subst Distinct (sym (extended_keys name added draft.controllers)) sound.controllers.keys;
         named = λ n h. sound.controllers.named n (longer_back n h);
@@ -319,17 +344,19 @@ module _ (draft : Draft) (sound : Sound draft) where
     owner : In side.controller (keys_of draft.controllers)
     owner = in_map (λ (c : List ℕ × List (List ℕ)). c.0) draft.controllers (side.controller, found.0) (lookup_in side.controller draft.controllers found.0 found.1)
 
-    label_known : (label : List ℕ) → side.label ≡ Some label → ((r : Lengths) × (family_of label draft.families ≡ Some r)) ⊎ In label (keys_of draft.plan.messages)
-    label_known label is = by (family_of label draft.families) refl
+    label_known : (label : List ℕ) → side.label ≡ Some label → Labels draft.plan.messages draft.families draft.grouped label
+    label_known label is =
+        let m = any_in (λ n. holds n found.0) (stands_for draft label) (found.2 label is) in
+        let at = lookup_in side.controller draft.controllers found.0 found.1 in
+        by m.0 ((sound.controllers.listed (side.controller, found.0) at).known m.0 (holds_in m.0 found.0 m.2)) (stands_cases draft sound m.0 label m.1)
       where
-        by : (o : Option Lengths) → family_of label draft.families ≡ o → ((r : Lengths) × (family_of label draft.families ≡ Some r)) ⊎ In label (keys_of draft.plan.messages)
-        by (Some r) e = inl (r, e)
-        by None e =
-            let m = any_in (λ n. holds n found.0) (stands_for draft label) (found.2 label is) in
-            let same = subst (λ (o : Option Lengths). In m.0 (members_or label o)) e m.1 in
-            let at = lookup_in side.controller draft.controllers found.0 found.1 in
-            let known = (sound.controllers.listed (side.controller, found.0) at).known m.0 (holds_in m.0 found.0 m.2) in
-            inr (elim same [ inl f ↦ subst (λ (x : List ℕ). In x (keys_of draft.plan.messages)) f known | inr k ↦ absurd k ])
+        alone : (m : List ℕ) → In m (keys_of draft.plan.messages) → Alone draft sound m label → Labels draft.plan.messages draft.families draft.grouped label
+        alone m known (inl e) = inr (inr (subst (λ (x : List ℕ). In x (keys_of draft.plan.messages)) e known))
+        alone m known (inr r) = inr (inl (r.0, r.1))
+
+        by : (m : List ℕ) → In m (keys_of draft.plan.messages) → Stands draft sound m label → Labels draft.plan.messages draft.families draft.grouped label
+        by m known (inl x) = alone m known (alone_cases draft sound m label x.1)
+        by m known (inr k) = let f = made_by draft sound label k.0 k.1 in inl (f.0, f.1)
 
     module _ (free : part_refusal draft side ≡ None) where
       sound_labelled : Sound (with_label draft side)
@@ -352,6 +379,8 @@ module _ (draft : Draft) (sound : Sound draft) where
                 no_controllers = sound.no_controllers;
                 no_nevers = sound.no_nevers;
                 families = sound.families;
+                grouped = sound.grouped;
+                devices = sound.devices;
                 controllers = sound.controllers;
                 labels = record {
                   once = subst Distinct (sym (map-append side_name draft.labels (side ∷ []))) (distinct_push (map side_name draft.labels) (side_name side) sound.labels.once (λ g. taken (in_right (side_name side) (keys_of draft.controllers) (map side_name draft.labels) g)));
@@ -367,9 +396,9 @@ module _ (draft : Draft) (sound : Sound draft) where
               kept : (s : Side) → (s.label ≡ None) ⊎ In s draft.labels → (s.label ≡ None) ⊎ In s (draft.labels ++ side ∷ [])
               kept s e = grind (arith, common_steps, in_left)
 
-              each : (s : Side) → In s draft.labels ⊎ In s (side ∷ []) → ((label : List ℕ) × (side.label ≡ Some label)) → (In (side_name side) (keys_of draft.controllers) → ⊥) → LabelSound draft.plan.messages draft.families (keys_of draft.controllers) s
+              each : (s : Side) → In s draft.labels ⊎ In s (side ∷ []) → ((label : List ℕ) × (side.label ≡ Some label)) → (In (side_name side) (keys_of draft.controllers) → ⊥) → LabelSound draft.plan.messages draft.families draft.grouped (keys_of draft.controllers) s
               each s (inl g) is new = sound.labels.each s g
-              each s (inr (inl same)) is new = subst (LabelSound draft.plan.messages draft.families (keys_of draft.controllers)) (sym same)
+              each s (inr (inl same)) is new = subst (LabelSound draft.plan.messages draft.families draft.grouped (keys_of draft.controllers)) (sym same)
                   (record { named = formed is.0 is.1; new = new; label = is.0; is = is.1; known = label_known is.0 is.1; owned = owner })
               each s (inr (inr k)) is new = absurd k
 
@@ -548,6 +577,7 @@ range_small range f from to s one = let none = λ (is : is_range range.least ran
 sound_item : (letters : Letters) (draft : Draft) (item : BriefItem) (from to : Tokens) → Sound draft → Fits draft item → SpellsItem letters item from to → Sound (with_item draft item)
 sound_item letters draft (device name address) from to sound fits s = sound_device draft name address sound
 sound_item letters draft (byte name bits) from to sound fits s = sound_byte draft name bits sound
+sound_item letters draft (device_group name devices) from to sound fits s = sound_group draft name devices sound (some_named devices s.2.0 s.2.2.0 s.2.2.1)
 sound_item letters draft (message name None frame) from to sound fits s = sound_message draft name None frame sound s.2.1.1 (λ r e. absurd cc) fits
 sound_item letters draft (message name (Some range) frame) from to sound fits s =
     let small = range_small range frame s.2.0 s.2.2.0 s.2.2.1 fits.ranges in

@@ -205,6 +205,133 @@ fn bytes_after_a_choice_follow_from_its_block() {
     }
 }
 
+// The lines of a plan that begin with this word, without that and the `;`.
+fn items(plan: &str, word: &str) -> String {
+    let lines = plan.lines().filter_map(|line| line.strip_prefix(word)?.strip_suffix(" ;"));
+    lines.map(str::trim).collect::<Vec<_>>().join("; ")
+}
+
+#[test]
+fn a_message_with_a_group_is_one_for_each_device() {
+    let devices = "device a 0x10 ; device b 0x1X ; device c 0x12 ; group g b a ;";
+    let stops = " stop else stop else stop";
+    let rows = [
+        ("m write g 0x01", format!("m_b write 0011xxx 00000001{stops}; m_a write 0010000 00000001{stops}")),
+        ("m write 0x20 wr(g)", format!("m_b write 0100000 0011xxx0{stops}; m_a write 0100000 00100000{stops}")),
+        ("m write 0x20 rd(g)", format!("m_b write 0100000 0011xxx1{stops}; m_a write 0100000 00100001{stops}")),
+        ("m write g sum", format!("m_b write 0011xxx xxxxxxxx{stops}; m_a write 0010000 11100000{stops}")),
+        (
+            "m read 0x20 1 else (write g)",
+            "m_b read 0100000 1 stop else again write 0011xxx stop else stop; \
+             m_a read 0100000 1 stop else again write 0010000 stop else stop"
+                .replace("  ", " "),
+        ),
+    ];
+    for (item, wanted) in rows {
+        let plan = expanded(&format!("brief 2 {devices} message {item} ;")).expect(item);
+        let wanted = wanted.replace("0011xxx", "001xxxx");
+        let wanted = wanted.split_whitespace().collect::<Vec<_>>().join(" ");
+        assert_eq!(items(&plan, "message"), wanted, "{item}");
+    }
+    let names = |item: &str| {
+        let plan = expanded(&format!("brief 2 {devices} {item}")).expect(item);
+        let names: Vec<&str> = plan.lines().skip(1).filter_map(|line| line.split(' ').nth(1)).collect();
+        names.join(" ")
+    };
+    for (item, wanted) in [
+        ("message m write g any*0..1 ;", "m_b_0 m_b_1 m_a_0 m_a_1"),
+        ("message m write c any*1..2 read g 1 ;", "m_b_1 m_b_2 m_a_1 m_a_2"),
+        ("message m write g any but 0x00 ;", "m_b_1 m_b_2 m_b_3 m_b_4 m_b_5 m_b_6 m_b_7 m_b_8 m_a_1 m_a_2 m_a_3 m_a_4 m_a_5 m_a_6 m_a_7 m_a_8"),
+        ("message m write g rd(g) else (read g 1) ;", "m_b m_a"),
+        ("group h c ; message m write h ; message n write g ;", "m_c n_b n_a"),
+    ] {
+        assert_eq!(names(item), wanted, "{item}");
+    }
+}
+
+// The plan of a board of two controllers with labels: its controllers, and its `never` items.
+#[test]
+fn messages_with_groups_have_labels() {
+    let board = "device a 0x10 ; device b 0x11 ; group g a b ; message m write g any*1..2 ; message n read g 1 ; \
+        message o read 0x20 1 ;";
+    for (items_of, controllers, nevers) in [
+        ("controller u m n ; controller v o ;", "u m_a_1 m_a_2 m_b_1 m_b_2 n_a n_b; v o", ""),
+        ("controller u m_b n_a ; controller v m_a_2 ;", "u m_b_1 m_b_2 n_a; v m_a_2", ""),
+        (
+            "controller u m o ; controller v o ; never u/m v ;",
+            "u o; u_m m_a_1 m_a_2 m_b_1 m_b_2; v o",
+            "u u_m; u_m v",
+        ),
+        (
+            "controller u m ; controller v o ; never u/m_b v ;",
+            "u m_a_1 m_a_2; u_m_b m_b_1 m_b_2; v o",
+            "u u_m_b; u_m_b v",
+        ),
+        (
+            "controller u m ; controller v o ; never u/m_b_1 v ; never u/m_b v ; never u/m v ;",
+            "u_m_b_1 m_b_1; u_m_b m_b_2; u_m m_a_1 m_a_2; v o",
+            "u_m_b_1 u_m_b; u_m_b_1 u_m; u_m_b u_m; u_m_b_1 v; u_m_b v; u_m v",
+        ),
+        (
+            "controller u m ; controller v o ; never v u/m ; never u/m_a_2 v ;",
+            "u_m m_a_1 m_b_1 m_b_2; u_m_a_2 m_a_2; v o",
+            "u_m u_m_a_2; v u_m; v u_m_a_2",
+        ),
+        (
+            "controller u n_a ; controller v o ; never u/n v ; never u/n_a v ;",
+            "u_n_a n_a; v o",
+            "u_n_a v",
+        ),
+        (
+            "controller u m_a_1 ; controller v o ; never u/m v/o ; never u/m_a v ;",
+            "u_m_a m_a_1; v_o o",
+            "u_m_a v_o",
+        ),
+    ] {
+        let plan = expanded(&format!("brief 2 {board} {items_of}")).expect(items_of);
+        assert_eq!(items(&plan, "controller"), controllers, "{items_of}");
+        assert_eq!(items(&plan, "never"), nevers, "{items_of}");
+    }
+}
+
+#[test]
+fn groups_are_refused_at_their_tokens() {
+    let board = "device a 0x10 ; device b 0x11 ; group g a b ; group h b ; message k read 0x20 1 ; message l write g ;";
+    for (item, wanted) in [
+        ("group\ng a ;", "P7 line 3"),
+        ("group\na b ;", "P7 line 3"),
+        ("group x\n;", "P3 line 3"),
+        ("group x a\na ;", "P7 line 3"),
+        ("group x a\ng ;", "P8 line 3"),
+        ("group x\nk ;", "P8 line 3"),
+        ("device\ng 0x30 ;", "P7 line 3"),
+        ("device\ngroup 0x30 ;", "P3 line 3"),
+        ("interrupt t\ng ;", "P3 line 3"),
+        ("message m write g write h\n;", "P3 line 3"),
+        ("message m write g write h any*255 any\n;", "P5 line 2"),
+        ("message m_b read 0x20 1 ; message m write g\n;", "P7 line 3"),
+        ("message m_b_2 read 0x20 1 ; message m write g any*1..2\n;", "P7 line 3"),
+        ("message m_2 read 0x20 1 ; message m write g any*1..\n2 ;", "P3 line 2"),
+        ("message m_2 read 0x20 1 ; message m write g any*\n1..2 ;", "P7 line 3"),
+        ("message m write g any*1..128\n;", "P6 line 3"),
+        ("message m_a_1 read 0x20 1 ; message m write g any*1..128\n;", "P6 line 3"),
+        ("message this_name_has_31_characters_its write g\n;", "P3 line 3"),
+        ("message\nl write a ;", "P7 line 3"),
+        ("message\nl_a write a ;", "P7 line 3"),
+        ("device a_1 0x12 ; group x a a_1 ; message m write x any*1..2\n;", "P7 line 3"),
+        ("controller u l_a\nl ;", "P7 line 3"),
+        ("controller u l_c ;", "P8 line 2"),
+    ] {
+        assert_eq!(expanded(&format!("brief 2 {board}\n{item}")), Err(wanted.to_owned()), "{item}");
+    }
+    let two = expansion_of(&[
+        "brief 2 device a 0x10 ; group g a ; message m write g ;",
+        "brief 1 message n write g ; controller u m n_a ;",
+    ]);
+    let plan = two.map(|plan| spelling(plan.as_bytes())).expect("a group beside a first version");
+    assert_eq!(items(&plan, "controller"), "u m_a n_a");
+}
+
 #[test]
 fn extensions_add_to_controllers() {
     let board = "device a 0x21 ; message k write a ; message l write a any*1..2 ; message m read a 1 ; \

@@ -2,13 +2,10 @@
 //! (docs/PLANS.md, "Brief" and "Brief 2"). Messages are read in `messages`.
 
 use super::meanings::words_of;
-use super::messages::{bits_of, bits_said, Known, Message};
+use super::messages::{bits_of, bits_said, Frame, Known, Message, Range, MOST_CHARACTERS};
 use super::plans::{Items, MOST_CONTROLLERS, MOST_INTERRUPTS, MOST_MESSAGES, MOST_SENDINGS};
 use super::words::{has_form, Language, Reading, Refusal, Word, KNOWN};
 use std::fmt;
-
-// How many characters a label may have.
-const MOST_CHARACTERS: usize = 32;
 
 /// The text of the plan that a brief means, as a `plan 2` and not in its canonical spelling, or the
 /// first refusal of the brief.
@@ -40,7 +37,7 @@ pub fn declared(brief: &str) -> Result<Declared, Refusal> {
     board.read(brief)?;
     let bits = |known: &[Known]| known.iter().map(|one| (one.name.clone(), one.bits.clone())).collect();
     let messages = board.messages.iter().map(|one| one.name.clone());
-    let families = board.families.iter().map(|one| one.name.clone());
+    let families = board.families.iter().chain(&board.grouped).map(|one| one.name.clone());
     let controllers = board.controllers.iter().map(|one| one.name.clone());
     Ok(Declared {
         devices: bits(&board.devices),
@@ -48,11 +45,6 @@ pub fn declared(brief: &str) -> Result<Declared, Refusal> {
         messages: messages.chain(families).collect(),
         controllers: controllers.chain(board.labels.iter().map(Party::name)).collect(),
     })
-}
-
-/// Whether a text begins as a brief of the second version.
-pub fn is_board(text: &str) -> bool {
-    opened(text).is_ok_and(|reading| reading.language() == Language::Board)
 }
 
 /// Whether its first two words are those of the second version, whatever its head names.
@@ -120,8 +112,8 @@ pub struct Line {
     words: String,
 }
 
-// A family and the names of its messages, or a controller and the names of what it lists.
-struct Listed {
+// A family and the names of its messages, a controller and the names of what it lists, or a group and its devices.
+pub struct Listed {
     name: String,
     messages: Vec<String>,
 }
@@ -162,6 +154,9 @@ pub struct Board {
     pub bytes: Vec<Known>,
     pub messages: Vec<Line>,
     families: Vec<Listed>,
+    // The groups with their devices, and what has a group with the names that it makes for each of these.
+    groups: Vec<Listed>,
+    grouped: Vec<Listed>,
     controllers: Vec<Listed>,
     interrupts: Vec<Line>,
     // The parties with labels as they were first named, and each `never`.
@@ -175,7 +170,8 @@ impl Board {
         while !reading.is_over() {
             let word = reading.next()?;
             match word.text {
-                "device" => read_known(&mut reading, &mut self.devices, 7)?,
+                "device" => self.read_device(&mut reading)?,
+                "group" if reading.language() == Language::Board => self.read_group(&mut reading)?,
                 "byte" => read_known(&mut reading, &mut self.bytes, 8)?,
                 "message" => self.read_message(&mut reading)?,
                 "controller" => self.read_controller(&mut reading)?,
@@ -188,28 +184,85 @@ impl Board {
         reading.end()
     }
 
+    fn read_device(&mut self, reading: &mut Reading) -> Result<(), Refusal> {
+        if let Some(name) = reading.peek().filter(|name| self.group(name).is_some()) {
+            return Err(reading.next()?.only_if(reading.language().is_name(name), 3)?.refused(7));
+        }
+        read_known(reading, &mut self.devices, 7)
+    }
+
+    // A name of one or more devices.
+    fn read_group(&mut self, reading: &mut Reading) -> Result<(), Refusal> {
+        let word = reading.name()?;
+        let is_device = |name: &str| self.devices.iter().any(|one| one.name == name);
+        word.only_if(!is_device(word.text) && self.group(word.text).is_none(), 7)?;
+        let mut devices: Vec<String> = Vec::new();
+        while devices.is_empty() || !reading.takes(";") {
+            let device = reading.name()?;
+            device.only_if(is_device(device.text), 8)?;
+            device.only_if(!devices.iter().any(|one| one == device.text), 7)?;
+            devices.push(device.text.into());
+        }
+        self.groups.push(Listed { name: word.text.into(), messages: devices });
+        Ok(())
+    }
+
     fn read_message(&mut self, reading: &mut Reading) -> Result<(), Refusal> {
         let word = reading.name()?;
         let name = word.text;
         word.only_if(!self.has_message(name), 7)?;
         word.only_if(self.messages.len() < MOST_MESSAGES, 6)?;
         let (frames, message) = Message::read(self, name, reading)?;
-        reading.expect(";")?;
-        let Some(range) = message.range else {
-            self.messages.push(Line { name: name.into(), words: words_of(&frames, 0) });
+        let (range, groups) = (message.range, message.groups);
+        let end = reading.next()?;
+        end.only_if(end.is(";"), 3)?;
+        let Some(group) = groups.first() else {
+            self.add_messages(name, range, &frames, "");
             return Ok(());
         };
-        let messages = range.names(name);
-        let lines = (range.least..).zip(&messages);
-        let lines = lines.map(|(number, name)| Line { name: name.clone(), words: words_of(&frames, number) });
-        self.messages.extend(lines);
-        self.families.push(Listed { name: name.into(), messages });
+        end.only_if(groups.iter().all(|one| one == group), 3)?;
+        let devices = self.group(group).map_or(Vec::new(), |group| group.messages.clone());
+        let count = range.map_or(1, |range| (range.greatest - range.least + 1) as usize);
+        end.only_if(self.messages.len() + devices.len().saturating_mul(count) <= MOST_MESSAGES, 6)?;
+        let names: Vec<String> = devices.iter().map(|device| format!("{name}_{device}")).collect();
+        let members = |name: &String| range.map_or(Vec::new(), |range| range.names(name));
+        let mut all: Vec<String> = names.iter().cloned().chain(names.iter().flat_map(members)).collect();
+        end.only_if(all.iter().all(|name| name.len() <= MOST_CHARACTERS), 3)?;
+        let count = all.len();
+        all.sort();
+        all.dedup();
+        end.only_if(all.len() == count && !all.iter().any(|name| self.has_message(name)), 7)?;
+        for (name, device) in names.iter().zip(&devices) {
+            let bits = self.devices.iter().find(|one| one.name == *device).map_or(String::new(), |one| one.bits.clone());
+            self.add_messages(name, range, &frames, &bits);
+        }
+        self.grouped.push(Listed { name: name.into(), messages: names });
         Ok(())
     }
 
-    /// Whether a message or a family has this name.
+    // The messages of this name, where a group means these bits.
+    fn add_messages(&mut self, name: &str, range: Option<Range>, frames: &[Frame], device: &str) {
+        let Some(range) = range else {
+            self.messages.push(Line { name: name.into(), words: words_of(frames, 0, device) });
+            return;
+        };
+        let messages = range.names(name);
+        let lines = (range.least..).zip(&messages);
+        let lines = lines.map(|(number, name)| Line { name: name.clone(), words: words_of(frames, number, device) });
+        self.messages.extend(lines);
+        self.families.push(Listed { name: name.into(), messages });
+    }
+
+    /// The group of this name.
+    pub fn group(&self, name: &str) -> Option<&Listed> {
+        self.groups.iter().find(|one| one.name == name)
+    }
+
+    /// Whether a message or a family has this name, or what has a group.
     pub fn has_message(&self, name: &str) -> bool {
-        self.messages.iter().any(|one| one.name == name) || self.family(name).is_some()
+        self.messages.iter().any(|one| one.name == name)
+            || self.family(name).is_some()
+            || self.grouped.iter().any(|one| one.name == name)
     }
 
     fn family(&self, name: &str) -> Option<&Listed> {
@@ -218,7 +271,11 @@ impl Board {
 
     // The messages that a name stands for.
     fn named(&self, name: &str) -> Vec<String> {
-        self.family(name).map_or_else(|| vec![name.to_string()], |family| family.messages.clone())
+        let alone = |name: &str| self.family(name).map_or_else(|| vec![name.to_string()], |one| one.messages.clone());
+        match self.grouped.iter().find(|one| one.name == name) {
+            Some(grouped) => grouped.messages.iter().flat_map(|name| alone(name)).collect(),
+            None => alone(name),
+        }
     }
 
     fn controller(&self, name: &str) -> Option<&Listed> {
@@ -267,6 +324,7 @@ impl Board {
         word.only_if(self.interrupts.iter().all(|one| one.name != name), 7)?;
         word.only_if(self.interrupts.len() < MOST_INTERRUPTS, 6)?;
         let word = reading.next()?;
+        word.only_if(self.group(word.text).is_none(), 3)?;
         let to = bits_said(word, reading.language(), &self.devices, 7)?;
         word.only_if(has_form(&to, 7, &KNOWN), 3)?;
         reading.expect(";")?;
@@ -315,7 +373,7 @@ impl Board {
         self.controllers.iter().flat_map(|one| self.parts_of(one)).collect()
     }
 
-    // Each message goes to its own label, or else to that of its family, or else it is left.
+    // Each message goes to its own label, or else to that of its family, or else to that of all devices, or else it is left.
     fn parts_of(&self, controller: &Listed) -> Vec<Part> {
         let whole = Party { controller: controller.name.clone(), label: None };
         let labels: Vec<&Party> = self.labels.iter().filter(|one| one.controller == controller.name).collect();
@@ -324,7 +382,8 @@ impl Board {
         for message in &controller.messages {
             let own = labels.iter().position(|one| one.label.as_ref() == Some(message));
             let of_family = || labels.iter().position(|one| self.is_of_family(one, message));
-            let place = own.or_else(of_family).map_or(0, |label| label + 1);
+            let of_group = || labels.iter().position(|one| self.is_of_group(one, message));
+            let place = own.or_else(of_family).or_else(of_group).map_or(0, |label| label + 1);
             parts[place].messages.push(message.clone());
         }
         parts.retain(|part| labels.is_empty() || !part.messages.is_empty());
@@ -336,9 +395,16 @@ impl Board {
         family.is_some_and(|family| family.has(message))
     }
 
+    // Whether the label is of a message with a group, which makes this message or this name for a device.
+    fn is_of_group(&self, party: &Party, name: &str) -> bool {
+        let label = party.label.as_ref();
+        let grouped = label.and_then(|label| self.grouped.iter().find(|one| one.name == *label));
+        grouped.is_some_and(|one| one.has(name) || self.named(&one.name).iter().any(|message| message == name))
+    }
+
     // Whether a `never` that names this party means the part.
     fn means(&self, party: &Party, part: &Part) -> bool {
-        let is_family = |label: &String| self.is_of_family(party, label);
+        let is_family = |label: &String| self.is_of_family(party, label) || self.is_of_group(party, label);
         party.controller == part.party.controller
             && (party.label.is_none()
                 || party.label == part.party.label

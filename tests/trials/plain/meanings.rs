@@ -4,12 +4,19 @@
 //! acknowledged, which a plan has after all that follows the acknowledge. So these tails are kept until the level ends, and
 //! then stand in the turned order.
 
-use super::messages::{Byte, Form, Frame, Times, What};
+use super::messages::{Byte, Form, Frame, Times, To, What};
 
 /// The words of a message in a plan. In a family its number says how many bytes stand where the range does, or which block
-/// where the choice does.
-pub fn words_of(frames: &[Frame], number: u32) -> String {
-    words(frames, number, &Path::default())
+/// where the choice does. These are the bits of the address that a group means.
+pub fn words_of(frames: &[Frame], number: u32, device: &str) -> String {
+    words(frames, &Of { number, device }, &Path::default())
+}
+
+// The number of a message in its family, and the bits of the address of its device.
+#[derive(Clone, Copy)]
+struct Of<'a> {
+    number: u32,
+    device: &'a str,
 }
 
 // The bytes of a path, of which some are not known, and how many of them the last sum ends.
@@ -20,15 +27,15 @@ struct Path {
 }
 
 // What is written of a level, and what follows where there is no acknowledge: that of the last byte stands first.
-struct Level {
-    number: u32,
+struct Level<'a> {
+    of: &'a Of<'a>,
     text: String,
     tails: String,
     path: Path,
 }
 
-fn words(frames: &[Frame], number: u32, path: &Path) -> String {
-    let mut level = Level { number, text: String::new(), tails: String::new(), path: path.clone() };
+fn words(frames: &[Frame], of: &Of, path: &Path) -> String {
+    let mut level = Level { of, text: String::new(), tails: String::new(), path: path.clone() };
     for (k, frame) in frames.iter().enumerate() {
         level.text += if k > 0 { " again " } else { "" };
         level.push_frame(frame);
@@ -36,9 +43,9 @@ fn words(frames: &[Frame], number: u32, path: &Path) -> String {
     format!("{} stop{}", level.text, level.tails)
 }
 
-impl Level {
+impl Level<'_> {
     fn push_frame(&mut self, frame: &Frame) {
-        let to = &frame.to;
+        let to = self.bits(&frame.to).to_owned();
         match &frame.form {
             Form::Write(bytes) => {
                 self.text += &format!("write {to}");
@@ -57,15 +64,23 @@ impl Level {
         }
     }
 
+    fn bits<'t>(&'t self, to: &'t To) -> &'t str {
+        match to {
+            To::Bits(bits) => bits,
+            To::Group => self.of.device,
+        }
+    }
+
     fn push_byte(&mut self, byte: &Byte) {
         let times = match byte.times {
             Times::Number(times) => times,
-            Times::Range => self.number,
+            Times::Range => self.of.number,
         };
         for _ in 0..times {
             let bits = match &byte.what {
                 What::Bits(bits) => bits.clone(),
-                What::Choice(blocks) => blocks[self.number as usize - 1].clone(),
+                What::Header(to, direction) => format!("{}{direction}", self.bits(to)),
+                What::Choice(blocks) => blocks[self.of.number as usize - 1].clone(),
                 What::Code => bits_or_any(self.path.code()),
                 What::Sum => bits_or_any(self.path.sum()),
             };
@@ -82,7 +97,7 @@ impl Level {
     fn push_tail(&mut self, refused: &Option<Vec<Frame>>) {
         let tail = match refused {
             None => " else stop".to_owned(),
-            Some(frames) => format!(" else again {}", words(frames, self.number, &self.path)),
+            Some(frames) => format!(" else again {}", words(frames, self.of, &self.path)),
         };
         self.tails.insert_str(0, &tail);
     }

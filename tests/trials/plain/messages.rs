@@ -11,10 +11,16 @@ use super::words::{has_form, number, Language, Reading, Refusal, Word, BITS};
 /// A frame of a message, and the frames after a header that is not acknowledged, if there are any.
 #[derive(Clone, Debug)]
 pub struct Frame {
-    /// The bits of its address.
-    pub to: String,
+    pub to: To,
     pub refused: Option<Vec<Frame>>,
     pub form: Form,
+}
+
+/// The bits of an address, or those of a device of the message's group.
+#[derive(Clone, Debug)]
+pub enum To {
+    Bits(String),
+    Group,
 }
 
 #[derive(Clone, Debug)]
@@ -35,6 +41,8 @@ pub struct Byte {
 #[derive(Clone, Debug)]
 pub enum What {
     Bits(String),
+    /// An address, and its direction bit.
+    Header(To, char),
     /// Those of one block, by the number of the message in its family.
     Choice(Vec<String>),
     Code,
@@ -60,6 +68,8 @@ pub struct Message<'a> {
     board: &'a Board,
     name: String,
     pub range: Option<Range>,
+    /// The groups that stand in it, as they are read.
+    pub groups: Vec<String>,
     // How many headers and data bytes it has in the plan, that of the most bytes in a family.
     nodes: u32,
 }
@@ -74,7 +84,7 @@ struct Level {
 
 // How often a data byte may be repeated, and how many characters a name may have.
 const MOST_TIMES: u32 = 255;
-const MOST_CHARACTERS: usize = 32;
+pub const MOST_CHARACTERS: usize = 32;
 
 impl Range {
     /// The names of the messages of a family.
@@ -86,7 +96,7 @@ impl Range {
 impl<'a> Message<'a> {
     /// The frames of a message of this name, and the message.
     pub fn read(board: &'a Board, name: &str, reading: &mut Reading) -> Result<(Vec<Frame>, Message<'a>), Refusal> {
-        let mut message = Message { board, name: name.into(), range: None, nodes: 0 };
+        let mut message = Message { board, name: name.into(), range: None, groups: Vec::new(), nodes: 0 };
         let frames = message.read_frames(reading, Level { path: 0, copies: 1 })?;
         Ok((frames, message))
     }
@@ -120,9 +130,13 @@ impl<'a> Message<'a> {
         Ok(Frame { to, refused, form: Form::Write(bytes) })
     }
 
-    // An address, or a device.
-    fn to(&self, word: Word, reading: &Reading) -> Result<String, Refusal> {
-        bits_said(word, reading.language(), &self.board.devices, 7)
+    // An address, a device or a group.
+    fn to(&mut self, word: Word, reading: &Reading) -> Result<To, Refusal> {
+        if self.board.group(word.text).is_some() {
+            self.groups.push(word.text.into());
+            return Ok(To::Group);
+        }
+        bits_said(word, reading.language(), &self.board.devices, 7).map(To::Bits)
     }
 
     fn read_byte(&mut self, reading: &mut Reading, level: &mut Level) -> Result<Byte, Refusal> {
@@ -185,7 +199,7 @@ impl<'a> Message<'a> {
                 let to = reading.next()?;
                 let to = self.to(to, reading)?;
                 reading.expect(")")?;
-                Ok(What::Bits(to + if word.is("wr") { "0" } else { "1" }))
+                Ok(What::Header(to, if word.is("wr") { '0' } else { '1' }))
             }
         }
     }

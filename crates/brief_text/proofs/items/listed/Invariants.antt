@@ -1,6 +1,6 @@
 use Rattle.std.proofs.Common.{◌≡◌, ℕ, List, [], map}
 use Rattle.plan_core.specs.NameBytes.{name_bytes}
-use Rattle.brief_text.specs.Items.{listed_from}
+use Rattle.brief_text.specs.Items.{names_from, listed_refusal}
 use Rattle.brief_text.specs.Judging.{all_of}
 use Rattle.brief_text.specs.Standing.{draft, place}
 use Rattle.brief_text.proofs.ValueLemmas.{size}
@@ -10,7 +10,7 @@ use Rattle.brief_text.proofs.items.listed.Given as goal
 abbrev pub invariant-names : goal.invariant-names
 invariant-names l =
     (names : List (List ℕ))
-    × (listed_from (draft l.board) (map name_bytes l.has) names (place l.source).tokens (place l.source) ≡ listed_from (draft l.board) (map name_bytes l.has) [] (place l.initial.source).tokens (place l.initial.source))
+    × (names_from (listed_refusal (draft l.board) (map name_bytes l.has)) names (place l.source).tokens (place l.source) ≡ names_from (listed_refusal (draft l.board) (map name_bytes l.has)) [] (place l.initial.source).tokens (place l.initial.source))
     × (map name_bytes l.messages.items ≡ all_of (draft l.board) names)
 
 abbrev pub decreases-names : goal.decreases-names

@@ -3,8 +3,7 @@ use Rattle.message_tree.specs.Trees.{again, frame_tree, payload_tree, tail_tree}
 use Rattle.spellings.specs.Canonical.{Adds, count_word}
 use Rattle.spellings.specs.Runs.{run_before}
 use Rattle.spellings.specs.Spelling.{target_word, data_word, run_words, frame_words, bytes_words, refused_words, next_words}
-use Rattle.spellings.proofs.WritingLemmas.{adds_three, adds_four, adds_five}
-use Rattle.spellings.proofs.Adding.{then_adds}
+use Rattle.spellings.proofs.Adding.{then_adds, adds_three, adds_four, adds_five}
 use Rattle.spellings.proofs.writing.+frames.Goals as goal
 
 pub frames-returns-in_ok-after_refusal-in-Write : goal.frames-returns-in_ok-after_refusal-in-Write

@@ -4,7 +4,6 @@ use Rattle.std.proofs.lemmas.Option.{slice_get_read}
 use Rattle.message_tree.specs.Bits.{SplitAt}
 use Rattle.message_tree.specs.Counts.{greatest_of}
 use Rattle.message_tree.specs.Drops.{refused_of}
-use Rattle.message_tree.specs.Patterns.{pattern_bits}
 use Rattle.message_tree.specs.Sizes.{frame_slots, payload_slots, tail_slots}
 use Rattle.message_tree.specs.Texts.{message, FrameText, PayloadText, TailText}
 use Rattle.message_tree.specs.Trees.{PayloadTree, TailTree, last}
@@ -13,7 +12,7 @@ use Rattle.arbitration.specs.Ways.{header_of, AckedText, AreOutcomes, Step, IsBe
 use Rattle.arbitration.proofs.CommonBytes.{with_rests, parted_room, byte_room, refused_room}
 use Rattle.arbitration.proofs.FrameLemmas.{again_at, one_name, alone_of, slots_named, named_within}
 use Rattle.arbitration.proofs.RowLemmas.{told_at, count_at, same_steps, slots_after, byte_height, one_more_step, rest_at, slots_at, rest_ended, rest_goes_on, same_rest}
-use Rattle.arbitration.proofs.Nodes.{all_room, payload_bound, tail_bound, frame_bound, acked_room, refused_slots, some_tail, length_of_data, bytes_part, frames_part, frames_answered, write_splits_read, read_splits_write, reads_only_part, byte_and_last, last_and_byte, stops_are, stop_and_again, again_and_stop, agains_are}
+use Rattle.arbitration.proofs.Nodes.{all_room, payload_bound, tail_bound, frame_bound, acked_room, refused_slots, some_tail, bytes_part, frames_part, frames_answered, write_splits_read, read_splits_write, reads_only_part, byte_and_last, last_and_byte, stops_are, stop_and_again, again_and_stop, agains_are}
 use Rattle.arbitration.proofs.frames.Frames.+compare.Goals as goal
 
 -- what is tested is not so
@@ -145,18 +144,8 @@ rows-loop-k-init t c =
     let ss = steps_of known c.args.first.now in
     subst (λ (ts : List Step). IsBeginning (take n ss) ts c.beginning-met.result) (same_steps known c.args.first.now c.args.second.now n c.same_bytes-alike.ensures.same) (c.beginning-met.ensures ss c.requires.first.begun)
 
-pub rows-followed_by-requires-clause-slots : goal.rows-followed_by-requires-clause-slots
-rows-followed_by-requires-clause-slots t c =
-    let known = trees_of c.args.self.now.entries.items in
-    let k = c.loop-k.k in
-    let first = c.args.first.now in
-    let a = c.index-a.result.now in
-    let n = count_at known first k (omega arith) in
-    let s = slots_at known first k a (omega arith) c.index-a.ensures in
-    omega (arith, n, c.loop-k.invariant.count, s, c.requires.slots)
-
-pub rows-followed_by-requires-clause-room : goal.rows-followed_by-requires-clause-room
-rows-followed_by-requires-clause-room t c =
+pub rows-followed_by-requires : goal.rows-followed_by-requires
+rows-followed_by-requires t c =
     let known = trees_of c.args.self.now.entries.items in
     let k = c.loop-k.k in
     let p = told_at c.args.first.now.bytes.items c.loop-k.k c.index-a.result.now c.requires.first.told (omega arith) c.index-a.ensures in
@@ -165,7 +154,10 @@ rows-followed_by-requires-clause-room t c =
     let a = c.index-a.result.now in
     let n = count_at known first k (omega arith) in
     let s = slots_at known first k a (omega arith) c.index-a.ensures in
-    parted_room (step_of known a) (step_of known c.index-b.result.now) c.partings-parted.result (9 * c.loop-k.met.bytes) (c.partings-parted.ensures _ _ p q) (omega (arith, n, c.loop-k.invariant.count, s, c.requires.slots))
+    record {
+      slots = omega (arith, n, c.loop-k.invariant.count, s, c.requires.slots);
+      room = parted_room (step_of known a) (step_of known c.index-b.result.now) c.partings-parted.result (9 * c.loop-k.met.bytes) (c.partings-parted.ensures _ _ p q) (omega (arith, n, c.loop-k.invariant.count, s, c.requires.slots));
+    }
 
 pub rows-returns-then-always_part : goal.rows-returns-then-always_part
 rows-returns-then-always_part t c =
@@ -183,7 +175,7 @@ rows-returns-then-always_part t c =
     let y = rest_after k known second in
     let e = rest_at known first k a (omega arith) c.index-a.ensures in
     let f = rest_at known second k b (omega arith) c.index-b.ensures in
-    let part = bytes_part (pattern_bits a.bits) (pattern_bits b.bits) (rest_after (suc k) known first) (rest_after (suc k) known second) (next_tree known a.refused) (next_tree known b.refused) (length_of_data a.bits) (length_of_data b.bits) c.partings-parted.result ((c.always_part.ensures _ _ p q).0 c.if-always_part.true) (c.partings-parted.ensures _ _ p q) in
+    let part = bytes_part a.bits b.bits (rest_after (suc k) known first) (rest_after (suc k) known second) (next_tree known a.refused) (next_tree known b.refused) c.partings-parted.result ((c.always_part.ensures _ _ p q).0 c.if-always_part.true) (c.partings-parted.ensures _ _ p q) in
     let rest : AreOutcomes (PayloadText x) (PayloadText y) c.partings-parted.result = rw (e, f) part in
     with_rests k ss ts (last (next_tree known first.last)) (last (next_tree known second.last)) c.followed_by.result (c.followed_by.ensures (take k ss) (take k ts) x y c.loop-k.invariant rest)
 
@@ -208,18 +200,8 @@ rows-in_byte-requires t c =
     let s = slots_at known first k a (omega arith) c.index-a.ensures in
     refused_room (next_tree known a.refused) (next_tree known c.index-b.result.now.refused) c.nexts-refused.result c.nexts-refused.ensures (omega (arith, s, c.requires.slots))
 
-pub rows-and-met-requires-clause-slots : goal.rows-and-met-requires-clause-slots
-rows-and-met-requires-clause-slots t c =
-    let known = trees_of c.args.self.now.entries.items in
-    let k = c.loop-k.k in
-    let first = c.args.first.now in
-    let a = c.index-a.result.now in
-    let n = count_at known first k (omega arith) in
-    let s = slots_at known first k a (omega arith) c.index-a.ensures in
-    omega (arith, n, c.loop-k.invariant.count, s, c.requires.slots, some_tail (next_tree known a.refused))
-
-pub rows-and-met-requires-clause-room : goal.rows-and-met-requires-clause-room
-rows-and-met-requires-clause-room t c =
+pub rows-and-met-requires : goal.rows-and-met-requires
+rows-and-met-requires t c =
     let known = trees_of c.args.self.now.entries.items in
     let k = c.loop-k.k in
     let p = told_at c.args.first.now.bytes.items c.loop-k.k c.index-a.result.now c.requires.first.told (omega arith) c.index-a.ensures in
@@ -229,7 +211,10 @@ rows-and-met-requires-clause-room t c =
     let b = c.index-b.result.now in
     let n = count_at known first k (omega arith) in
     let s = slots_at known first k a (omega arith) c.index-a.ensures in
-    byte_room (step_of known a) (step_of known b) c.in_byte.result (9 * c.loop-k.met.bytes) (c.in_byte.ensures (step_of known a) (step_of known b) (c.partings-parted.ensures _ _ p q) c.nexts-refused.ensures) (omega (arith, n, c.loop-k.invariant.count, s, c.requires.slots))
+    record {
+      slots = omega (arith, n, c.loop-k.invariant.count, s, c.requires.slots, some_tail (next_tree known a.refused));
+      room = byte_room (step_of known a) (step_of known b) c.in_byte.result (9 * c.loop-k.met.bytes) (c.in_byte.ensures (step_of known a) (step_of known b) (c.partings-parted.ensures _ _ p q) c.nexts-refused.ensures) (omega (arith, n, c.loop-k.invariant.count, s, c.requires.slots));
+    }
 
 pub rows-loop-k-preserved : goal.rows-loop-k-preserved
 rows-loop-k-preserved t c =
@@ -248,18 +233,8 @@ rows-loop-k-preserved t c =
     let f = one_more_step known second k b (omega arith) c.index-b.ensures in
     rw (e, f) (c.and-met.ensures (take k (steps_of known first)) (take k (steps_of known second)) s t c.loop-k.invariant (λ j i. never c.always_part.result c.if-always_part.false ((c.always_part.ensures _ _ p q).1 (j, i)), tt) here)
 
-pub rows-followed_by-requires-2-clause-slots : goal.rows-followed_by-requires-2-clause-slots
-rows-followed_by-requires-2-clause-slots t c =
-    let known = trees_of c.args.self.now.entries.items in
-    let k = c.loop-k.k in
-    let first = c.args.first.now in
-    let le : k ≤ length first.bytes.items = omega arith in
-    let n = count_at known first k le in
-    let s = slots_after known first k le in
-    omega (arith, n, c.loop-k.invariant.count, s, c.requires.slots)
-
-pub rows-followed_by-requires-2-clause-room : goal.rows-followed_by-requires-2-clause-room
-rows-followed_by-requires-2-clause-room t c =
+pub rows-followed_by-requires-2 : goal.rows-followed_by-requires-2
+rows-followed_by-requires-2 t c =
     let known = trees_of c.args.self.now.entries.items in
     let k = c.loop-k.k in
     let first = c.args.first.now in
@@ -269,7 +244,10 @@ rows-followed_by-requires-2-clause-room t c =
     let x = rest_after k known first in
     let e : c.same_from-end.result ≡ k = omega arith in
     let rest = subst (λ (i : ℕ). AreOutcomes (PayloadText (rest_after i known first)) (PayloadText (rest_after i known c.args.second.now)) c.ends.result) e c.ends.ensures in
-    all_room (PayloadText x) (PayloadText (rest_after k known c.args.second.now)) c.ends.result (payload_slots x) (9 * c.loop-k.met.bytes) rest (payload_bound x) (omega (arith, n, c.loop-k.invariant.count, s, c.requires.slots))
+    record {
+      slots = omega (arith, n, c.loop-k.invariant.count, s, c.requires.slots);
+      room = all_room (PayloadText x) (PayloadText (rest_after k known c.args.second.now)) c.ends.result (payload_slots x) (9 * c.loop-k.met.bytes) rest (payload_bound x) (omega (arith, n, c.loop-k.invariant.count, s, c.requires.slots));
+    }
 
 pub rows-returns : goal.rows-returns
 rows-returns t c =

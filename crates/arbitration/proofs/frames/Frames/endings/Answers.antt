@@ -1,7 +1,7 @@
 use Rattle.std.proofs.Common.{◌≡◌, ℕ, suc, ◌-◌, ◌*◌, ◌≤◌, [], ◌∷◌, length, ap, subst, arith}
 use Rattle.message_tree.specs.Sizes.{payload_slots}
 use Rattle.message_tree.specs.Texts.{PayloadText}
-use Rattle.arbitration.specs.Frames.{next_tree, step_of, rest_after, trees_of}
+use Rattle.arbitration.specs.Frames.{next_height, next_tree, step_of, rest_after, trees_of}
 use Rattle.arbitration.specs.Ways.{AreOutcomes}
 use Rattle.arbitration.proofs.CommonBytes.{refused_room, same_together}
 use Rattle.arbitration.proofs.Nodes.{all_room, payload_bound}
@@ -26,14 +26,12 @@ loop-n-init c =
 
 -- ---- a byte before it
 
-pub nexts-refused-requires-clause-first : goal.nexts-refused-requires-clause-first
-nexts-refused-requires-clause-first c =
+pub nexts-refused-requires : goal.nexts-refused-requires
+nexts-refused-requires c =
     let known = trees_of c.args.self.now.entries.items in
     let h = byte_height known c.args.row.now (c.len-count.result - 1 - c.loop-n.n) c.index-byte.result.now (omega arith) c.index-byte.ensures in
-    omega (arith, h, c.requires.row.inside)
-
-pub nexts-refused-requires-clause-second : goal.nexts-refused-requires-clause-second
-nexts-refused-requires-clause-second c = nexts-refused-requires-clause-first c
+    let inside : next_height c.index-byte.result.now.refused ≤ length c.args.self.now.entries.items = omega (arith, h, c.requires.row.inside) in
+    record { frames = c.requires.frames; first = inside; second = inside }
 
 pub in_byte-here-requires : goal.in_byte-here-requires
 in_byte-here-requires c =
@@ -43,17 +41,8 @@ in_byte-here-requires c =
     let s = slots_at known c.args.row.now (c.len-count.result - 1 - c.loop-n.n) b (omega arith) c.index-byte.ensures in
     refused_room r r c.nexts-refused.result c.nexts-refused.ensures (omega (arith, s, c.requires.slots))
 
-pub followed_by-ending-requires-clause-slots : goal.followed_by-ending-requires-clause-slots
-followed_by-ending-requires-clause-slots c =
-    let known = trees_of c.args.self.now.entries.items in
-    let b = c.index-byte.result.now in
-    let s = step_of known b in
-    let p = told_at c.args.row.now.bytes.items (c.len-count.result - 1 - c.loop-n.n) b c.requires.row.told (omega arith) c.index-byte.ensures in
-    let begun = c.and.ensures [] [] s s c.none.ensures (same_together s) (c.in_byte-here.ensures s s (c.partings.ensures _ _ p p) c.nexts-refused.ensures) in
-    omega (arith, begun.count)
-
-pub followed_by-ending-requires-clause-room : goal.followed_by-ending-requires-clause-room
-followed_by-ending-requires-clause-room c =
+pub followed_by-ending-requires : goal.followed_by-ending-requires
+followed_by-ending-requires c =
     let known = trees_of c.args.self.now.entries.items in
     let row = c.args.row.now in
     let k = c.len-count.result - 1 - c.loop-n.n in
@@ -63,7 +52,10 @@ followed_by-ending-requires-clause-room c =
     let begun = c.and.ensures [] [] s s c.none.ensures (same_together s) (c.in_byte-here.ensures s s (c.partings.ensures _ _ p p) c.nexts-refused.ensures) in
     let x = rest_after (suc k) known row in
     let le = slots_after known row (suc k) (omega arith) in
-    all_room (PayloadText x) (PayloadText x) c.loop-n.ending (payload_slots x) (9 * c.and.result.bytes) (c.loop-n.invariant.ending (suc k) (omega arith)) (payload_bound x) (omega (arith, begun.count, le, c.requires.slots))
+    record {
+      slots = omega (arith, begun.count);
+      room = all_room (PayloadText x) (PayloadText x) c.loop-n.ending (payload_slots x) (9 * c.and.result.bytes) (c.loop-n.invariant.ending (suc k) (omega arith)) (payload_bound x) (omega (arith, begun.count, le, c.requires.slots));
+    }
 
 pub loop-n-preserved : goal.loop-n-preserved
 loop-n-preserved c =

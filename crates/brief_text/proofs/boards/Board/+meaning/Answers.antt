@@ -2,13 +2,13 @@ use Rattle.std.proofs.Common.{◌≡◌, ◌-◌, ap, sym, ◌∙◌, arith}
 use Rattle.message_tree.specs.Trees.{payload_tree}
 use Rattle.brief_text.specs.Codes.{times_after}
 use Rattle.brief_text.specs.Drafts.{bytes_on, tail_on, repeated_on, how_often}
-use Rattle.brief_text.specs.Standing.{brief_bytes, brief_tail, draft, times_of}
+use Rattle.brief_text.specs.Standing.{brief_bytes, brief_tail, draft, with_device, times_of}
 use Rattle.brief_text.proofs.PathLemmas.{acked_of, one_copy_more, all_copies}
 use Rattle.brief_text.proofs.boards.Board.+meaning.Goals as goal
 
 pub data-loop-k-init : goal.data-loop-k-init
 data-loop-k-init t c =
-    let d = draft c.args.self.now in
+    let d = with_device (draft c.args.self.now) c.args.in_place in
     let n = c.args.n in
     let times = c.times-times.result in
     let bits = c.bits-bits.result in
@@ -23,7 +23,7 @@ data-loop-k-init t c =
 
 pub data-loop-k-preserved : goal.data-loop-k-preserved
 data-loop-k-preserved t c =
-    let d = draft c.args.self.now in
+    let d = with_device (draft c.args.self.now) c.args.in_place in
     let n = c.args.n in
     let acked = bytes_on d n (acked_of (brief_bytes c.args.data.now)) in
     let refused = tail_on d n (brief_tail c.in-Byte.refused) in
@@ -33,7 +33,7 @@ data-loop-k-preserved t c =
 
 pub data-returns-after-loop-k : goal.data-returns-after-loop-k
 data-returns-after-loop-k t c =
-    let d = draft c.args.self.now in
+    let d = with_device (draft c.args.self.now) c.args.in_place in
     let n = c.args.n in
     let times = c.times-times.result in
     let bits = c.bits-bits.result in

@@ -7,7 +7,7 @@ use Rattle.brief_text.proofs.PushLemmas.{one_further, map_where}
 use Rattle.std.proofs.lemmas.List.{take_all}
 use Rattle.std.specs.List.{filter}
 use Rattle.brief_text.specs.Parting.{part}
-use Rattle.brief_text.specs.Splitting.{side_means, part_name, label_messages}
+use Rattle.brief_text.specs.Splitting.{side_means, part_name, label_names, label_messages}
 use Rattle.brief_text.specs.Standing.{draft, side}
 use Rattle.brief_text.proofs.boards.Board.names_meant.Goals as goal
 
@@ -17,7 +17,7 @@ loop-part-preserved c =
     let s = side c.args.party.now in
     let it = part c.part-item.result in
     let g = λ (one : program.Part). if side_means d s (part one) then part_name (part one) ∷ [] else [] in
-    let named : map name_bytes c.as_slice.result.now ≡ label_messages d s = ap (map name_bytes) c.as_slice.ensures.value ∙ c.in_ok-named.ensures in
+    let named : map name_bytes c.as_slice.result.now ≡ label_names d s ++ label_messages d s = ap (map name_bytes) c.as_slice.ensures.value ∙ c.in_ok-named.ensures in
     let so_far = map name_bytes c.loop-part.names.items in
     let adds = c.in_ok-push_if.ensures
     ∙ ap (λ t. so_far ++ (if t then name_bytes c.in_ok-name.name ∷ [] else [])) (c.means-is_meant.ensures d named)
