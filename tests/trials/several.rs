@@ -8,7 +8,7 @@ use crate::desks::Desk;
 use crate::dice::Dice;
 use crate::disagreements::{Disagreement, Score};
 use crate::made_up::made_up;
-use crate::plain::Answer;
+use crate::plain::{begins_board, Answer};
 use crate::plainly::said_plainly;
 use crate::seeds::{mixed, Seeds};
 use crate::tallies::{kind_of, Tallies};
@@ -174,11 +174,9 @@ fn files_of(brief: &[u8], places: &[usize], dice: &mut Dice) -> Vec<Vec<u8>> {
     parts.map(|(k, (start, end))| [if k == 0 { b"" } else { head.as_bytes() }, &brief[start..end]].concat()).collect()
 }
 
-// The head of the version that a brief is of: its first line that has something before a comment says it.
+// The head of the version that a brief is of.
 fn head_of(brief: &[u8]) -> &'static str {
-    let lines = brief.split(|byte| *byte == b'\n').map(<[u8]>::trim_ascii);
-    let first = lines.into_iter().find(|line| !line.is_empty() && !line.starts_with(b"#"));
-    if first.is_some_and(|line| line.starts_with(b"brief 2")) {
+    if begins_board(&String::from_utf8_lossy(brief)) {
         "brief 2\n"
     } else {
         HEAD
