@@ -158,9 +158,8 @@ run "before what is wrong with the items of another" check both.brief
 # ---- Refusals.
 
 expect "of a file that is named" 2 "" "refused P8 line 2 of slip.brief" expand - <<<'brief 2 with "slip.brief" ;'
-expect "of one that names others" 2 "" "refused P8 line 3 of bad.brief" expand bad.brief < <(
-    lines bad.brief "brief 2" "with \"devices.brief\" ;" "message m write nobody ;"
-)
+lines bad.brief "brief 2" "with \"devices.brief\" ;" "message m write nobody ;"
+expect "of one that names others" 2 "" "refused P8 line 3 of bad.brief" expand bad.brief
 expect "of a board in one file" 2 "" "refused P8 line 2" expand slip.brief
 lines self.brief "brief 2" "with \"self.brief\" ;" "message m write nobody ;"
 expect "of a board that names itself alone" 2 "" "refused P8 line 3" expand self.brief
