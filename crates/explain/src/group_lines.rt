@@ -1,11 +1,11 @@
 // Lines of a group of unsafe pairs, and of one pair by itself.
 
-use crate::faults::{tell_offer, tell_pair};
+use crate::faults::{tell_advice, tell_pair};
 use bus_rows::{Meeting, meeting_of, say, say_all};
 use causes::Group;
 use certificate::Fault;
 use growing_text::{Lines, Part, Sentence};
-use plan_findings::{offer_for_group, why_unsafe};
+use plan_findings::{advice_for_group, why_unsafe};
 use plan_words::PlanWords;
 use remedies::Grouped;
 use std::alloc::{AllocError, Global};
@@ -70,8 +70,8 @@ pub(crate) fn of_group(
         tell_pair(alloc, &mut lines, words, both, meeting)?;
         tell_alike(alloc, &mut lines, groups, g, group);
     }
-    if let Some(offer) = offer_for_group(alloc, words, groups, g)? {
-        tell_offer(&mut lines, &offer);
+    for advice in &advice_for_group(alloc, words, groups, g)? {
+        tell_advice(&mut lines, advice);
     }
     lines.finish()
 }

@@ -1,6 +1,7 @@
 // Objects of a check.
 
 use crate::fields::add_words;
+use crate::offers::{add_list, add_offers};
 use crate::oddities::add_oddities;
 use bus_rows::{Labels, Meeting, Rule, labels_of, meeting_of};
 use causes::{Group, Place};
@@ -11,13 +12,13 @@ use object_lines::{ObjectLines, all_at};
 use plan_core::Plan;
 use plan_findings::{Detail, unsent_in};
 use plan_words::PlanWords;
-use remedies::{GroupMends, Grouped, Mends, Never, Reasons, Safety};
+use remedies::{Grouped, Reasons, Safety, both_of, controller_of, kept_apart};
 use run_parts::{Output, RunError};
-use std::alloc::Global;
+use std::alloc::{AllocError, Global};
 use verdicts::Checked;
 
 /// Writes an object for each unsafe pair of a plan that was checked, one for each group of them, one for each likely mistake in the
-/// briefs that mean it, and one for the plan. The words are those of the plan. There are groups where there are reasons. Then the
+/// briefs that mean it, and one for the plan. The words are those of the plan, and the texts give it. There are groups where there are reasons. Then the
 /// last object has these, and the first so many groups are explained.
 ///
 /// # Errors
@@ -28,6 +29,7 @@ pub fn write_check<O: Output>(
     checked: &Checked,
     words: PlanWords<'_>,
     odd: &[Oddity<'_>],
+    texts: &[Vec<u8>],
     reasons: Option<&Reasons>,
     detail: Detail,
     out: &mut O,
@@ -35,10 +37,12 @@ pub fn write_check<O: Output>(
     let places = all_at(alloc, words)?;
     let told = Told {
         checked,
+        words,
+        texts,
         labels: labels_of(alloc, &checked.plan)?,
         places,
         groups: match reasons {
-            Some(Reasons::Unsafe(_, groups)) => Some(groups),
+            Some(Reasons::Unsafe(groups)) => Some(groups),
             _ => None,
         },
     };
@@ -48,7 +52,7 @@ pub fn write_check<O: Output>(
     }
     told.write_groups(&mut lines, detail.groups as usize, out)?;
     add_oddities(&mut lines, words, odd);
-    add_plan(&mut lines, checked, reasons, detail.groups as usize);
+    add_plan(&mut lines, checked, words, reasons, detail.groups as usize);
     lines.write_rest(out)
 }
 
@@ -56,6 +60,8 @@ pub fn write_check<O: Output>(
 #[derive(Drop)]
 struct Told<'a> {
     checked: &'a Checked,
+    words: PlanWords<'a>,
+    texts: &'a [Vec<u8>],
     labels: Labels,
     // where the message of each participant stands, if briefs mean the plan
     places: Option<Vec<String>>,
@@ -93,8 +99,8 @@ impl Told<'_> {
             if let Some(group) = groups.group(g) {
                 add_group(lines, groups, g, group);
                 self.add_example(lines, group.example, g < most);
-                if let Some(mends) = groups.mends(g) {
-                    add_mends(lines, mends);
+                if g < most {
+                    add_offers(lines, self.words, self.texts, groups, g);
                 }
                 lines.end();
             }
@@ -159,34 +165,6 @@ fn add_meets(lines: &mut ObjectLines, groups: &Grouped, g: usize) {
     for i in 0..groups.meets(g) {
         let (first, second) = groups.meet(g, i);
         push_two(&mut lines.text, before, first, second);
-        before = ",[";
-    }
-    lines.close_list();
-}
-
-// The field that says what mends the pairs of a group.
-fn add_mends(lines: &mut ObjectLines, mends: &GroupMends) {
-    lines.open("explain");
-    if let Some(parting) = &mends.parting {
-        lines.field("parting", &parting.slots.as_slice());
-        lines.flag("shape", parting.shape);
-    }
-    add_nevers(lines, mends.kept.nevers.as_slice());
-    lines.number("unchecked", mends.kept.unchecked);
-    lines.close();
-}
-
-// The field with `never` items. Each is two controllers, or labels.
-fn add_nevers(lines: &mut ObjectLines, nevers: &[Never]) {
-    lines.open_list("never");
-    let mut before = "[";
-    for never in nevers {
-        push_two(
-            &mut lines.text,
-            before,
-            never.first.as_str(),
-            never.second.as_str(),
-        );
         before = ",[";
     }
     lines.close_list();
@@ -282,14 +260,18 @@ fn rule_word(rule: Rule) -> &'static str {
 }
 
 // The verdict, where so many groups are explained at most.
-fn add_plan(lines: &mut ObjectLines, checked: &Checked, reasons: Option<&Reasons>, most: usize) {
+fn add_plan(
+    lines: &mut ObjectLines,
+    checked: &Checked,
+    words: PlanWords<'_>,
+    reasons: Option<&Reasons>,
+    most: usize,
+) {
     add_verdict(lines, checked);
     match reasons {
         None => {}
         Some(Reasons::Safe(safety)) => add_kept(lines, &checked.plan, safety),
-        Some(Reasons::Unsafe(mends, groups)) => {
-            add_mended(lines, &checked.plan, mends, groups.len(), most);
-        }
+        Some(Reasons::Unsafe(groups)) => add_mended(lines, checked, words, groups, most),
     }
     lines.end();
 }
@@ -316,16 +298,38 @@ fn add_kept(lines: &mut ObjectLines, plan: &Plan, safety: &Safety) {
 }
 
 // What mends an unsafe plan.
-fn add_mended(lines: &mut ObjectLines, plan: &Plan, mends: &Mends, groups: usize, most: usize) {
+fn add_mended(
+    lines: &mut ObjectLines,
+    checked: &Checked,
+    words: PlanWords<'_>,
+    groups: &Grouped,
+    most: usize,
+) {
     lines.open("explain");
-    lines.number("explained", groups.min(most) as u64);
-    lines.number("groups", groups as u64);
-    add_nevers(lines, mends.kept.nevers.as_slice());
-    lines.number("unchecked", mends.kept.unchecked);
-    lines.field("interrupts", &mends.interrupted.as_slice());
-    add_unsent(lines, plan);
-    lines.number("kept_apart", mends.kept_apart);
+    lines.number("explained", groups.len().min(most) as u64);
+    lines.number("groups", groups.len() as u64);
+    add_list(lines, groups);
+    match interrupted_in(lines.alloc, checked) {
+        Ok(pairs) => lines.field("interrupts", &pairs.as_slice()),
+        Err(_) => lines.cut(),
+    }
+    add_unsent(lines, &checked.plan);
+    lines.number("kept_apart", kept_apart(words));
     lines.close();
+}
+
+// The unsafe pairs with an interrupt: their second participant is one.
+fn interrupted_in(alloc: Global, checked: &Checked) -> Result<Vec<u32>, AllocError> {
+    let Checked { plan, faults } = checked;
+    let mut pairs = Vec::new(alloc);
+    for k in 0..faults.len() {
+        let (pair, _) = faults.get(k);
+        let (_, second) = both_of(plan, pair);
+        if controller_of(plan, second).is_none() {
+            pairs.push(pair)?;
+        }
+    }
+    Ok(pairs)
 }
 
 // The field with the names of the messages that no controller lists.

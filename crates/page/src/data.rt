@@ -40,7 +40,7 @@ struct Verdict {
 /// What was found of a plan, as JSON on one line.
 pub(crate) fn data_of(alloc: Global, page: &Page<'_>) -> Result<String, AllocError> {
     let ways = Ways::new(alloc, page.order)?;
-    let offers = all_offered(alloc, page.checked, page.words, page.mends, page.groups)?;
+    let offers = all_offered(alloc, page.words, page.groups)?;
     let data = Data {
         capture: match page.recording {
             Some(recording) => Some(recording.recorded()),

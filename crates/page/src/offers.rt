@@ -1,45 +1,55 @@
 // What is offered to mend unsafe pairs, as the page has it: in the words of a report.
 
-use plan_findings::{Offer, offers_for_all};
+use plan_findings::{Advice, advice_for_all, advice_for_group};
 use plan_words::PlanWords;
-use remedies::{Grouped, Mends};
+use remedies::Grouped;
 use serde::Serialize;
 use std::alloc::{AllocError, Global};
-use verdicts::Checked;
 
-/// An offer: what is said, the items below it, and what is said after these, if anything is.
+/// An offer: what is said, and the lines below it.
 #[derive(Drop, Serialize)]
 pub(crate) struct Offered {
     said: String,
-    items: Vec<String>,
-    after: String,
+    lines: Vec<String>,
 }
 
 impl Offered {
-    /// An offer, whose sentences are texts.
-    pub(crate) fn of(alloc: Global, offer: Offer) -> Result<Offered, AllocError> {
-        let Offer { said, items, after } = offer;
+    // An offer, whose sentence is a text.
+    fn of(alloc: Global, advice: Advice) -> Result<Offered, AllocError> {
+        let Advice { said, lines } = advice;
         Ok(Offered {
             said: said.text(alloc)?,
-            items,
-            after: after.text(alloc)?,
+            lines,
         })
     }
 }
 
-/// What is offered to mend all unsafe pairs of a plan, of which this was found: nothing of a safe one.
+/// What is offered to mend all unsafe pairs of a plan: nothing of a safe one.
 pub(crate) fn all_offered(
     alloc: Global,
-    checked: &Checked,
     words: PlanWords<'_>,
-    mends: Option<&Mends>,
     groups: &Grouped,
 ) -> Result<Vec<Offered>, AllocError> {
+    if groups.len() == 0 {
+        return Ok(Vec::new(alloc));
+    }
+    offered(alloc, advice_for_all(alloc, words, groups)?)
+}
+
+/// What is offered to mend the group with this number.
+pub(crate) fn offered_for(
+    alloc: Global,
+    words: PlanWords<'_>,
+    groups: &Grouped,
+    g: usize,
+) -> Result<Vec<Offered>, AllocError> {
+    offered(alloc, advice_for_group(alloc, words, groups, g)?)
+}
+
+fn offered(alloc: Global, advice: Vec<Advice>) -> Result<Vec<Offered>, AllocError> {
     let mut offered = Vec::new(alloc);
-    if let Some(mends) = mends {
-        for offer in offers_for_all(alloc, words, &checked.faults, mends, groups)? {
-            offered.push(Offered::of(alloc, offer)?)?;
-        }
+    for one in advice {
+        offered.push(Offered::of(alloc, one)?)?;
     }
     Ok(offered)
 }

@@ -14,7 +14,7 @@ use growing_text::shown;
 use memchr::{memchr, memchr3};
 use order::Order;
 use plan_words::PlanWords;
-use remedies::{Grouped, Mends};
+use remedies::Grouped;
 use std::alloc::{AllocError, Global};
 use verdicts::Checked;
 
@@ -31,8 +31,6 @@ pub struct Page<'a> {
     pub order: &'a Order,
     /// The groups of its unsafe pairs, with what mends them.
     pub groups: &'a Grouped,
-    /// What mends all of them, where there are some.
-    pub mends: Option<&'a Mends>,
     /// A recorded bus.
     pub recording: Option<&'a Recording>,
     /// The same as texts.

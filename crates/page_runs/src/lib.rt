@@ -9,12 +9,12 @@ use capture_check::{Rises, Transaction};
 use decoding::{ExplainedSink, Explaining};
 use dump_findings::{Layout, Selection};
 use dump_tokens::Bus;
-use given_plans::GivenPlan;
+use given_plans::{GivenPlan, Provenance};
 use order::{order_of, order_report};
 use page::{Page, Recording, Texts, page_of};
 use plan_core::Plan;
 use plan_words::PlanWords;
-use remedies::{Mends, grouped_of, mends_of};
+use remedies::{Grouped, grouped_of};
 use report::{check_found, check_report, status_of};
 use run_parts::{Input, Output, RunError, Status, Watched, write_lines};
 use run_values::{Ended, Findings, Halt, Recorded, Sources, halted, open_dump};
@@ -36,7 +36,8 @@ pub fn write_page_alone<R: AllocGlobal + Threads + Sync, I: Input, O: Output>(
     let GivenPlan { plan, provenance } = plans.find(rt.alloc())?;
     let checked = check_found(rt, rt.alloc(), plan, 1, &NoGate)?;
     let words = plans.words(&checked.plan, &provenance);
-    write_page(rt.alloc(), title, &checked, words, None, out)?;
+    let groups = groups_of(rt.alloc(), &checked, words, &provenance)?;
+    write_page(rt.alloc(), title, &checked, words, &groups, None, out)?;
     Ok(Ended::quietly(status_of(checked.faults.is_safe())))
 }
 
@@ -59,7 +60,8 @@ pub fn write_page_with<R: AllocGlobal + Threads + Sync, I: Input, J: Input, O: O
         recording: &recording,
         report: text_of(capture.as_slice()),
     };
-    write_page(rt.alloc(), title, &checked, words, Some(capture), out)?;
+    let groups = groups_of(rt.alloc(), &checked, words, &provenance)?;
+    write_page(rt.alloc(), title, &checked, words, &groups, Some(capture), out)?;
     Ok(Ended {
         status: worse(status_of(checked.faults.is_safe()), seen),
         findings: Findings::Recording(Recorded::Other, rises, None),
@@ -140,9 +142,6 @@ fn put_lines(
     Ok(())
 }
 
-// How many groups have what mends them, each by itself, and a drawing.
-const GROUPS: usize = 100;
-
 // How the explained report is written.
 const LAYOUT: Layout = Layout {
     explain: true,
@@ -180,13 +179,12 @@ fn write_page<O: Output>(
     title: &str,
     checked: &Checked,
     words: PlanWords<'_>,
+    groups: &Grouped,
     capture: Option<Shown<'_>>,
     out: &mut O,
 ) -> Result<(), RunError>
     requires { AreFaults (plan_contents checked.now.plan) (fault_list checked.now.faults) }
 {
-    let groups = grouped_of(alloc, &checked.plan, words, &checked.faults, Some(GROUPS))?;
-    let mends = mends_found(alloc, checked, words)?;
     let order = order_of(alloc, &checked.plan, &checked.faults)?;
     let plan = print_plan(alloc, &checked.plan)?;
     let check = check_report(alloc, checked)?;
@@ -200,8 +198,7 @@ fn write_page<O: Output>(
         checked,
         words,
         order: &order,
-        groups: &groups,
-        mends: mends.as_ref(),
+        groups,
         recording,
         texts: Texts {
             plan: text_of(plan.as_slice()),
@@ -215,19 +212,17 @@ fn write_page<O: Output>(
     Ok(())
 }
 
-// What mends the plan, where it is unsafe.
-fn mends_found(
+// The groups of the unsafe pairs, with what is offered to mend them.
+fn groups_of(
     alloc: Global,
     checked: &Checked,
     words: PlanWords<'_>,
-) -> Result<Option<Mends>, AllocError>
+    provenance: &Provenance,
+) -> Result<Grouped, AllocError>
     requires { AreFaults (plan_contents checked.now.plan) (fault_list checked.now.faults) }
 {
-    if checked.faults.is_safe() {
-        return Ok(None);
-    }
-    let mends = mends_of(alloc, &checked.plan, words, &checked.faults)?;
-    Ok(Some(mends))
+    let Checked { plan, faults } = checked;
+    grouped_of(alloc, plan, words, faults, Some(provenance))
 }
 
 fn worse(one: Status, other: Status) -> Status {

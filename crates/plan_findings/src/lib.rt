@@ -2,8 +2,8 @@
 //!
 //! `unchecked` has what a check does not look at, `mistakes` and `breaks` what is wrong with a certificate (`broken`
 //! what is sent up to there), `tracks` what starters put along a wire. `whys` says why a pair is unsafe, and `offers`
-//! what is offered to mend unsafe pairs, in words that several forms have; `rewritten` says there which messages could
-//! be families. `details` is how much a form tells of unsafe pairs. What mends a plan is found in `remedies`.
+//! what is offered to mend unsafe pairs, in words that several forms have. `details` is how much a form tells of unsafe
+//! pairs. What mends a plan is found in `remedies`.
 #![tactic(auto)]
 
 mod breaks;
@@ -11,7 +11,6 @@ mod broken;
 mod details;
 mod mistakes;
 mod offers;
-mod rewritten;
 mod tracks;
 mod unchecked;
 mod whys;
@@ -19,7 +18,7 @@ mod whys;
 pub use breaks::{Break, Reason};
 pub use details::Detail;
 pub use mistakes::{Mistake, mistake_of};
-pub use offers::{Offer, offer_for_group, offers_for_all, tell_ranges};
+pub use offers::{Advice, SHOWN, advice_for_all, advice_for_group, tell_ranges};
 pub use tracks::{Track, WireTracks, tracks_of};
 pub use unchecked::{is_all_checked, unsent_in};
 pub use whys::why_unsafe;

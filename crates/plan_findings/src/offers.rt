@@ -1,246 +1,312 @@
 // What is offered to mend unsafe pairs, in words.
 
-use crate::rewritten::push_families;
+use edits::{ChangedLine, Place};
 use growing_text::{Part, Sentence, Text};
 use plan_words::PlanWords;
-use remedies::{Common, GroupMends, Grouped, Kept, Mends, Never};
+use remedies::{Change, Grouped, Offer, Offers, Together};
 use std::alloc::{AllocError, Global};
-use verdicts::Faults;
 
-// How many ranges of slots are named.
-const RANGES: usize = 6;
-
-// How many pairs with an interrupt are named.
+// How many ranges of slots are named, how many items, groups and places.
 const NAMED: usize = 6;
 
-/// What is offered to mend unsafe pairs, or that there is nothing to offer.
+/// How many offers of a group are shown.
+pub const SHOWN: usize = 4;
+
+// How many changed lines are shown of an offer.
+const LINES: usize = 4;
+
+/// What is offered, in words, and lines of the texts as they would stand.
 #[derive(Drop)]
-pub struct Offer {
-    /// What does.
+pub struct Advice {
     pub said: Sentence,
-    /// The `never` items that stand below it, as a plan or a brief has them.
-    pub items: Vec<String>,
-    /// What is said after these. It may be nothing.
-    pub after: Sentence,
+    /// Each as it stands in its text, but for blanks around it.
+    pub lines: Vec<String>,
 }
 
-// How many pairs items leave unchecked, of which plan, and whether its text has to begin otherwise to have them.
-#[derive(Clone, Copy)]
-pub(crate) struct Price {
-    pub(crate) unchecked: u64,
-    pub(crate) pairs: u64,
-    pub(crate) is_first_version: bool,
-}
-
-impl Price {
-    pub(crate) fn new(words: PlanWords<'_>, unchecked: u64) -> Price {
-        Price {
-            unchecked,
-            pairs: u64::from(words.plan().pair_count()),
-            is_first_version: words.is_first_version(),
-        }
-    }
-
-    // Whether more is left unchecked than half of the plan. This is said before the items.
-    fn is_high(self) -> bool {
-        self.pairs < self.unchecked.saturating_mul(2)
-    }
-
-    // A template of `3 of 7 pairs`.
-    fn tell(self, said: &mut Sentence, template: &'static str) {
-        let parts = [
-            Part::Number(self.unchecked),
-            Part::Number(self.pairs),
-            Part::Words(if self.pairs == 1 { "pair" } else { "pairs" }),
-        ];
-        said.tell(template, &parts);
-    }
-
-    /// Adds what stands before so many items.
-    pub(crate) fn tell_before(self, said: &mut Sentence, items: usize) {
-        match (self.is_high(), items) {
-            (false, 1) => said.tell(":", &[]),
-            (false, _) => said.tell(" all of:", &[]),
-            (true, 1) => self.tell(said, " this, which leaves {} of {} {} unchecked:"),
-            (true, _) => self.tell(said, " all of these, which leave {} of {} {} unchecked:"),
-        }
-    }
-
-    /// What is said after the items.
-    pub(crate) fn after(self, alloc: Global) -> Sentence {
-        let mut said = Sentence::new(alloc);
-        match (self.is_high(), self.is_first_version) {
-            (true, false) => {}
-            (true, true) => said.tell("(the first line becomes 'plan 2')", &[]),
-            (false, true) => self.tell(
-                &mut said,
-                "(leaves {} of {} {} unchecked; the first line becomes 'plan 2')",
-            ),
-            (false, false) => self.tell(&mut said, "(leaves {} of {} {} unchecked)"),
-        }
-        said
-    }
-}
-
-/// What is offered to mend all unsafe pairs of a plan with these faults: bits, shapes and `never` items that mend each of them;
-/// families as which messages could be written, with items; and what mends those with an interrupt.
+/// What is offered to mend the group with this number: the first offers, and how many more there are.
 ///
 /// # Errors
 ///
 /// Where an allocation fails.
-pub fn offers_for_all(
-    alloc: Global,
-    words: PlanWords<'_>,
-    faults: &Faults,
-    mends: &Mends,
-    groups: &Grouped,
-) -> Result<Vec<Offer>, AllocError> {
-    let mut offers = Vec::new(alloc);
-    if let Some(common) = groups.common() {
-        push_for_each(alloc, &mut offers, words, mends, groups.len(), common)?;
-    }
-    push_families(alloc, &mut offers, words, faults)?;
-    push_interrupted(alloc, &mut offers, mends.interrupted.as_slice())?;
-    Ok(offers)
-}
-
-// What mends each pair without an interrupt, where there are some.
-fn push_for_each(
-    alloc: Global,
-    offers: &mut Vec<Offer>,
-    words: PlanWords<'_>,
-    mends: &Mends,
-    groups: usize,
-    common: Common,
-) -> Result<(), AllocError> {
-    if mends.pairs <= mends.interrupted.len() {
-        return Ok(());
-    }
-    let who: &'static str = match (mends.pairs, mends.interrupted.is_empty()) {
-        (1, _) => "it",
-        (_, true) => "each",
-        (_, false) => "each without an interrupt",
-    };
-    let mut said = to_mend(alloc, who);
-    let has_ways = tell_common(&mut said, mends.pairs == 1, common);
-    let is_nothing = !has_ways && mends.kept.nevers.is_empty();
-    if !is_nothing {
-        offers.push(offer_of(alloc, words, said, has_ways, &mends.kept)?)?;
-    }
-    if !common.is_tried {
-        offers.push(spoken(alloc, Sentence::of(alloc, UNTRIED, &[])))?;
-    } else if is_nothing {
-        offers.push(nothing_for(alloc, who, groups))?;
-    }
-    Ok(())
-}
-
-const UNTRIED: &str = "bits and shapes were not tried of each group: there are too many slots";
-
-fn to_mend(alloc: Global, who: &'static str) -> Sentence {
-    Sentence::of(alloc, "to mend {}:", &[Part::Words(who)])
-}
-
-// The ways that all groups have. Whether there are any.
-fn tell_common(said: &mut Sentence, is_one: bool, common: Common) -> bool {
-    let its = Part::Words(if is_one { "that" } else { "its" });
-    if common.has_bit {
-        said.tell(" a bit before {} slot, known in both and different", &[its]);
-        tell_own(said, common.is_shared);
-    }
-    match (common.has_shape, common.has_bit) {
-        (false, _) => {}
-        (true, true) => said.tell("; or the same shape from there on", &[]),
-        (true, false) => said.tell(" the same shape from {} slot on", &[its]),
-    }
-    common.has_bit || common.has_shape
-}
-
-// Where one message is sent on both sides, it needs both bits.
-fn tell_own(said: &mut Sentence, is_shared: bool) {
-    if is_shared {
-        said.tell(" (in messages of their own)", &[]);
-    }
-}
-
-fn nothing_for(alloc: Global, who: &'static str, groups: usize) -> Offer {
-    let template = "nothing was found that mends {} and leaves a pair to check";
-    let mut said = Sentence::of(alloc, template, &[Part::Words(who)]);
-    if groups != 1 {
-        said.tell(": see what mends each group", &[]);
-    }
-    spoken(alloc, said)
-}
-
-// Words alone.
-fn spoken(alloc: Global, said: Sentence) -> Offer {
-    Offer {
-        said,
-        items: Vec::new(alloc),
-        after: Sentence::new(alloc),
-    }
-}
-
-/// What is offered to mend each pair of the group with this number, of these groups. Of the only group of a plan it is the bits
-/// alone: the rest is what is offered for all.
-///
-/// # Errors
-///
-/// Where an allocation fails.
-pub fn offer_for_group(
+pub fn advice_for_group(
     alloc: Global,
     words: PlanWords<'_>,
     groups: &Grouped,
     g: usize,
-) -> Result<Option<Offer>, AllocError> {
-    let (Some(group), Some(mends)) = (groups.group(g), groups.mends(g)) else {
-        return Ok(None);
+) -> Result<Vec<Advice>, AllocError> {
+    let mut advice = Vec::new(alloc);
+    let Some(offers) = groups.offers() else {
+        return Ok(advice);
     };
-    let is_only = groups.len() == 1;
-    let who = if group.pairs == 1 { "it" } else { "each" };
-    let mut said = to_mend(alloc, who);
-    let has_ways = tell_parting(&mut said, mends, is_only);
-    let none = Kept {
-        nevers: Vec::new(alloc),
-        unchecked: 0,
-    };
-    let kept = if is_only { &none } else { &mends.kept };
-    if !has_ways && kept.nevers.is_empty() {
-        return Ok(None);
+    let all = offers.of(g);
+    for offer in all.iter().take(SHOWN) {
+        advice.push(advice_of(alloc, words, groups, offer)?)?;
     }
-    Ok(Some(offer_of(alloc, words, said, has_ways, kept)?))
+    if SHOWN < all.len() {
+        let more = [Part::Number(all.len().saturating_sub(SHOWN) as u64)];
+        let template = "and {} more ('mend' lists all)";
+        advice.push(spoken(alloc, Sentence::of(alloc, template, &more)))?;
+    }
+    Ok(advice)
 }
 
-// The bits and the shape that part the pairs of a group. Whether there are any.
-fn tell_parting(said: &mut Sentence, mends: &GroupMends, is_only: bool) -> bool {
-    let Some(parting) = &mends.parting else {
-        return false;
+/// What is offered to mend all groups, and what a check then says.
+///
+/// # Errors
+///
+/// Where an allocation fails.
+pub fn advice_for_all(
+    alloc: Global,
+    words: PlanWords<'_>,
+    groups: &Grouped,
+) -> Result<Vec<Advice>, AllocError> {
+    let mut advice = Vec::new(alloc);
+    let Some(offers) = groups.offers() else {
+        return Ok(advice);
     };
-    let has_bits = !parting.slots.is_empty();
-    let has_shape = !is_only && parting.shape;
-    if has_bits {
-        said.tell(" a bit in slot", &[]);
-        tell_ranges(said, parting.slots.as_slice());
-        said.tell(", known in both and different", &[]);
-        tell_own(said, mends.is_shared);
+    if offers.together.places.is_empty() {
+        let template = "no edit was found that mends a group";
+        advice.push(spoken(alloc, Sentence::of(alloc, template, &[])))?;
+    } else {
+        advice.push(spoken(alloc, together(alloc, words, offers)))?;
     }
-    if has_shape {
-        said.tell(if has_bits { "; or " } else { " " }, &[]);
-        said.tell("the same shape from its slot on", &[]);
+    if offers.is_cut {
+        let template = "not all edits were tried: the plan is too large for that";
+        advice.push(spoken(alloc, Sentence::of(alloc, template, &[])))?;
     }
-    has_bits || has_shape
+    Ok(advice)
+}
+
+// Words alone.
+fn spoken(alloc: Global, said: Sentence) -> Advice {
+    Advice {
+        said,
+        lines: Vec::new(alloc),
+    }
+}
+
+// ---- an offer
+
+fn advice_of(
+    alloc: Global,
+    words: PlanWords<'_>,
+    groups: &Grouped,
+    offer: &Offer,
+) -> Result<Advice, AllocError> {
+    let mut said = Sentence::new(alloc);
+    tell_number(&mut said, offer);
+    tell_change(&mut said, words, offer);
+    tell_places(&mut said, words, offer.lines.as_slice());
+    if 1 < offer.groups.len() {
+        tell_groups(&mut said, groups, offer);
+    }
+    Ok(Advice {
+        said,
+        lines: lines_of(alloc, offer.lines.as_slice())?,
+    })
+}
+
+fn tell_number(said: &mut Sentence, offer: &Offer) {
+    let parts = [
+        Part::Number(offer.group as u64),
+        Part::Number(offer.number as u64),
+    ];
+    said.tell("{}.{} ", &parts);
+}
+
+fn tell_change(said: &mut Sentence, words: PlanWords<'_>, offer: &Offer) {
+    match offer.proposal.change {
+        Change::Count { .. } => {
+            tell_items(said, "let ", offer);
+            said.tell(" no longer read {} bytes", &[Part::Name(gone_in(offer))]);
+        }
+        Change::Known { place, bit, value } => {
+            let value = Part::Number(u64::from(value));
+            said.tell("let bit {} of", &[Part::Number(u64::from(bit))]);
+            tell_byte(said, place);
+            tell_items(said, " of ", offer);
+            let gone = Part::Name(gone_in(offer));
+            said.tell(" be {}, as it never is in the other (no longer {})", &[value, gone]);
+        }
+        Change::Bit { place, bit } => {
+            said.tell("let bit {} of", &[Part::Number(u64::from(bit))]);
+            tell_byte(said, place);
+            said.tell(" be 0 in one and 1 in the other", &[]);
+        }
+        Change::Read => {
+            tell_items(said, "let ", offer);
+            said.tell(" read one byte, in place of a header alone", &[]);
+        }
+        Change::Pointer => {
+            tell_items(said, "leave out what ", offer);
+            let template =
+                " writes before it reads, if the device keeps its pointer (someone else may have moved it)";
+            said.tell(template, &[]);
+        }
+        Change::Address(_) => {
+            tell_items(said, "give ", offer);
+            said.tell(" an address that nothing else has", &[]);
+        }
+        Change::Length { bytes } => {
+            tell_items(said, "let ", offer);
+            let bytes = Part::Number(u64::from(bytes));
+            said.tell(" send as many bytes as the other: {} more", &[bytes]);
+        }
+        Change::Never => tell_price(said, words, offer),
+    }
+}
+
+// ` data byte 1`, ` the address`, and the frame, where it is not the first one.
+fn tell_byte(said: &mut Sentence, place: Place) {
+    match place.byte {
+        Some(byte) => {
+            let byte = Part::Number(u64::from(byte).saturating_add(1));
+            said.tell(" data byte {}", &[byte]);
+        }
+        None => said.tell(" the address", &[]),
+    }
+    if place.frame != 0 {
+        let frame = Part::Number(u64::from(place.frame));
+        said.tell(" in frame {}", &[frame]);
+    }
+}
+
+// The items that are edited.
+fn tell_items(said: &mut Sentence, before: &'static str, offer: &Offer) {
+    let items = offer.proposal.items.as_slice();
+    said.tell(before, &[]);
+    for (k, item) in items.iter().take(NAMED).enumerate() {
+        if k != 0 {
+            said.tell(", ", &[]);
+        }
+        said.tell("{}", &[Part::Name(item.name.as_str())]);
+    }
+    tell_more(said, items.len());
+}
+
+fn tell_more(said: &mut Sentence, all: usize) {
+    if NAMED < all {
+        let more = all.saturating_sub(NAMED) as u64;
+        said.tell(" and {} more", &[Part::Number(more)]);
+    }
+}
+
+// What the first item no longer sends.
+fn gone_in(offer: &Offer) -> &str {
+    match offer.proposal.items.first() {
+        Some(item) => item.gone.as_str(),
+        None => "",
+    }
+}
+
+// How many pairs the items leave out, and whether that is much.
+fn tell_price(said: &mut Sentence, words: PlanWords<'_>, offer: &Offer) {
+    let pairs = words.plan().pair_count();
+    let unchecked = pairs.saturating_sub(offer.outcome.pairs);
+    let parts = [
+        Part::Number(u64::from(unchecked)),
+        Part::Number(u64::from(pairs)),
+        Part::Words(if pairs == 1 { "pair" } else { "pairs" }),
+    ];
+    let template = "keep them apart by a lock outside the bus: {} of {} {} are not checked then";
+    said.tell(template, &parts);
+    if u64::from(pairs) < u64::from(unchecked).saturating_mul(2) {
+        said.tell(", more than half", &[]);
+    }
+}
+
+// Where the lines stand that change.
+fn tell_places(said: &mut Sentence, words: PlanWords<'_>, lines: &[ChangedLine]) {
+    for (k, line) in lines.iter().take(NAMED).enumerate() {
+        let file = words.files().of(line.file).unwrap_or("");
+        let parts = [Part::Name(file), Part::Number(line.line)];
+        said.tell(if k == 0 { ": {}:{}" } else { ", {}:{}" }, &parts);
+    }
+    tell_more(said, lines.len());
+}
+
+// All groups that it mends, and how many pairs that is.
+fn tell_groups(said: &mut Sentence, groups: &Grouped, offer: &Offer) {
+    let mut pairs = 0usize;
+    said.tell(" (mends groups", &[]);
+    for (k, g) in offer.groups.iter().enumerate() {
+        if let Some(group) = groups.group(*g) {
+            pairs = pairs.saturating_add(group.pairs);
+        }
+        if k < NAMED {
+            let template = if k == 0 { " {}" } else { ", {}" };
+            said.tell(template, &[Part::Number(*g as u64)]);
+        }
+    }
+    tell_more(said, offer.groups.len());
+    said.tell(": {} pairs)", &[Part::Number(pairs as u64)]);
+}
+
+// The lines as they would stand, and how many more there are.
+fn lines_of(alloc: Global, lines: &[ChangedLine]) -> Result<Vec<String>, AllocError> {
+    let mut shown = Vec::new(alloc);
+    for line in lines.iter().take(LINES) {
+        shown.push(String::from_str(alloc, line.text.as_str().trim())?)?;
+    }
+    if LINES < lines.len() {
+        let mut text = Text::new(alloc);
+        text.push("# and ");
+        text.push_number(lines.len().saturating_sub(LINES) as u64);
+        text.push(" lines more");
+        shown.push(text.finish()?)?;
+    }
+    Ok(shown)
+}
+
+// ---- all together
+
+// The offers that mend all, or most, and what a check says with them.
+fn together(alloc: Global, words: PlanWords<'_>, offers: &Offers) -> Sentence {
+    let list = &offers.together;
+    let mut said = Sentence::of(alloc, "to mend", &[]);
+    match &list.outcome {
+        Some(outcome) if outcome.unsafe_pairs == 0 => said.tell(" all pairs:", &[]),
+        _ => said.tell(" what can be mended so:", &[]),
+    }
+    tell_list(&mut said, offers, list);
+    if let Some(outcome) = &list.outcome {
+        let (pairs, left) = (
+            Part::Number(u64::from(outcome.pairs)),
+            Part::Number(outcome.unsafe_pairs as u64),
+        );
+        if outcome.unsafe_pairs == 0 {
+            said.tell("; then check says 'safe: {} pairs'", &[pairs]);
+        } else {
+            said.tell("; then check says 'unsafe: {} of {} pairs'", &[left, pairs]);
+        }
+        let unchecked = words.plan().pair_count().saturating_sub(outcome.pairs);
+        if unchecked != 0 {
+            let unchecked = Part::Number(u64::from(unchecked));
+            said.tell(" ({} are not checked)", &[unchecked]);
+        }
+    }
+    said
+}
+
+fn tell_list(said: &mut Sentence, offers: &Offers, list: &Together) {
+    for (k, place) in list.places.iter().enumerate() {
+        if let Some(offer) = offers.all.get(*place) {
+            let parts = [
+                Part::Number(offer.group as u64),
+                Part::Number(offer.number as u64),
+            ];
+            said.tell(if k == 0 { " {}.{}" } else { ", {}.{}" }, &parts);
+        }
+    }
 }
 
 /// Adds runs of slots, the first of them by first and last ones.
 pub fn tell_ranges(said: &mut Sentence, ranges: &[(usize, usize)]) {
-    for (k, range) in ranges.iter().take(RANGES).enumerate() {
+    for (k, range) in ranges.iter().take(NAMED).enumerate() {
         said.tell(if k == 0 { " " } else { ", " }, &[]);
         tell_range(said, *range);
     }
-    if RANGES < ranges.len() {
-        let more = ranges.len().saturating_sub(RANGES) as u64;
-        said.tell(" and {} more", &[Part::Number(more)]);
-    }
+    tell_more(said, ranges.len());
 }
 
 fn tell_range(said: &mut Sentence, range: (usize, usize)) {
@@ -250,76 +316,4 @@ fn tell_range(said: &mut Sentence, range: (usize, usize)) {
     } else {
         said.tell("{}..{}", &[from, to]);
     }
-}
-
-// These ways, or these items.
-fn offer_of(
-    alloc: Global,
-    words: PlanWords<'_>,
-    mut said: Sentence,
-    has_ways: bool,
-    kept: &Kept,
-) -> Result<Offer, AllocError> {
-    if kept.nevers.is_empty() {
-        return Ok(spoken(alloc, said));
-    }
-    let price = Price::new(words, kept.unchecked);
-    tell_or(&mut said, price, has_ways, kept.nevers.len());
-    Ok(Offer {
-        said,
-        items: items_of(alloc, kept.nevers.as_slice())?,
-        after: price.after(alloc),
-    })
-}
-
-// What stands before so many items, which are perhaps another way.
-fn tell_or(said: &mut Sentence, price: Price, has_ways: bool, items: usize) {
-    if has_ways {
-        said.tell("; or", &[]);
-    }
-    if has_ways || price.is_high() || items != 1 {
-        price.tell_before(said, items);
-    }
-}
-
-fn items_of(alloc: Global, nevers: &[Never]) -> Result<Vec<String>, AllocError> {
-    let mut items = Vec::with_capacity(alloc, nevers.len())?;
-    for never in nevers {
-        items.push(item_of(alloc, never.first.as_str(), never.second.as_str())?)?;
-    }
-    Ok(items)
-}
-
-/// An item as a brief or a plan has it.
-pub(crate) fn item_of(alloc: Global, first: &str, second: &str) -> Result<String, AllocError> {
-    let mut text = Text::new(alloc);
-    text.push("never ");
-    text.push(first);
-    text.push(" ");
-    text.push(second);
-    text.push(" ;");
-    text.finish()
-}
-
-// What mends the pairs with an interrupt, where there are some: the first of these, and how many more there are.
-fn push_interrupted(
-    alloc: Global,
-    offers: &mut Vec<Offer>,
-    pairs: &[u32],
-) -> Result<(), AllocError> {
-    if pairs.is_empty() {
-        return Ok(());
-    }
-    let template = "only another header mends a pair with an interrupt:";
-    let mut said = Sentence::of(alloc, template, &[]);
-    for (k, pair) in pairs.iter().take(NAMED).enumerate() {
-        let template = if k == 0 { " pair {}" } else { ", pair {}" };
-        said.tell(template, &[Part::Number(u64::from(*pair))]);
-    }
-    if NAMED < pairs.len() {
-        let more = pairs.len().saturating_sub(NAMED) as u64;
-        said.tell(" and {} more", &[Part::Number(more)]);
-    }
-    offers.push(spoken(alloc, said))?;
-    Ok(())
 }

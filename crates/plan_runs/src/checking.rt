@@ -347,7 +347,7 @@ fn tell_checked<O: Output>(
         groups: look.explain.unwrap_or(0),
     };
     let reasons = match look.explain {
-        Some(groups) => Some(reasons_of(alloc, checked, words, groups)?),
+        Some(_) => Some(reasons_of(alloc, checked, words, provenance)?),
         None => None,
     };
     let status = status_of(checked.faults.is_safe());
@@ -356,7 +356,8 @@ fn tell_checked<O: Output>(
             let texts = provenance.texts.as_slice();
             let spans = &provenance.spans;
             let odd = oddities(alloc, &checked.plan, &provenance.origins, texts, spans)?;
-            write_check(alloc, checked, words, odd.as_slice(), reasons, detail, out)?;
+            let odd = odd.as_slice();
+            write_check(alloc, checked, words, odd, texts, reasons, detail, out)?;
             Ok(status)
         }
         (Style::Lines(Paint::Plain), None) => {

@@ -9,9 +9,9 @@ use bus_rows::{Paint, meeting_of};
 use certificate::Fault;
 use growing_text::Text;
 use plan_core::Plan;
-use plan_findings::{Detail, offers_for_all};
+use plan_findings::{Detail, advice_for_all};
 use plan_words::PlanWords;
-use remedies::{Grouped, Mends, Reasons, both_of};
+use remedies::{Grouped, Reasons, both_of};
 use report::{push_count, push_fault};
 use run_parts::{Output, RunError};
 use std::alloc::{AllocError, Global};
@@ -38,7 +38,7 @@ pub fn explain_check<O: Output>(
     if detail.pairs {
         write_pairs(alloc, plan, faults, &mut text, out)?;
     }
-    if let Some(Reasons::Unsafe(_, groups)) = reasons {
+    if let Some(Reasons::Unsafe(groups)) = reasons {
         write_groups(alloc, words, faults, groups, detail.groups, &mut text, out)?;
     }
     push_end(alloc, &mut text, checked, words, reasons, paint);
@@ -108,24 +108,16 @@ fn push_end(
     paint.push_verdict(text, last_line(alloc, plan, faults.len()), word, is_safe);
     match reasons {
         Some(Reasons::Safe(safety)) => text.push_made(below_safe(alloc, safety)),
-        Some(Reasons::Unsafe(mends, groups)) => {
-            text.push_made(offered(alloc, words, faults, mends, groups))
-        }
+        Some(Reasons::Unsafe(groups)) => text.push_made(offered(alloc, words, groups)),
         None => return,
     }
     text.push_made(below_checked(alloc, words));
 }
 
 // What is offered to mend all unsafe pairs.
-fn offered(
-    alloc: Global,
-    words: PlanWords<'_>,
-    faults: &Faults,
-    mends: &Mends,
-    groups: &Grouped,
-) -> Result<String, AllocError> {
-    let offers = offers_for_all(alloc, words, faults, mends, groups)?;
-    below_unsafe(alloc, offers.as_slice())
+fn offered(alloc: Global, words: PlanWords<'_>, groups: &Grouped) -> Result<String, AllocError> {
+    let advice = advice_for_all(alloc, words, groups)?;
+    below_unsafe(alloc, advice.as_slice())
 }
 
 // The line of an unsafe pair.
