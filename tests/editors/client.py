@@ -309,7 +309,7 @@ controller bmc limit ;
 for code, line, span in [
     ('P1', 'message \u00b0', [4, 8, 4, 9]),
     ('P3', '"a" ;', [4, 0, 4, 3]),
-    ('P3', 'group g psu ;', [4, 0, 4, 5]),
+    ('P8', 'group g none ;', [4, 8, 4, 12]),
     ('P3', 'controller sum ;', [4, 11, 4, 14]),
     ('P3', 'message m write psu pec*2 ;', [4, 23, 4, 24]),
     ('P3', 'message m write psu wr psu ;', [4, 23, 4, 26]),
