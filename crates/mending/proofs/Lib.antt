@@ -1,3 +1,4 @@
+pub mod EditLemmas
 pub mod FaultPlaces
 pub mod MendingLemmas
 pub mod NumberLemmas

@@ -9,7 +9,7 @@ use Rattle.plan_core.specs.Contents.{Contents}
 use Rattle.plan_core.specs.Pairs.{pairs_of}
 use Rattle.plan_core.specs.Participants.{participants_of, participant_count}
 use Rattle.plan_core.proofs.SenderPlaceLemmas.{pair_within}
-use Rattle.mending.specs.Numbers.{place_of, number_in, number_at, numbers_in, numbers_of}
+use Rattle.mending.specs.Numbers.{place_of, number_in, number_at, numbers_at, numbers_in, numbers_of}
 
 module _ (plan other : Contents) (x : ℕ) where
   pub number_of_message : (c m : ℕ) (name : List ℕ) → slice_get (participants_of other) x ≡ Some (Sending c m) → slice_get (keys_of other.messages) m ≡ Some name → place_of name plan.messages ≡ number_at plan other x
@@ -34,6 +34,6 @@ numbers_more plan other faults numbers pairs k p f x y a b these so_far stands a
     let one = get_or_from_slice_get faults k (p, f) (p, f) stands in
     let m = number_read plan other numbers x a these (omega (arith, within.0, within.1)) first in
     let n = number_read plan other numbers y b these within.1 second in
-    let own : (a, b) ≡ numbers_of plan other (p, f) = (λ i. (m i, n i)) ∙ ap (λ (it : ℕ × ℕ). (number_at plan other it.0, number_at plan other it.1)) (sym two) in
+    let own : (a, b) ≡ numbers_of plan other (p, f) = (λ i. (m i, n i)) ∙ ap (numbers_at plan other) (sym two) in
     let all = map_more (numbers_of plan other) faults k (p, f) (slice_get_within faults k (p, f) stands) in
     (λ i. so_far i ++ own i ∷ []) ∙ (ap (λ (it : ℕ × Fault). map (numbers_of plan other) (take k faults) ++ numbers_of plan other it ∷ []) (sym one) ∙ sym all)

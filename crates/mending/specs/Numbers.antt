@@ -32,10 +32,12 @@ number_at plan other x = number_in plan other (slice_index_or (participants_of o
 abbrev pub numbers_in : Contents → Contents → List ℕ
 numbers_in plan other = map (number_in plan other) (participants_of other)
 
+abbrev pub numbers_at : Contents → Contents → ℕ × ℕ → ℕ × ℕ
+numbers_at plan other two = (number_at plan other two.0, number_at plan other two.1)
+
 -- the two numbers of the pair of a fault
 abbrev pub numbers_of : Contents → Contents → ℕ × Fault → ℕ × ℕ
-numbers_of plan other found =
-    let two = slice_index_or (pairs_of other) found.0 (0, 0) in (number_at plan other two.0, number_at plan other two.1)
+numbers_of plan other found = numbers_at plan other (slice_index_or (pairs_of other) found.0 (0, 0))
 
 -- those of all
 abbrev pub all_numbers : Contents → Contents → List (ℕ × Fault) → List (ℕ × ℕ)
