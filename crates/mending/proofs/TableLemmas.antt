@@ -1,6 +1,5 @@
 -- A table of all pairs of numbers below n, one pair after the other.
-use Rattle.std.proofs.Common.{◌≡◌, ℕ, ◌+◌, ◌*◌, ◌/◌, ◌%◌, ◌<◌, ◌==◌, ◌&&◌, ◌||◌, Bool, true, false, Some, List, [], ◌∷◌, ◌++◌, length, get_or, map, take, set, slice_get, replicate, refl, ap, sym, ◌∙◌, inl, inr, arith, eq-eqb}
-use Rattle.std.specs.Prelude.{All, Decides}
+use Rattle.std.proofs.Common.{◌≡◌, ℕ, ◌+◌, ◌*◌, ◌/◌, ◌%◌, ◌<◌, ◌==◌, ◌&&◌, ◌||◌, Bool, true, false, Some, List, [], ◌∷◌, ◌++◌, length, get_or, map, take, set, slice_get, refl, ap, sym, ◌∙◌, inl, inr, arith}
 use Rattle.std.specs.List.{list_all}
 use Rattle.std.proofs.Math.ListN.{length-set}
 use Rattle.std.proofs.Math.Nat.{mod-eq_of_lt, mul-add-mod_self_right}
@@ -10,8 +9,7 @@ use Rattle.std.proofs.lemmas.List.Folds.{list_all-map, list_any_more}
 use Rattle.std.proofs.lemmas.Nat.{div-mul-add}
 use Rattle.std.proofs.lemmas.Option.{get_or_from_slice_get, slice_get_within}
 use Rattle.plan_core.specs.Participants.{names_both}
-use Rattle.plan_core.proofs.ListLemmas.{get_set_same, get_set_other, length_of_all}
-use Rattle.plan_core.proofs.SenderPlaceLemmas.{place_in}
+use Rattle.plan_core.proofs.ListLemmas.{get_set_same, get_set_other}
 use Rattle.mending.specs.Numbers.{is_among, AreBelow, IsTable}
 
 -- ---- places
@@ -58,7 +56,7 @@ table_more n pairs k a b table new so_far within two h i is = record {
       let one = set_true table (a * n + b) (v * n + w) before (so_far.each v w l m) in
       let other = set_true (set table (a * n + b) true) (b * n + a) (v * n + w) (before || v * n + w == a * n + b) one in
       let tests : ((before || v * n + w == a * n + b) || v * n + w == b * n + a) ≡ (before || (a == v && b == w || a == w && b == v)) =
-          (λ j. (before || own_place v w a b n m i j) || own_place v w b a n m h j) ∙ either_way before (a == v) (b == w) (b == v) (a == w) in
+      (λ j. (before || own_place v w a b n m i j) || own_place v w b a n m h j) ∙ either_way before (a == v) (b == w) (b == v) (a == w) in
       let more = list_any_more (names_both v w) pairs k (0, 0) within ∙ ap (λ (it : ℕ × ℕ). before || names_both v w it) two in
       ap (λ (t : List Bool). slice_get t (v * n + w)) is ∙ (other ∙ ap Some (tests ∙ sym more));
 }

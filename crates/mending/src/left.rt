@@ -1,6 +1,6 @@
 // Which unsafe pairs an edit of a plan leaves, and whether it makes others unsafe.
 
-ghost use Rattle.std.specs.Prelude.{◌≡◌, ◌↔◌, None, ◌<◌, ◌≤◌, ◌*◌, true, false, IfOk, IfSome, IsTrue, MatchOption, is_none, Some, length, map, replicate, slice_get, slice_set};
+ghost use Rattle.std.specs.Prelude.{◌≡◌, ◌↔◌, ◌<◌, ◌≤◌, true, false, IfOk, IfSome, IsTrue, MatchOption, is_none, Some, length, map, replicate, slice_get, slice_set};
 ghost use Rattle.std.specs.List.{list_all};
 ghost use Rattle.std.specs.Map.{keys_of};
 ghost use Rattle.plan_core.specs.NameBytes.{name_bytes};
@@ -14,7 +14,19 @@ use plan_core::{Name, Participant, Plan};
 use std::alloc::{AllocError, Global};
 use verdicts::Faults;
 
-/// Which unsafe pairs an edit of the plan leaves.
+/// What an edit of the plan does to its unsafe pairs: `faults` are those of the plan, `edited` is the plan that the edited text
+/// means, and `after` are those of `edited`. Messages and interrupts of the two plans are known to each other by their names,
+/// so `edited` may have more of them or fewer, in another order. Two pairs are the same where what they send has the same
+/// names, in this order or the other one, whichever controllers send it.
+///
+/// None exactly where the edit makes a pair unsafe: where `edited` has an unsafe pair that is the same as no unsafe pair of the
+/// plan. Else for each of `faults`, in order, whether the edit leaves its pair unsafe: whether `edited` has an unsafe pair that
+/// is the same. So where the answers for some pairs are all false, `edited` has no unsafe pair that is the same as one of them,
+/// and none that was safe.
+///
+/// # Errors
+///
+/// Where an allocation fails.
 pub fn left_by(
     alloc: Global,
     plan: &Plan,
@@ -29,12 +41,18 @@ pub fn left_by(
     ensures left { IfOk result (λ answer. IfSome answer (λ left.
         AreLeft (plan_contents plan.now) (fault_list faults.now) (plan_contents edited.now) left.items)) }
 {
-    let before = numbers_of(alloc, plan, plan, faults)?;
-    let later = numbers_of(alloc, plan, edited, after)?;
-    left_of(alloc, number_count(plan), before.as_slice(), later.as_slice())
+    let before = all_numbers(alloc, plan, plan, faults)?;
+    let later = all_numbers(alloc, plan, edited, after)?;
+    left_of(
+        alloc,
+        number_count(plan),
+        before.as_slice(),
+        later.as_slice(),
+    )
 }
 
-// What is left of the first pairs, where these are the second, as pairs of numbers below `n`.
+// For each of the first pairs whether it is one of the second. None where one of the second is not one of the first. All are
+// pairs of numbers below `n`, in either order.
 fn left_of(
     alloc: Global,
     n: usize,
@@ -61,7 +79,7 @@ fn all_true(found: &[bool]) -> bool
     found.iter().all(|b| *b)
 }
 
-// For each of these pairs whether it is one of the others, in this order or the other one.
+// For each of these pairs whether it is one of the others, in either order.
 fn among(
     alloc: Global,
     n: usize,
@@ -82,7 +100,7 @@ fn among(
     Ok(found)
 }
 
-// For each two numbers below `n` whether they are one of these pairs.
+// For each two numbers below `n` whether they are one of these pairs, in either order.
 fn table_of(alloc: Global, n: usize, pairs: &[(usize, usize)]) -> Result<Vec<bool>, AllocError>
     requires few { n ≤ 512 }
     requires pairs { AreBelow n pairs.now }
@@ -111,8 +129,8 @@ fn mark(table: &mut Vec<bool>, i: usize, j: usize)
     table[j] = true;
 }
 
-// The numbers in `plan` of what each unsafe pair of the other plan sends.
-fn numbers_of(
+// For each unsafe pair of the other plan, the numbers in `plan` of what its two send.
+fn all_numbers(
     alloc: Global,
     plan: &Plan,
     other: &Plan,
@@ -132,7 +150,8 @@ fn numbers_of(
     Ok(pairs)
 }
 
-// The number in `plan` of what each participant of the other plan sends.
+// For each participant of the other plan, the number in `plan` of what it sends: messages have those from 0 on, interrupts those
+// after them. What has a name that the plan has not gets a number that nothing of the plan has.
 fn numbers_in(alloc: Global, plan: &Plan, other: &Plan) -> Result<Vec<usize>, AllocError>
     ensures { IfOk result (λ numbers. numbers.items ≡ numbers_in (plan_contents plan.now) (plan_contents other.now)) }
 {
@@ -166,8 +185,8 @@ fn number_count(plan: &Plan) -> usize
     plan.messages() as usize + plan.interrupts() as usize + 2
 }
 
-// Where a message of this name stands in the plan, and how many it has where it has none. It is looked for at `near` first:
-// most edits leave the order as it is.
+// Where the message of this name stands in the plan, or how many messages there are. It is looked for at `near` first: most
+// edits leave the order as it is.
 fn message_place(plan: &Plan, name: &Name, near: u32) -> u32
     ensures { result ≡ place_of (name_bytes name.now) (plan_contents plan.now).messages }
 {

@@ -1,4 +1,4 @@
-use Rattle.std.proofs.Common.{◌≡◌, ℕ, Bool, List, Vec, Global, sym, subst, ◌∙◌}
+use Rattle.std.proofs.Common.{ℕ, Bool, List, Vec, Global, sym, subst, ◌∙◌}
 use Rattle.std.proofs.lemmas.Result.{IfOk-weaker}
 use Rattle.plan_core.proofs.PlanLemmas.{limits_of}
 use Rattle.plan_core.specs.PlanContents.{plan_contents}
@@ -25,7 +25,7 @@ returns-clause-none c =
     let before = c.as_slice.ensures.value ∙ c.in_ok-before.ensures in
     let later = c.as_slice-2.ensures.value ∙ c.in_ok-later.ensures in
     IfOk-weaker c.left_of.result _ _ (λ answer h.
-        (answer_says (plan_contents plan) (plan_contents c.args.edited.now) (limits_of plan) (fault_list c.args.faults.now) (fault_list c.args.after.now) c.requires.faults c.requires.after (λ (left : Vec Bool Global). left.items) answer c.as_slice.result.now c.as_slice-2.result.now before later h).0) c.left_of.ensures
+    (answer_says (plan_contents plan) (plan_contents c.args.edited.now) (limits_of plan) (fault_list c.args.faults.now) (fault_list c.args.after.now) c.requires.faults c.requires.after (λ (left : Vec Bool Global). left.items) answer c.as_slice.result.now c.as_slice-2.result.now before later h).0) c.left_of.ensures
 
 pub returns-clause-left : goal.returns-clause-left
 returns-clause-left c =
@@ -33,4 +33,4 @@ returns-clause-left c =
     let before = c.as_slice.ensures.value ∙ c.in_ok-before.ensures in
     let later = c.as_slice-2.ensures.value ∙ c.in_ok-later.ensures in
     IfOk-weaker c.left_of.result _ _ (λ answer h.
-        (answer_says (plan_contents plan) (plan_contents c.args.edited.now) (limits_of plan) (fault_list c.args.faults.now) (fault_list c.args.after.now) c.requires.faults c.requires.after (λ (left : Vec Bool Global). left.items) answer c.as_slice.result.now c.as_slice-2.result.now before later h).1) c.left_of.ensures
+    (answer_says (plan_contents plan) (plan_contents c.args.edited.now) (limits_of plan) (fault_list c.args.faults.now) (fault_list c.args.after.now) c.requires.faults c.requires.after (λ (left : Vec Bool Global). left.items) answer c.as_slice.result.now c.as_slice-2.result.now before later h).1) c.left_of.ensures

@@ -11,5 +11,5 @@ returns-then-not-all_true c =
 pub returns : goal.returns
 returns c =
     let all : list_all (is_among c.args.before.now) c.args.later.now ≡ true =
-        all_found c.args.before.now c.args.later.now c.in_ok-known.known.items c.as_slice.result.now true c.in_ok-known.ensures c.as_slice.ensures.value c.if-not-all_true.ensures in
+    all_found c.args.before.now c.args.later.now c.in_ok-known.known.items c.as_slice.result.now true c.in_ok-known.ensures c.as_slice.ensures.value c.if-not-all_true.ensures in
     (all, c.in_ok-left.ensures)

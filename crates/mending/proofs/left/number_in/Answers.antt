@@ -1,7 +1,6 @@
-use Rattle.std.proofs.Common.{ℕ, ◌+◌, ap, ◌∙◌}
+use Rattle.std.proofs.Common.{◌+◌, ◌∙◌}
 use Rattle.plan_core.specs.NameBytes.{name_bytes}
 use Rattle.plan_core.specs.PlanContents.{plan_contents}
-use Rattle.mending.specs.Numbers.{place_of}
 use Rattle.mending.proofs.NumberLemmas.{number_of_message, number_of_interrupt}
 use Rattle.mending.proofs.left.number_in.Goals as goal
 

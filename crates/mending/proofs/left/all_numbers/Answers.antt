@@ -1,4 +1,4 @@
-use Rattle.std.proofs.Common.{◌≡◌, length, ap, ◌∙◌, arith}
+use Rattle.std.proofs.Common.{length, ap, ◌∙◌, arith}
 use Rattle.std.proofs.lemmas.List.{length-map}
 use Rattle.std.proofs.lemmas.Option.{slice_get_within}
 use Rattle.plan_core.proofs.SenderPlaceLemmas.{pair_within}
@@ -9,7 +9,7 @@ use Rattle.verdicts.specs.Faults.{fault_list}
 use Rattle.mending.proofs.FaultPlaces.{pair_of_fault}
 use Rattle.mending.proofs.NumberLemmas.{numbers_more}
 use Rattle.mending.specs.Numbers.{number_in}
-use Rattle.mending.proofs.left.numbers_of.Goals as goal
+use Rattle.mending.proofs.left.all_numbers.Goals as goal
 
 pub pair-x-requires : goal.pair-x-requires
 pair-x-requires c =
