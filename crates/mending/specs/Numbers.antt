@@ -1,5 +1,5 @@
--- Numbers for the names of a plan: its messages first, then its interrupts. A name that no message of the plan has gets the
--- number after theirs, and so for interrupts.
+-- Numbers for names in a plan: those of its messages from 0 on, one for all names that no message has, then those of its
+-- interrupts, and one for all names that no interrupt has.
 -- Only private contracts and proofs use this.
 use Rattle.std.specs.Prelude.{◌≡◌, ℕ, ◌+◌, ◌*◌, ◌<◌, Bool, List, length, map, All, Some, slice_get}
 use Rattle.std.specs.List.{list_any, position_or_len, slice_index_or}
@@ -22,7 +22,7 @@ abbrev pub number_in : Contents → Contents → Participant → ℕ
 number_in plan other (Sending c m) = place_of (name_at other.messages m) plan.messages
 number_in plan other (Interrupt k) = length plan.messages + 1 + place_of (name_at other.interrupts k) plan.interrupts
 
--- all numbers are below
+-- each of them is below this
 abbrev pub number_count : Contents → ℕ
 number_count plan = length plan.messages + length plan.interrupts + 2
 

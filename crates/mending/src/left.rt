@@ -63,7 +63,8 @@ fn left_of(
     requires before { AreBelow n before.now }
     requires later { AreBelow n later.now }
     ensures { IfOk result (λ answer. MatchOption answer (list_all (is_among before.now) later.now ≡ false)
-        (λ left. (list_all (is_among before.now) later.now ≡ true) × (left.items ≡ map (is_among later.now) before.now))) }
+        (λ left. (list_all (is_among before.now) later.now ≡ true) ×
+        (left.items ≡ map (is_among later.now) before.now))) }
 {
     let known = among(alloc, n, later, before)?;
     if !all_true(known.as_slice()) {
@@ -120,6 +121,7 @@ fn all_false(alloc: Global, n: usize) -> Result<Vec<bool>, AllocError>
     vec![in alloc; false; n]
 }
 
+// Marks the two places of a pair, one for each order.
 fn mark(table: &mut Vec<bool>, i: usize, j: usize)
     requires i { i < length table.old.items }
     requires j { j < length table.old.items }
@@ -150,8 +152,8 @@ fn all_numbers(
     Ok(pairs)
 }
 
-// For each participant of the other plan, the number in `plan` of what it sends: messages have those from 0 on, interrupts those
-// after them. What has a name that the plan has not gets a number that nothing of the plan has.
+// For each participant of the other plan, the number in `plan` of what it sends: its place among the messages of `plan`, or
+// after them its place among the interrupts. A name that `plan` has not gets a number that nothing of `plan` has.
 fn numbers_in(alloc: Global, plan: &Plan, other: &Plan) -> Result<Vec<usize>, AllocError>
     ensures { IfOk result (λ numbers. numbers.items ≡ numbers_in (plan_contents plan.now) (plan_contents other.now)) }
 {
