@@ -21,8 +21,8 @@ use verdicts::Faults;
 ///
 /// None exactly where the edit makes a pair unsafe: where `edited` has an unsafe pair that is the same as no unsafe pair of the
 /// plan. Else for each of `faults`, in order, whether the edit leaves its pair unsafe: whether `edited` has an unsafe pair that
-/// is the same. So where the answers for some pairs are all false, `edited` has no unsafe pair that is the same as one of them,
-/// and none that was safe.
+/// is the same. So where the answers for some pairs are all false, `edited` has no unsafe pair that is the same as one of these,
+/// and no new one.
 ///
 /// # Errors
 ///
