@@ -184,12 +184,15 @@ pub fn push_never(alloc: Global, edits: &mut Edits, texts: &[Vec<u8>], sides: (&
     edits.add(span, item.finish());
 }
 
-/// The plan text is one of the second version.
-pub fn push_second_version(alloc: Global, edits: &mut Edits, text: &[u8]) {
-    let mut tokens = Tokens::new(text);
+/// The plan text, which is the first of these texts, is one of the second version.
+pub fn push_second_version(alloc: Global, edits: &mut Edits, texts: &[Vec<u8>]) {
+    let Some(text) = texts.first() else {
+        return edits.refuse();
+    };
+    let mut tokens = Tokens::new(text.as_slice());
     tokens.next();
     let version = tokens.next();
-    let at = token_at(text, tokens.spot(), version.line);
+    let at = token_at(text.as_slice(), tokens.spot(), version.line);
     let span = Span {
         file: 0,
         start: at.start,
