@@ -5,10 +5,12 @@ ghost use Rattle.plan_core.specs.PlanContents.{plan_contents};
 ghost use Rattle.verdicts.specs.Faults.{AreFaults, fault_list};
 
 use crate::families::{called_of, families_of, party_of};
-use crate::mends::{Common, GroupMends, GroupsMends, both_of, mends_of_groups};
+use crate::mends::both_of;
+use crate::offers::{Offers, offers_of};
 use crate::ranks::Ranked;
 use bus_rows::{Labels, called_by};
 use causes::{Family, Group, groups_of};
+use given_plans::Provenance;
 use plan_core::Plan;
 use plan_words::PlanWords;
 use std::alloc::{AllocError, Global};
@@ -102,8 +104,8 @@ pub struct Grouped {
     meets: Vec<Meet>,
     /// Where those of each group begin.
     starts: Vec<usize>,
-    /// What mends them.
-    mends: GroupsMends,
+    /// What is offered to mend them, if that was looked for.
+    offers: Option<Offers>,
 }
 
 // Written out, so that one call lets it go.
@@ -116,7 +118,7 @@ impl Drop for Grouped {
             parties: _,
             meets: _,
             starts: _,
-            mends: _,
+            offers: _,
         } = self;
     }
 }
@@ -166,14 +168,9 @@ impl Grouped {
         }
     }
 
-    /// What mends the group with this number, if that was looked for.
-    pub fn mends(&self, g: usize) -> Option<&GroupMends> {
-        self.mends.each.get(g)
-    }
-
-    /// What mends each pair without an interrupt, if that was looked for.
-    pub fn common(&self) -> Option<Common> {
-        self.mends.common
+    /// What is offered to mend the groups, if that was looked for.
+    pub fn offers(&self) -> Option<&Offers> {
+        self.offers.as_ref()
     }
 
     /// What the family of a message is called, which is the name of the message where it is alone in it.
@@ -218,8 +215,8 @@ fn at(starts: &[usize], g: usize, end: usize) -> usize {
     }
 }
 
-/// The groups of the unsafe pairs of the plan, which has these faults, in these words of it, and what mends them, if that is wanted:
-/// of the first so many by itself. There are none of a safe plan.
+/// The groups of the unsafe pairs of the plan, which has these faults, in these words of it; and what is offered to mend them, if that
+/// is wanted: by edits of what gives the plan. There are none of a safe plan.
 ///
 /// # Errors
 ///
@@ -229,7 +226,7 @@ pub fn grouped_of(
     plan: &Plan,
     words: PlanWords<'_>,
     faults: &Faults,
-    most: Option<usize>,
+    edited: Option<&Provenance>,
 ) -> Result<Grouped, AllocError>
     requires { AreFaults (plan_contents plan.now) (fault_list faults.now) }
 {
@@ -239,9 +236,9 @@ pub fn grouped_of(
     let parties = parties_of(alloc, words, families.as_slice())?;
     let meets = meets_of(alloc, plan, faults, &groups, parties.as_slice())?;
     let starts = starts_of(alloc, meets.as_slice())?;
-    let mends = match most {
-        Some(most) => mends_of_groups(alloc, words, faults, &groups, most)?,
-        None => GroupsMends::none(alloc),
+    let offers = match edited {
+        Some(provenance) => Some(offers_of(alloc, plan, words, faults, &groups, provenance)?),
+        None => None,
     };
     let families = all_called(alloc, plan, families.as_slice())?;
     Ok(Grouped {
@@ -251,7 +248,7 @@ pub fn grouped_of(
         parties,
         meets,
         starts,
-        mends,
+        offers,
     })
 }
 

@@ -4,8 +4,8 @@ ghost use Rattle.plan_core.specs.PlanContents.{plan_contents};
 ghost use Rattle.verdicts.specs.Faults.{AreFaults, fault_list};
 
 use crate::groups::{Grouped, grouped_of};
-use crate::mends::{Mends, mends_of};
 use crate::safety::{Safety, safety_of};
+use given_plans::Provenance;
 use plan_words::PlanWords;
 use std::alloc::{AllocError, Global};
 use verdicts::Checked;
@@ -14,11 +14,11 @@ use verdicts::Checked;
 #[derive(Drop)]
 pub enum Reasons {
     Safe(Safety),
-    Unsafe(Mends, Grouped),
+    Unsafe(Grouped),
 }
 
 /// What explains the verdict on a plan that was checked, in these words of it. Of a safe one the proof of each two senders is looked at
-/// once more, and of an unsafe one it is tried what mends its groups, of the first so many by itself.
+/// once more, and of an unsafe one it is tried which edits of what gives it mend its groups.
 ///
 /// # Errors
 ///
@@ -27,7 +27,7 @@ pub fn reasons_of(
     alloc: Global,
     checked: &Checked,
     words: PlanWords<'_>,
-    groups: u32,
+    provenance: &Provenance,
 ) -> Result<Reasons, AllocError>
     requires { AreFaults (plan_contents checked.now.plan) (fault_list checked.now.faults) }
 {
@@ -35,9 +35,8 @@ pub fn reasons_of(
     if faults.is_safe() {
         Ok(Reasons::Safe(safety_of(alloc, words)?))
     } else {
-        let mends = mends_of(alloc, plan, words, faults)?;
-        let groups = grouped_of(alloc, plan, words, faults, Some(groups as usize))?;
-        Ok(Reasons::Unsafe(mends, groups))
+        let groups = grouped_of(alloc, plan, words, faults, Some(provenance))?;
+        Ok(Reasons::Unsafe(groups))
     }
 }
 

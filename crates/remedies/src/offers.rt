@@ -1,0 +1,495 @@
+// What is offered to mend the groups of a plan's unsafe pairs: edits of its texts, each of which was tried.
+
+ghost use Rattle.plan_core.specs.PlanContents.{plan_contents};
+ghost use Rattle.verdicts.specs.Faults.{AreFaults, fault_list};
+
+use crate::keeping;
+use crate::mends::{has_interrupt, kept_in};
+use crate::paths::{can_have, places_on};
+use crate::proposals::{Change, Draft, Edited, Proposal, Sought, proposals_for};
+use crate::ranks::Ranked;
+use crate::sides::{BothSides, Given};
+use crate::tries::{Outcome, Tries};
+use causes::Group;
+use edits::{ChangedLine, Edit, Place, joined, push_never, push_second_version};
+use given_plans::Provenance;
+use plan_core::Plan;
+use plan_words::PlanWords;
+use std::alloc::{AllocError, Global};
+use verdicts::Faults;
+
+// The addresses that an interrupt may get (UM10204, 3.1.12 reserves the others).
+const LOWEST: u8 = 0x08;
+
+const HIGHEST: u8 = 0x77;
+
+/// An edit that mends a group.
+pub struct Offer {
+    /// The number of the group.
+    pub group: usize,
+    /// Its own number in the group, from 1 on.
+    pub number: usize,
+    pub proposal: Proposal,
+    pub outcome: Outcome,
+    /// The numbers of all groups that it mends.
+    pub groups: Vec<usize>,
+    /// The lines of the texts that are others then, as they would stand.
+    pub lines: Vec<ChangedLine>,
+}
+
+// Written out, so that one call lets it go.
+impl Drop for Offer {
+    fn drop(self) {
+        let Self {
+            group: _,
+            number: _,
+            proposal: _,
+            outcome: _,
+            groups: _,
+            lines: _,
+        } = self;
+    }
+}
+
+/// What is offered to mend the groups of a plan.
+#[derive(Drop)]
+pub struct Offers {
+    /// In the order of the groups, and of each in the order in which they were tried.
+    pub all: Vec<Offer>,
+    pub together: Together,
+    /// Whether not all could be tried: there are too many.
+    pub is_cut: bool,
+}
+
+/// Offers that mend as many groups as possible.
+#[derive(Drop)]
+pub struct Together {
+    /// Their places among all.
+    pub places: Vec<usize>,
+    /// What comes of all of them. None where there are none.
+    pub outcome: Option<Outcome>,
+    edits: Vec<Edit>,
+}
+
+impl Offers {
+    /// Those for the group with this number.
+    pub fn of(&self, g: usize) -> &[Offer] {
+        let start = self.all.partition_point(|offer| offer.group < g);
+        let end = self.all.partition_point(|offer| offer.group <= g);
+        self.all.get(start..end).unwrap_or(&[])
+    }
+}
+
+// What is looked at to find them.
+#[derive(Clone, Copy)]
+struct Search<'s, 'a> {
+    words: PlanWords<'a>,
+    texts: &'a [Vec<u8>],
+    groups: &'s Ranked,
+    given: &'s Given<'a>,
+    keeping: &'s keeping::Groups,
+    free: Option<u8>,
+}
+
+/// What is offered to mend these groups of the unsafe pairs of the plan, which has these words and faults, and which these texts
+/// give.
+///
+/// # Errors
+///
+/// Where an allocation fails.
+pub fn offers_of(
+    alloc: Global,
+    plan: &Plan,
+    words: PlanWords<'_>,
+    faults: &Faults,
+    groups: &Ranked,
+    provenance: &Provenance,
+) -> Result<Offers, AllocError>
+    requires { AreFaults (plan_contents plan.now) (fault_list faults.now) }
+{
+    let given = Given::new(alloc, words, provenance)?;
+    let keeping = keeping::groups_of(alloc, words)?;
+    let search = Search {
+        words,
+        texts: provenance.texts.as_slice(),
+        groups,
+        given: &given,
+        keeping: &keeping,
+        free: free_address(plan),
+    };
+    let mut tries = Tries::new(plan, provenance.texts.as_slice());
+    let all = all_offers(alloc, plan, faults, search, &mut tries)?;
+    let together = together_of(alloc, plan, faults, all.as_slice(), &mut tries)?;
+    Ok(Offers {
+        all,
+        together,
+        is_cut: tries.are_spent(),
+    })
+}
+
+fn all_offers(
+    alloc: Global,
+    plan: &Plan,
+    faults: &Faults,
+    search: Search<'_, '_>,
+    tries: &mut Tries<'_>,
+) -> Result<Vec<Offer>, AllocError>
+    requires { AreFaults (plan_contents plan.now) (fault_list faults.now) }
+{
+    let members = by_groups(alloc, search.groups)?;
+    let mut all = Vec::new(alloc);
+    let mut rest = members.as_slice();
+    for g in 0..search.groups.len() {
+        if let Some(group) = search.groups.get(g) {
+            let pairs = rest.get(..group.pairs).unwrap_or(rest);
+            rest = rest.get(group.pairs..).unwrap_or(rest);
+            push_offers(
+                alloc,
+                plan,
+                faults,
+                search,
+                tries,
+                &mut all,
+                (g, group, pairs),
+            )?;
+        }
+    }
+    Ok(all)
+}
+
+// A group with its number, and its pairs: each by that number and its place among the faults.
+type Numbered<'m> = (usize, Group, &'m [(usize, usize)]);
+
+// Adds what is offered for a group.
+fn push_offers(
+    alloc: Global,
+    plan: &Plan,
+    faults: &Faults,
+    search: Search<'_, '_>,
+    tries: &mut Tries<'_>,
+    all: &mut Vec<Offer>,
+    group: Numbered<'_>,
+) -> Result<(), AllocError>
+    requires { AreFaults (plan_contents plan.now) (fault_list faults.now) }
+{
+    if tries.are_spent() {
+        return Ok(());
+    }
+    let (g, _, _) = group;
+    for proposal in search.proposals(alloc, faults, group)? {
+        let number = number_of(all.as_slice(), g, &proposal);
+        if let Some(number) = number {
+            let offer = offer_of(alloc, plan, faults, search, tries, (g, number), proposal)?;
+            push_some(all, offer)?;
+        }
+    }
+    Ok(())
+}
+
+fn push_some(all: &mut Vec<Offer>, offer: Option<Offer>) -> Result<(), AllocError> {
+    if let Some(offer) = offer {
+        all.push(offer)?;
+    }
+    Ok(())
+}
+
+// The number that a proposal for the last group would have. None where those before it leave no room for it.
+fn number_of(all: &[Offer], g: usize, proposal: &Proposal) -> Option<usize> {
+    let mut number = 1usize;
+    for offer in all {
+        if offer.group == g {
+            if excludes(&offer.proposal, proposal) {
+                return None;
+            }
+            number = number.saturating_add(1);
+        }
+    }
+    Some(number)
+}
+
+// Of counts those of one frame are offered, and of each other kind one for a side.
+fn excludes(found: &Proposal, other: &Proposal) -> bool {
+    match (found.change, other.change) {
+        (Change::Count { frame }, Change::Count { frame: later }) => frame != later,
+        (one, two) => one.kind() == two.kind() && found.edited == other.edited,
+    }
+}
+
+// The offer that a proposal is, where it mends the group.
+fn offer_of(
+    alloc: Global,
+    plan: &Plan,
+    faults: &Faults,
+    search: Search<'_, '_>,
+    tries: &mut Tries<'_>,
+    numbers: (usize, usize),
+    proposal: Proposal,
+) -> Result<Option<Offer>, AllocError>
+    requires { AreFaults (plan_contents plan.now) (fault_list faults.now) }
+{
+    let (group, number) = numbers;
+    let tried = tries.outcome(alloc, plan, faults, proposal.edits.as_slice())?;
+    let Some(outcome) = tried else {
+        return Ok(None);
+    };
+    let groups = mended_by(alloc, search.groups, outcome.left.as_slice())?;
+    if !groups.contains(&group) {
+        return Ok(None);
+    }
+    let lines = tries.lines(alloc, proposal.edits.as_slice())?;
+    Ok(Some(Offer {
+        group,
+        number,
+        proposal,
+        outcome,
+        groups,
+        lines,
+    }))
+}
+
+// The groups of which no pair is left.
+fn mended_by(alloc: Global, groups: &Ranked, left: &[bool]) -> Result<Vec<usize>, AllocError> {
+    let mut open = vec![in alloc; false; groups.len()]?;
+    for (g, is_left) in groups.numbers().iter().zip(left.iter()) {
+        if let Some(is_open) = open.get_mut(*g) {
+            *is_open = *is_open || *is_left;
+        }
+    }
+    let mut mended = Vec::new(alloc);
+    for (g, is_open) in open.iter().enumerate() {
+        if !*is_open {
+            mended.push(g)?;
+        }
+    }
+    Ok(mended)
+}
+
+// Each unsafe pair by its group and its place among all, group by group.
+fn by_groups(alloc: Global, groups: &Ranked) -> Result<Vec<(usize, usize)>, AllocError> {
+    let mut all = Vec::with_capacity(alloc, groups.numbers().len())?;
+    for (k, g) in groups.numbers().iter().enumerate() {
+        all.push((*g, k))?;
+    }
+    all.sort()?;
+    Ok(all)
+}
+
+// ---- what is tried
+
+impl Search<'_, '_> {
+    // What may be edited to mend a group, in the order in which it is tried.
+    fn proposals(
+        self,
+        alloc: Global,
+        faults: &Faults,
+        group: Numbered<'_>,
+    ) -> Result<Vec<Proposal>, AllocError> {
+        let (_, group, pairs) = group;
+        let mut found = match self.given.sides(alloc, faults, group, pairs)? {
+            Some(sides) => self.edits(alloc, faults, group, &sides)?,
+            None => Vec::new(alloc),
+        };
+        self.push_nevers(alloc, &mut found, faults, pairs)?;
+        Ok(found)
+    }
+
+    fn edits(
+        self,
+        alloc: Global,
+        faults: &Faults,
+        group: Group,
+        sides: &BothSides<'_>,
+    ) -> Result<Vec<Proposal>, AllocError> {
+        let places = places_before(alloc, faults, group)?;
+        let sought = Sought {
+            sides,
+            places: places.as_slice(),
+            frame: u32::try_from(group.cause.frame).unwrap_or(0),
+            free: self.free,
+        };
+        proposals_for(alloc, sought)
+    }
+
+    // The items that keep these pairs apart, where none of them has an interrupt.
+    fn push_nevers(
+        self,
+        alloc: Global,
+        found: &mut Vec<Proposal>,
+        faults: &Faults,
+        pairs: &[(usize, usize)],
+    ) -> Result<(), AllocError> {
+        let pairs = pairs_at(alloc, faults, pairs)?;
+        for pair in pairs.as_slice() {
+            if has_interrupt(self.words.plan(), *pair) {
+                return Ok(());
+            }
+        }
+        let kept = kept_in(alloc, self.words, self.keeping, pairs.as_slice())?;
+        let mut draft = Draft::new(alloc);
+        for never in kept.nevers.iter() {
+            let sides = (never.first.as_str(), never.second.as_str());
+            push_never(alloc, &mut draft.edits, self.texts, sides);
+        }
+        if !kept.nevers.is_empty() && self.words.is_first_version() {
+            push_second_version(alloc, &mut draft.edits, self.texts);
+        }
+        draft.finish(found, Change::Never, Edited::Both)
+    }
+}
+
+// The places before the fault of the example of a group.
+fn places_before(alloc: Global, faults: &Faults, group: Group) -> Result<Vec<Place>, AllocError> {
+    if faults.len() <= group.example {
+        return Ok(Vec::new(alloc));
+    }
+    let (_, fault) = faults.get(group.example);
+    places_on(alloc, fault.wire.as_slice())
+}
+
+fn pairs_at(
+    alloc: Global,
+    faults: &Faults,
+    members: &[(usize, usize)],
+) -> Result<Vec<u32>, AllocError> {
+    let mut pairs = Vec::with_capacity(alloc, members.len())?;
+    for (_, k) in members {
+        if *k < faults.len() {
+            let (pair, _) = faults.get(*k);
+            pairs.push(pair)?;
+        }
+    }
+    Ok(pairs)
+}
+
+// The lowest address that no header of a message can have, and no interrupt has. It is asked for where there is one.
+fn free_address(plan: &Plan) -> Option<u8> {
+    if plan.interrupts() == 0 {
+        return None;
+    }
+    (LOWEST..=HIGHEST).find(|address| is_free(plan, *address))
+}
+
+fn is_free(plan: &Plan, address: u8) -> bool {
+    for k in 0..plan.interrupts() {
+        if plan.interrupt_address(k) == address {
+            return false;
+        }
+    }
+    for m in 0..plan.messages() {
+        if can_have(plan.message(m), address) {
+            return false;
+        }
+    }
+    true
+}
+
+// ---- all together
+
+// Offers that go together, of those that are left each time the one that mends the most further pairs.
+fn together_of(
+    alloc: Global,
+    plan: &Plan,
+    faults: &Faults,
+    offers: &[Offer],
+    tries: &mut Tries<'_>,
+) -> Result<Together, AllocError>
+    requires { AreFaults (plan_contents plan.now) (fault_list faults.now) }
+{
+    let mut list = Together {
+        places: Vec::new(alloc),
+        outcome: None,
+        edits: Vec::new(alloc),
+    };
+    let mut open = vec![in alloc; true; faults.len()]?;
+    let mut unused = vec![in alloc; true; offers.len()]?;
+    for _ in 0..offers.len() {
+        let Some(best) = best_of(offers, unused.as_slice(), open.as_slice()) else {
+            return Ok(list);
+        };
+        if let (Some(offer), Some(is_unused)) = (offers.get(best), unused.get_mut(best)) {
+            *is_unused = false;
+            let left = offer.outcome.left.as_slice();
+            if list.add(alloc, plan, faults, tries, (best, offer), open.as_slice())? {
+                close(open.as_mut_slice(), left);
+            }
+        }
+    }
+    Ok(list)
+}
+
+// The first of the offers that mend the most of the open pairs.
+fn best_of(offers: &[Offer], unused: &[bool], open: &[bool]) -> Option<usize> {
+    let mut best = None;
+    let mut most = 0usize;
+    for (place, (offer, is_unused)) in offers.iter().zip(unused.iter()).enumerate() {
+        let gain = gain_of(offer.outcome.left.as_slice(), open);
+        if *is_unused && most < gain {
+            most = gain;
+            best = Some(place);
+        }
+    }
+    best
+}
+
+fn gain_of(left: &[bool], open: &[bool]) -> usize {
+    let mut gain = 0usize;
+    for (is_left, is_open) in left.iter().zip(open.iter()) {
+        if *is_open && !*is_left {
+            gain = gain.saturating_add(1);
+        }
+    }
+    gain
+}
+
+fn close(open: &mut [bool], left: &[bool]) {
+    for (is_open, is_left) in open.iter_mut().zip(left.iter()) {
+        *is_open = *is_open && *is_left;
+    }
+}
+
+impl Together {
+    // Adds an offer, where it goes together with the others: all pairs are mended that are not open, and those that it mends. Whether
+    // it does.
+    fn add(
+        &mut self,
+        alloc: Global,
+        plan: &Plan,
+        faults: &Faults,
+        tries: &mut Tries<'_>,
+        offer: (usize, &Offer),
+        open: &[bool],
+    ) -> Result<bool, AllocError>
+        requires { AreFaults (plan_contents plan.now) (fault_list faults.now) }
+    {
+        let (place, offer) = offer;
+        let both = joined(
+            alloc,
+            self.edits.as_slice(),
+            offer.proposal.edits.as_slice(),
+        )?;
+        let Some(edits) = both else {
+            return Ok(false);
+        };
+        let tried = tries.outcome(alloc, plan, faults, edits.as_slice())?;
+        let Some(outcome) = tried else {
+            return Ok(false);
+        };
+        if !are_closed(open, offer.outcome.left.as_slice(), outcome.left.as_slice()) {
+            return Ok(false);
+        }
+        self.places.push(place)?;
+        self.edits = edits;
+        self.outcome = Some(outcome);
+        Ok(true)
+    }
+}
+
+// Whether only those of the open pairs are left together that the offer leaves.
+fn are_closed(open: &[bool], own: &[bool], left: &[bool]) -> bool {
+    for ((is_open, is_own), is_left) in open.iter().zip(own.iter()).zip(left.iter()) {
+        if *is_left && !(*is_open && *is_own) {
+            return false;
+        }
+    }
+    true
+}
