@@ -25,6 +25,7 @@ mod json;
 mod layouts;
 mod made_up;
 mod memory;
+mod mended;
 mod mutations;
 mod object_lines;
 mod objects;
