@@ -26,6 +26,8 @@ mod layouts;
 mod made_up;
 mod memory;
 mod mended;
+#[cfg(test)]
+mod mended_tests;
 mod mutations;
 mod object_lines;
 mod objects;

@@ -26,6 +26,8 @@ pub mod learned;
 pub mod lines;
 mod meanings;
 mod messages;
+#[cfg(test)]
+mod missing;
 pub mod offers;
 #[cfg(test)]
 mod offers_tests;

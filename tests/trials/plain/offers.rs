@@ -1,7 +1,7 @@
 //! What is offered to mend unsafe pairs (docs/MENDING.md): each edit is made, the texts are read again, and the plan that they
 //! give is checked.
 
-use super::found::{checked, Fault};
+use super::found::{checked, Checked, Fault};
 use super::groups::{groups_of, Group};
 use super::pairs::first_clash;
 use super::participants::{Participant, Participants};
@@ -65,16 +65,7 @@ pub fn mending_within(budget: usize, sources: &[Source], nevers: &HashMap<usize,
     let plan = Participants::of(&items);
     let found = checked(&plan);
     let groups = groups_of(&plan, &found.faults);
-    let two_of_group = |group: &Group| group.pairs.iter().map(|place| two_of(&found.faults[*place])).collect();
-    let mut trials = Trials {
-        sources,
-        pairs: found.pairs,
-        faults: found.faults.iter().map(two_of).collect(),
-        groups: groups.iter().map(two_of_group).collect(),
-        left: budget,
-        is_cut: false,
-        known: HashMap::new(),
-    };
+    let mut trials = Trials::of(budget, sources, &found, &groups);
     let (makers, made_by) = items_of(sources);
     let mut mending = Mending::default();
     for (number, group) in groups.iter().enumerate() {
@@ -92,6 +83,30 @@ pub fn mending_within(budget: usize, sources: &[Source], nevers: &HashMap<usize,
     trials.make_list(&mut mending);
     mending.is_cut = trials.is_cut;
     mending
+}
+
+/// Of each group those of some edits that mend it, which are made of the items of its messages, and what each is called.
+#[cfg(test)]
+pub fn that_mend(
+    sources: &[Source],
+    edits: impl Fn(&Item) -> Vec<(String, Vec<Edit>)>,
+) -> Vec<(Group, Vec<(String, Vec<Edit>)>)> {
+    let text = plan_of(sources).expect("a plan");
+    let items = plans::items_of(&text).expect("a plan");
+    let plan = Participants::of(&items);
+    let found = checked(&plan);
+    let groups = groups_of(&plan, &found.faults);
+    let mut trials = Trials::of(usize::MAX, sources, &found, &groups);
+    let (makers, made_by) = items_of(sources);
+    let mut all = Vec::new();
+    for (number, group) in groups.into_iter().enumerate() {
+        let names: BTreeSet<String> = trials.groups[number].iter().flatten().cloned().collect();
+        let of_group: BTreeSet<usize> = names.iter().map(|name| made_by[name]).collect();
+        let tried = of_group.iter().flat_map(|item| edits(&makers[*item]));
+        let mends = tried.filter(|(_, edits)| trials.offer(number, "", edits.clone()).is_some()).collect();
+        all.push((group, mends));
+    }
+    all
 }
 
 // ---- pairs by their names
@@ -135,7 +150,20 @@ struct Tried {
     faults: BTreeSet<Two>,
 }
 
-impl Trials<'_> {
+impl<'a> Trials<'a> {
+    fn of(budget: usize, sources: &'a [Source], found: &Checked, groups: &[Group]) -> Trials<'a> {
+        let two_of_group = |group: &Group| group.pairs.iter().map(|place| two_of(&found.faults[*place])).collect();
+        Trials {
+            sources,
+            pairs: found.pairs,
+            faults: found.faults.iter().map(two_of).collect(),
+            groups: groups.iter().map(two_of_group).collect(),
+            left: budget,
+            is_cut: false,
+            known: HashMap::new(),
+        }
+    }
+
     // Of ways that come one after another the edits of the first in which one mends the group: those that do.
     fn first_that_mends(&mut self, group: usize, kind: &'static str, ways: Vec<Way>) -> Vec<Offer> {
         for way in ways {

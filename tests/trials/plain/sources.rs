@@ -196,6 +196,18 @@ impl<'a> Item<'a> {
         self.is(0, "interrupt")
     }
 
+    /// Its words, with the `;`.
+    #[cfg(test)]
+    pub fn words(&self) -> &[Word<'a>] {
+        &self.words
+    }
+
+    /// Whether it stands in a plan.
+    #[cfg(test)]
+    pub fn is_of_plan(&self) -> bool {
+        self.language == Language::Plan
+    }
+
     fn is(&self, k: usize, text: &str) -> bool {
         self.words.get(k).is_some_and(|word| word.is(text))
     }
@@ -274,7 +286,8 @@ impl<'a> Item<'a> {
 
     // ---- what edits change
 
-    fn replaced(&self, k: usize, puts: impl Into<String>) -> Edit {
+    /// In the place of a word stands something else.
+    pub fn replaced(&self, k: usize, puts: impl Into<String>) -> Edit {
         let word = self.words[k];
         Edit { source: self.source, at: word.at, removes: word.text.to_owned(), puts: puts.into() }
     }
@@ -283,7 +296,8 @@ impl<'a> Item<'a> {
         Edit { source: self.source, at, removes: String::new(), puts: puts.into() }
     }
 
-    fn put_after(&self, k: usize, puts: impl Into<String>) -> Edit {
+    /// Something more stands behind a word.
+    pub fn put_after(&self, k: usize, puts: impl Into<String>) -> Edit {
         self.put_at(self.words[k].end(), puts)
     }
 
@@ -316,8 +330,8 @@ impl<'a> Item<'a> {
         None
     }
 
-    // Of a repeated byte, which begins at this word, one has these bits: so many stand before it, and so many after it.
-    fn parted(&self, k: usize, [before, after]: [usize; 2], bits: &str) -> Vec<Edit> {
+    /// Of a repeated byte, which begins at this word, one has these bits: so many stand before it, and so many after it.
+    pub fn parted(&self, k: usize, [before, after]: [usize; 2], bits: &str) -> Vec<Edit> {
         let byte = self.words[k].text;
         let rest = match after {
             0 => String::new(),
