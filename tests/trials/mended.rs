@@ -27,6 +27,10 @@ pub fn compared(asked: &Asked, found: &str) -> Result<(Vec<Value>, Vec<Value>), 
     if !is_known {
         due.iter_mut().chain(&mut found).for_each(leave_out_list);
     }
+    if !sources.iter().all(Source::is_plan) {
+        leave_out_names(&mut due);
+        leave_out_names(&mut found);
+    }
     Ok((due, found))
 }
 
@@ -180,7 +184,22 @@ fn hides_never(due: &mut Value, found: &Value) -> bool {
 
 // What is not known where some offers are not shown.
 fn leave_out_list(object: &mut Value) {
-    if let Some(Value::Object(members)) = member(object, "explain") {
-        members.retain(|(key, _)| key != "list" && key != "then");
+    leave_out(member(object, "explain"), &["list", "then"]);
+}
+
+// What is said of a brief in its own names, of which the plain programs know those of its plan alone: where things stand, who
+// meets, pairs of parts of one controller, and what is likely a mistake.
+fn leave_out_names(objects: &mut Vec<Value>) {
+    objects.retain(|object| text_of(object, "kind").as_deref() != Some("lint"));
+    for object in objects {
+        leave_out(Some(object), &["places", "between"]);
+        leave_out(member(object, "example"), &["places"]);
+        leave_out(member(object, "explain"), &["kept_apart"]);
+    }
+}
+
+fn leave_out(object: Option<&mut Value>, keys: &[&str]) {
+    if let Some(Value::Object(members)) = object {
+        members.retain(|(key, _)| !keys.contains(&key.as_str()));
     }
 }

@@ -2,11 +2,14 @@
 
 use crate::cases::Asked;
 use crate::commands::Command;
+use crate::dice::Dice;
 use crate::json::{read, Value};
 use crate::mended::compared;
+use crate::mendings::next_unsafe;
 use crate::object_lines::lines_of;
 use crate::objects::due_of_check;
-use std::collections::HashMap;
+use crate::plain::offers::KINDS;
+use std::collections::{BTreeMap, HashMap};
 
 fn asked(briefs: &[&str]) -> Asked {
     let briefs = briefs.iter().map(|text| text.as_bytes().to_vec()).collect();
@@ -136,6 +139,27 @@ fn edits_of_several_files_are_compared() {
     };
     assert!(is_right("brief2"));
     assert!(!is_right("plan") && !is_right("brief3"));
+}
+
+// What is said in the names of the briefs is left out, and likely mistakes are.
+#[test]
+fn what_a_brief_says_in_its_own_names_is_left_out() {
+    let asked = asked(&[
+        "brief 1 message m write 0x50 0x01 else (read 0x51 1) ; message n write 0x50 0x01 0x02 ;\n",
+        "brief 1 controller a m ; controller b n ;",
+    ]);
+    let lines = found(&asked, &["{}"], &list("", (1, 1)));
+    let places = "\"places\":[{\"file\":\"plan\",\"line\":1},{\"file\":\"plan\",\"line\":1}]";
+    let lines =
+        lines.replace("l\",\"group\"", &format!("l\",{places},\"group\"")).replace("l\"}", &format!("l\",{places}}}"));
+    let lint = format!("{{\"kind\":\"lint\",\"code\":\"bare header\",\"names\":[\"m\",\"n\"],{places}}}\n");
+    let (before, plan) = lines.split_at(lines.find("{\"kind\":\"plan\"").expect("the last line"));
+    let shown = format!("{before}{lint}{plan}");
+    assert!(lines_of(&shown).is_ok() && shown.matches("places").count() == 2, "{shown}");
+    let (due, found) = compared(&asked, &shown).expect("objects");
+    assert_eq!(due, found);
+    let (due, found) = compared(&asked, &shown.replace("\"pairs\":1", "\"pairs\":2")).expect("objects");
+    assert_ne!(due, found);
 }
 
 const FAMILY: &str = "brief 1
@@ -283,4 +307,22 @@ fn shapes_are_looked_at() {
         let refused = read(&wrong).is_err() || shown(&offers(&[right.clone()], 0), &wrong).is_err();
         assert!(refused, "{wrong}");
     }
+}
+
+// What is due, as if twire had said it, has the shape of objects and is found right. Each kind comes up.
+#[test]
+fn what_is_due_of_made_up_plans_is_found_right() {
+    let mut kinds: BTreeMap<&str, usize> = BTreeMap::new();
+    let mut dice = Dice { state: 20_261_130 };
+    for _ in 0..60 {
+        let asked = next_unsafe(&mut dice);
+        let shown: String = due_of_check(&asked, &HashMap::new()).iter().map(|object| format!("{object}\n")).collect();
+        assert!(lines_of(&shown).is_ok(), "{:?}: {shown}", lines_of(&shown));
+        let (due, found) = compared(&asked, &shown).expect("objects");
+        assert_eq!(due, found);
+        for kind in KINDS {
+            *kinds.entry(kind).or_default() += shown.matches(&format!("\"kind\":\"{kind}\"")).count();
+        }
+    }
+    assert!(KINDS.iter().all(|kind| kinds[*kind] > 0 || *kind == "never"), "{kinds:?}");
 }

@@ -4,6 +4,7 @@
 
 use super::commands::spelling;
 use super::generated;
+use super::groups::Group;
 use super::messages::bits_of;
 use super::offers::{mending, that_mend, Offer};
 use super::sources::{edited, plan_of, Edit, Item, Source};
@@ -11,6 +12,7 @@ use super::words::{count_ends, number};
 use crate::boards::made_up_board;
 use crate::dice::Dice;
 use crate::made_up::made_up;
+use crate::mendings::{named_apart, related};
 use std::collections::{BTreeMap, BTreeSet, HashMap};
 
 // Names for addresses and bytes, with their bits.
@@ -146,29 +148,25 @@ fn missing(sources: &[Source]) -> Vec<(BTreeSet<String>, String)> {
         return Vec::new();
     }
     let mut out = Vec::new();
-    for ((group, mends), (_, offers)) in that_mend(sources, |item| changes(item, &names)).iter().zip(&offered.groups) {
-        if mends.is_empty() || offers.iter().any(is_simple) {
+    for (mends, (_, offers)) in that_mend(sources, |item| changes(item, &names)).iter().zip(&offered.groups) {
+        if mends.edits.is_empty() || offers.iter().any(is_simple) {
             continue;
         }
         let others: Vec<&str> = offers.iter().map(|offer| offer.kind).collect();
-        let mut told = format!("{:?} between {:?}, offered {others:?}", group.likeness, group.between);
-        let kinds: BTreeSet<String> = mends.iter().map(|(kind, _)| kind.clone()).collect();
-        let first = |kind: &String| mends.iter().find(|(it, _)| it == kind).map(|(_, edits)| edits);
-        for edits in kinds.iter().filter_map(first) {
+        let shared = if mends.is_shared { " (an item of both sides)" } else { "" };
+        let Group { likeness, between, .. } = &mends.group;
+        let mut told = format!("{likeness:?} between {between:?}, offered {others:?}");
+        let kinds: BTreeSet<&String> = mends.edits.iter().map(|(kind, _)| kind).collect();
+        for kind in &kinds {
+            let edits = mends.edits.iter().find(|(it, _)| it == *kind).map_or(&[][..], |(_, edits)| edits);
             let made = edited(sources, edits).expect("edits");
             let old: Vec<&str> = sources.iter().flat_map(|one| one.text.split(';')).collect();
             let changed = made.iter().flat_map(|one| one.text.split(';')).filter(|item| !old.contains(item));
-            told += &format!("\n    {:?} at {}", changed.map(str::trim).collect::<Vec<&str>>(), edits[0].at);
+            told += &format!("\n    {kind}: {:?}", changed.map(str::trim).collect::<Vec<&str>>());
         }
-        out.push((kinds, told));
+        out.push((kinds.into_iter().map(|kind| format!("{kind}{shared}")).collect(), told));
     }
     out
-}
-
-// Messages whose names differ in more than a number, so that they are no family.
-fn renamed(text: &str) -> String {
-    (0..5)
-        .fold(text.to_owned(), |text, k| text.replace(&format!("m{k}"), &format!("m{}", ["p", "q", "r", "s", "t"][k])))
 }
 
 // Whether they give a plan that is not too long to be tried so often.
@@ -193,11 +191,16 @@ fn told(title: &str, boards: impl Iterator<Item = Vec<Source>>) {
     println!("{title}: {counts:#?}");
 }
 
+const PLANS: usize = 8_000;
+
+// Of these about a third give a plan that is looked at.
+const BOARDS: usize = 3_000;
+
 #[test]
 #[ignore = "it tells what it finds"]
 fn missing_offers_of_plans() {
     let mut dice = Dice { state: 20_261_130 };
-    let boards = (0..1_000).map(|_| vec![Source::of("plan", generated::plan(&mut dice).as_bytes())]);
+    let boards = (0..PLANS).map(|_| vec![Source::of("plan", generated::plan(&mut dice).as_bytes())]);
     told("plan", boards);
 }
 
@@ -205,18 +208,25 @@ fn missing_offers_of_plans() {
 #[ignore = "it tells what it finds"]
 fn missing_offers_of_briefs() {
     let mut dice = Dice { state: 20_261_131 };
-    let briefs = (0..3_000).map(|_| renamed(&made_up(&mut dice)));
-    told("brief", briefs.map(|text| vec![Source::of("brief", text.as_bytes())]).filter(|sources| is_small(sources)));
+    let briefs = (0..BOARDS).map(|_| named_apart(made_up(&mut dice).into_bytes()));
+    told("brief", briefs.map(|text| vec![Source::of("brief", &text)]).filter(|sources| is_small(sources)));
 }
 
 #[test]
 #[ignore = "it tells what it finds"]
 fn missing_offers_of_boards() {
     let mut dice = Dice { state: 20_261_132 };
-    let boards = (0..3_000).map(|_| made_up_board(&mut dice)).map(|board| {
-        let text = |text: &Vec<u8>| renamed(&String::from_utf8_lossy(text).replace(|it: char| !it.is_ascii(), "?"));
-        let numbered = board.briefs.iter().enumerate();
-        numbered.map(|(k, brief)| Source::of(&format!("brief{k}"), text(brief).as_bytes())).collect::<Vec<_>>()
+    let boards = (0..BOARDS).map(|_| made_up_board(&mut dice)).map(|board| {
+        let numbered = board.briefs.into_iter().enumerate();
+        numbered.map(|(k, brief)| Source::of(&format!("brief{k}"), &named_apart(brief))).collect::<Vec<_>>()
     });
     told("board", boards.filter(|sources| is_small(sources)));
+}
+
+#[test]
+#[ignore = "it tells what it finds"]
+fn missing_offers_of_related_messages() {
+    let mut dice = Dice { state: 20_261_133 };
+    let briefs = (0..BOARDS).map(|_| vec![Source::of("brief", related(&mut dice).concat().as_bytes())]);
+    told("related", briefs.filter(|sources| is_small(sources)));
 }

@@ -85,12 +85,17 @@ pub fn mending_within(budget: usize, sources: &[Source], nevers: &HashMap<usize,
     mending
 }
 
-/// Of each group those of some edits that mend it, which are made of the items of its messages, and what each is called.
+/// Of a group those of some edits that mend it, each with what it is called, and whether an item makes messages of both sides.
 #[cfg(test)]
-pub fn that_mend(
-    sources: &[Source],
-    edits: impl Fn(&Item) -> Vec<(String, Vec<Edit>)>,
-) -> Vec<(Group, Vec<(String, Vec<Edit>)>)> {
+pub struct Mends {
+    pub group: Group,
+    pub is_shared: bool,
+    pub edits: Vec<(String, Vec<Edit>)>,
+}
+
+/// The same of each group: the edits are made of the items of its messages.
+#[cfg(test)]
+pub fn that_mend(sources: &[Source], edits: impl Fn(&Item) -> Vec<(String, Vec<Edit>)>) -> Vec<Mends> {
     let text = plan_of(sources).expect("a plan");
     let items = plans::items_of(&text).expect("a plan");
     let plan = Participants::of(&items);
@@ -100,11 +105,12 @@ pub fn that_mend(
     let (makers, made_by) = items_of(sources);
     let mut all = Vec::new();
     for (number, group) in groups.into_iter().enumerate() {
-        let names: BTreeSet<String> = trials.groups[number].iter().flatten().cloned().collect();
-        let of_group: BTreeSet<usize> = names.iter().map(|name| made_by[name]).collect();
+        let faults: Vec<&Fault> = group.pairs.iter().map(|place| &found.faults[*place]).collect();
+        let sides = Sides::of(&faults, &makers, &made_by);
+        let of_group: BTreeSet<usize> = sides.sides.iter().flatten().map(|one| one.item).collect();
         let tried = of_group.iter().flat_map(|item| edits(&makers[*item]));
-        let mends = tried.filter(|(_, edits)| trials.offer(number, "", edits.clone()).is_some()).collect();
-        all.push((group, mends));
+        let edits = tried.filter(|(_, edits)| trials.offer(number, "", edits.clone()).is_some()).collect();
+        all.push(Mends { group, is_shared: sides.are_shared(), edits });
     }
     all
 }
@@ -367,7 +373,7 @@ impl<'a> Sides<'a> {
             let is_allowed = !self.has_interrupt(0) && !self.has_interrupt(1);
             return vec![never.filter(|_| is_allowed).map(|edits| vec![edits.clone()]).into_iter().collect()];
         }
-        if self.sides[0].iter().any(|one| self.sides[1].iter().any(|other| one.item == other.item)) {
+        if self.are_shared() {
             return Vec::new();
         }
         let of_each = |ways: &dyn Fn(usize) -> Vec<Way>| vec![ways(0), ways(1)];
@@ -381,6 +387,11 @@ impl<'a> Sides<'a> {
             "address" => of_each(&|side| alone(self.address(side, plan))),
             _ => vec![alone(self.longer())],
         }
+    }
+
+    // Whether an item stands on both sides, or makes messages of both.
+    fn are_shared(&self) -> bool {
+        self.sides[0].iter().any(|one| self.sides[1].iter().any(|other| one.item == other.item))
     }
 
     fn has_interrupt(&self, side: usize) -> bool {

@@ -28,6 +28,11 @@ impl Source {
         }
     }
 
+    /// Whether it is the text of a plan, and not of a brief.
+    pub fn is_plan(&self) -> bool {
+        self.language() == Language::Plan
+    }
+
     /// Its words, and its comments.
     pub fn all(&self) -> (Vec<Word<'_>>, Vec<&str>) {
         Reading::new(&self.text, self.language()).all()
