@@ -8,8 +8,10 @@ use crate::mended::compared;
 use crate::mendings::next_unsafe;
 use crate::object_lines::lines_of;
 use crate::objects::due_of_check;
-use crate::plain::offers::KINDS;
-use std::collections::{BTreeMap, HashMap};
+use crate::plain::offers::{mending, KINDS};
+use crate::plain::sources::{edited, Edit, Source};
+use crate::plainly::said_plainly;
+use std::collections::{BTreeMap, BTreeSet, HashMap};
 
 fn asked(briefs: &[&str]) -> Asked {
     let briefs = briefs.iter().map(|text| text.as_bytes().to_vec()).collect();
@@ -325,4 +327,57 @@ fn what_is_due_of_made_up_plans_is_found_right() {
         }
     }
     assert!(KINDS.iter().all(|kind| kinds[*kind] > 0 || *kind == "never"), "{kinds:?}");
+}
+
+// The unsafe pairs that a check writes, by the names of what meets, and its last line.
+fn checked(briefs: &[&str]) -> Option<(BTreeSet<[String; 2]>, String)> {
+    let answer = said_plainly(&asked(briefs));
+    let pairs = answer.out.lines().filter_map(|line| line.strip_prefix("pair ")?.split_once(": "));
+    let name = |label: &str| label.split_once('/').map_or(label, |(_, name)| name).to_owned();
+    let two = |(labels, _): (&str, &str)| {
+        let mut two: Vec<String> = labels.split(' ').skip(1).map(name).collect();
+        two.sort();
+        two.try_into().expect("two")
+    };
+    let last = answer.out.lines().last().unwrap_or_default().to_owned();
+    answer.refusal.is_empty().then(|| (pairs.map(two).collect(), last))
+}
+
+// Of each offer the edits are made, and the texts checked as any others. And so are those of the whole list.
+#[test]
+fn offers_do_what_is_said_of_them() {
+    let mut dice = Dice { state: 20_261_131 };
+    let mut count = 0;
+    for _ in 0..120 {
+        let unsafe_one = next_unsafe(&mut dice);
+        let sources = unsafe_one.sources();
+        let texts = |sources: &[Source]| sources.iter().map(|one| one.text.clone()).collect::<Vec<String>>();
+        let old = texts(&sources);
+        // (heads name files that stand there)
+        if old.len() > 3 || old.iter().any(|text| text.contains("with \"")) {
+            continue;
+        }
+        let check =
+            |texts: &[String]| checked(&texts.iter().map(String::as_str).collect::<Vec<&str>>()).expect("a plan");
+        let (before, _) = check(&old);
+        let mending = mending(&sources, &HashMap::new());
+        for (_, offers) in &mending.groups {
+            for offer in offers {
+                let (after, last) = check(&texts(&edited(&sources, &offer.edits).expect("texts")));
+                assert!(after.is_subset(&before) && after != before, "{old:?}: {offer:?}: {last}");
+                count += 1;
+            }
+        }
+        let edits: Vec<Edit> =
+            mending.list.iter().flat_map(|(group, k)| mending.groups[*group].1[*k].edits.clone()).collect();
+        let (after, last) = check(&texts(&edited(&sources, &edits).expect("texts")));
+        let (pairs, unsafe_pairs) = mending.then;
+        let said = if unsafe_pairs == 0 {
+            format!("safe: {pairs} pairs")
+        } else {
+            format!("unsafe: {unsafe_pairs} of {pairs} pairs")
+        };
+        assert!(after.is_subset(&before) && last == said, "{old:?}: {last}");
+    }
+    assert!(count > 100, "{count}");
 }

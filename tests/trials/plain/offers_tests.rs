@@ -458,6 +458,14 @@ fn a_pointer_is_left_out() {
     let plan = "plan 1 message m write 1010000 00000001 again read 1010000 2 stop else stop else stop else stop ;
         message n write 1010000 00000001 stop else stop else stop ; controller a m ; controller b n ;";
     assert_offers(&[plan], &[&["pointer 0: message m read 1010000 2 stop else stop ;"]]);
+    // (the messages m_1 and m_2, of which one repeats START after a byte and one goes on, become one of another name: the pairs
+    // of both groups are none any more)
+    let brief = "brief 1 message m write 0x50 any*1..2 read 0x50 2 ; message n write 0x50 0x00 ; controller a m ; controller b n ;";
+    let wanted = "pointer 0,1: message m read 0x50 2 ;";
+    assert_offers(&[brief], &[&[wanted], &[wanted]]);
+    // so it is none where a controller lists one of them
+    let brief = "brief 1 message m write 0x50 any*1..2 read 0x50 2 ; message n write 0x50 0x00 ; controller a m_1 ; controller b n ;";
+    assert_offers(&[brief], &[&[]]);
     // another address, an `else`, a header alone, a read before a read
     assert_two("write 0x50 0x01 read 0x51 2", "write 0x50 0x01", &[]);
     assert_two("write 0x50 0x01 read 0x50 2 else (read 0x51 1)", "write 0x50 0x01", &[]);
