@@ -143,6 +143,24 @@ fn edits_of_several_files_are_compared() {
     assert!(!is_right("plan") && !is_right("brief3"));
 }
 
+// A file that a head names is called as it is named there, and stands before the text that names it.
+#[test]
+fn edits_of_a_file_that_a_head_names_are_compared() {
+    let briefs = [
+        "brief 2\nwith \"./brief2\" ;\nmessage n write d 0x01 ;\ncontroller a m ;\ncontroller b n ;\n",
+        "brief 1\ndevice d 0x50 ;\nmessage m write d ;\n",
+    ];
+    let is_right = |file: &str| {
+        let all = [
+            offer("0.1", "read", &[&edit(file, (3, 11), "write d", "read d 1")]),
+            offer("0.2", "length", &[&edit(file, (3, 18), "", " any")]),
+        ];
+        is_as_due(&briefs, &[&offers(&all, 0)], &list("\"0.1\"", (1, 0)))
+    };
+    assert!(is_right("./brief2"));
+    assert!(!is_right("brief2"));
+}
+
 // What is said in the names of the briefs is left out, and likely mistakes are.
 #[test]
 fn what_a_brief_says_in_its_own_names_is_left_out() {

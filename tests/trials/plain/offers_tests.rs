@@ -545,6 +545,35 @@ fn an_item_on_both_sides_is_not_changed() {
     assert_offers(&[plan], &[&[], &["read 1: message probe read 1010000 1 stop else stop ;"]]);
 }
 
+// Both controllers send both, so in one pair the first participant is on the second side.
+#[test]
+fn sides_are_those_of_the_kinds_that_meet() {
+    let brief = "brief 1 message w write 0x50 0x01 ; message p write 0x50 ; controller a p w ; controller b p w ;";
+    assert_offers(&[brief], &[&["read 0: message p read 0x50 1 ;", "length 0: message p write 0x50 any ;"]]);
+    // the example is that of a/p and b/w, a STOP against a data bit: the side of the STOP comes first
+    let brief =
+        "brief 1 message w write 0b101000x 0x00 ; message p write 0b10100x0 ; controller a p w ; controller b p w ;";
+    assert_offers(
+        &[brief],
+        &[&[
+            "known 0: message p write 0x52 ;",
+            "known 0: message w write 0x51 0x00 ;",
+            "read 0: message p read 0b10100x0 1 ;",
+            "length 0: message p write 0b10100x0 any ;",
+        ]],
+    );
+}
+
+// No item keeps an interrupt apart, and none is offered for its group.
+#[test]
+fn no_item_is_offered_for_an_interrupt() {
+    let brief = "brief 1 message m read 0x48 1 ; message n read 0x49 1 ; controller a m ; controller b n ; interrupt al 0x48 ;\n";
+    let never = Edit { source: 0, at: brief.len(), removes: String::new(), puts: "never a b ;\n".to_owned() };
+    let found = mending(&sources(&[brief]), &HashMap::from([(0, vec![never])]));
+    let kinds: Vec<&str> = found.groups[0].1.iter().map(|offer| offer.kind).collect();
+    assert_eq!(kinds, ["address"]);
+}
+
 // All messages of a side are changed at the same place, or none.
 #[test]
 fn a_side_is_changed_at_one_place() {
