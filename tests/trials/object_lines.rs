@@ -188,7 +188,7 @@ fn places(fields: &mut Fields, count: usize) -> Result<(), String> {
 }
 
 // What can stand in the place of a token of a plan or a brief that is refused.
-const IN_TEXTS: [&str; 22] = [
+const IN_TEXTS: [&str; 23] = [
     "version",
     "item",
     "name",
@@ -204,6 +204,7 @@ const IN_TEXTS: [&str; 22] = [
     "count",
     "target",
     "known target",
+    "device",
     "byte",
     "times",
     "bracket",

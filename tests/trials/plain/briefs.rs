@@ -58,11 +58,6 @@ pub fn declared(brief: &str) -> Result<Declared, Refusal> {
     })
 }
 
-/// Whether a text begins as a brief of the second version.
-pub fn is_board(text: &str) -> bool {
-    opened(text).is_ok_and(|reading| reading.language() == Language::Board)
-}
-
 /// Whether its first two words are those of the second version, whatever its head names.
 pub fn begins_board(text: &str) -> bool {
     begun(text).is_some()

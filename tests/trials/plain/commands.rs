@@ -4,7 +4,7 @@
 use super::before::Before;
 use super::benches::Answers;
 use super::boards::{list_of, Text};
-use super::briefs::{expansion, expansion_of, has_brief_word, is_board};
+use super::briefs::{begins_board, expansion, expansion_of, has_brief_word};
 use super::captures::{Transaction, Until};
 use super::decoded::{bytes_of, calls_of};
 use super::found::{checked, decoded, decoded_on, decoded_so_far, explainers, ordered, played, verified};
@@ -51,7 +51,7 @@ pub fn with_plan<T>(plan: &[u8], answer: impl FnOnce(&Participants) -> T) -> Res
 /// The text of a plan, also where it is given as a brief: one that does not begin as a plan.
 pub fn plan_given(text: &[u8]) -> Result<String, Refusal> {
     let text = String::from_utf8_lossy(text).into_owned();
-    if is_board(&text) {
+    if begins_board(&text) {
         return expansion(&text);
     }
     let has_head = |refusal: &Refusal| refusal.code != 2;
