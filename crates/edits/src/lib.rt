@@ -12,5 +12,5 @@ mod spelling;
 
 pub use changes::{push_never, push_second_version};
 pub use messages::{MessageText, Place};
-pub use replacing::{ChangedLine, Edit, Edits, changed_lines, edited_texts, joined};
+pub use replacing::{ChangedLine, Edit, EditedItem, Edits, changed_lines, edited_texts, joined};
 pub use spelling::{Bits, spelled_bits, spelled_count};

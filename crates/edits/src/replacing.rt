@@ -23,10 +23,21 @@ impl Edit {
     }
 }
 
+/// An item that is edited.
+#[derive(Drop)]
+pub struct EditedItem {
+    /// The name that it gives.
+    pub name: String,
+    /// The counts, or the values of the byte or the address, that it no longer sends, as its text would have them. Nothing for other
+    /// edits.
+    pub gone: String,
+}
+
 /// Edits that are gathered item by item, and whether each item could have its own.
 #[derive(Drop)]
 pub struct Edits {
     edits: Vec<Edit>,
+    items: Vec<EditedItem>,
     is_possible: bool,
     is_whole: bool,
 }
@@ -36,6 +47,7 @@ impl Edits {
     pub fn new(alloc: Global) -> Edits {
         Edits {
             edits: Vec::new(alloc),
+            items: Vec::new(alloc),
             is_possible: true,
             is_whole: true,
         }
@@ -50,24 +62,39 @@ impl Edits {
         self.is_whole = self.is_whole && is_added;
     }
 
+    /// The item that gives this name is edited.
+    pub fn name(&mut self, alloc: Global, name: &str, gone: Result<String, AllocError>) {
+        let is_added = match (String::from_str(alloc, name), gone) {
+            (Ok(name), Ok(gone)) => self.items.push(EditedItem { name, gone }).is_ok(),
+            _ => false,
+        };
+        self.is_whole = self.is_whole && is_added;
+    }
+
     /// An item cannot be edited so.
     pub fn refuse(&mut self) {
         self.is_possible = false;
     }
 
-    /// All of them, in the order of the texts. None where an item could not be edited, and where nothing is.
+    /// The items, and all edits in the order of the texts. None where an item could not be edited, and where nothing is.
     ///
     /// # Errors
     ///
     /// Where an allocation has failed.
-    pub fn finish(self) -> Result<Option<Vec<Edit>>, AllocError> {
-        if !self.is_whole {
+    pub fn finish(self) -> Result<Option<(Vec<EditedItem>, Vec<Edit>)>, AllocError> {
+        let Self {
+            edits,
+            items,
+            is_possible,
+            is_whole,
+        } = self;
+        if !is_whole {
             return Err(AllocError);
         }
-        if !self.is_possible || self.edits.is_empty() {
+        if !is_possible || edits.is_empty() {
             return Ok(None);
         }
-        Ok(Some(sorted(self.edits)?))
+        Ok(Some((items, sorted(edits)?)))
     }
 }
 

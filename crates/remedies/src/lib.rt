@@ -23,7 +23,7 @@ pub use families::{name_of, stem_of};
 pub use groups::{Alike, Grouped, grouped_of};
 pub use mends::{both_of, controller_of, kept_apart};
 pub use offers::{Offer, Offers, Together};
-pub use proposals::{Change, Edited, EditedItem, Proposal};
+pub use proposals::{Change, Edited, Proposal};
 pub use reasons::{Reasons, count_groups, reasons_of};
 pub use safety::{Decided, Safety};
 pub use tries::Outcome;

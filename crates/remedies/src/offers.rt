@@ -6,12 +6,12 @@ ghost use Rattle.verdicts.specs.Faults.{AreFaults, fault_list};
 use crate::keeping;
 use crate::mends::{has_interrupt, kept_in};
 use crate::paths::{can_have, places_on};
-use crate::proposals::{Change, Draft, Edited, Proposal, Sought, proposals_for};
+use crate::proposals::{Change, Edited, Proposal, Sought, proposals_for, push_made};
 use crate::ranks::Ranked;
 use crate::sides::{BothSides, Given};
 use crate::tries::{Outcome, Tries};
 use causes::Group;
-use edits::{ChangedLine, Edit, Place, joined, push_never, push_second_version};
+use edits::{ChangedLine, Edit, Edits, Place, joined, push_never, push_second_version};
 use given_plans::Provenance;
 use plan_core::Plan;
 use plan_words::PlanWords;
@@ -31,8 +31,9 @@ pub struct Offer {
     pub number: usize,
     pub proposal: Proposal,
     pub outcome: Outcome,
-    /// The numbers of all groups that it mends.
+    /// The numbers of all groups that it mends, and how many pairs these have.
     pub groups: Vec<usize>,
+    pub pairs: usize,
     /// The lines of the texts that are others then, as they would stand.
     pub lines: Vec<ChangedLine>,
 }
@@ -46,6 +47,7 @@ impl Drop for Offer {
             proposal: _,
             outcome: _,
             groups: _,
+            pairs: _,
             lines: _,
         } = self;
     }
@@ -62,13 +64,23 @@ pub struct Offers {
 }
 
 /// Offers that mend as many groups as possible.
-#[derive(Drop)]
 pub struct Together {
     /// Their places among all.
     pub places: Vec<usize>,
     /// What comes of all of them. None where there are none.
     pub outcome: Option<Outcome>,
     edits: Vec<Edit>,
+}
+
+// Written out, so that one call lets it go.
+impl Drop for Together {
+    fn drop(self) {
+        let Self {
+            places: _,
+            outcome: _,
+            edits: _,
+        } = self;
+    }
 }
 
 impl Offers {
@@ -242,6 +254,7 @@ fn offer_of(
         number,
         proposal,
         outcome,
+        pairs: pairs_of(search.groups, groups.as_slice()),
         groups,
         lines,
     }))
@@ -262,6 +275,16 @@ fn mended_by(alloc: Global, groups: &Ranked, left: &[bool]) -> Result<Vec<usize>
         }
     }
     Ok(mended)
+}
+
+fn pairs_of(groups: &Ranked, numbers: &[usize]) -> usize {
+    let mut pairs = 0usize;
+    for g in numbers {
+        if let Some(group) = groups.get(*g) {
+            pairs = pairs.saturating_add(group.pairs);
+        }
+    }
+    pairs
 }
 
 // Each unsafe pair by its group and its place among all, group by group.
@@ -325,15 +348,15 @@ impl Search<'_, '_> {
             }
         }
         let kept = kept_in(alloc, self.words, self.keeping, pairs.as_slice())?;
-        let mut draft = Draft::new(alloc);
+        let mut made = Edits::new(alloc);
         for never in kept.nevers.iter() {
             let sides = (never.first.as_str(), never.second.as_str());
-            push_never(alloc, &mut draft.edits, self.texts, sides);
+            push_never(alloc, &mut made, self.texts, sides);
         }
         if !kept.nevers.is_empty() && self.words.is_first_version() {
-            push_second_version(alloc, &mut draft.edits, self.texts);
+            push_second_version(alloc, &mut made, self.texts);
         }
-        draft.finish(found, Change::Never, Edited::Both)
+        push_made(found, made, Change::Never, Edited::Both)
     }
 }
 

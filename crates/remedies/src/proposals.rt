@@ -2,12 +2,12 @@
 
 use crate::paths::{Sent, Step, header_of, known_address, step_at};
 use crate::sides::{BothSides, SideItem, common_at};
-use edits::{Bits, Edit, Edits, Place, spelled_bits, spelled_count};
+use edits::{Bits, Edit, EditedItem, Edits, Place, spelled_bits, spelled_count};
 use message_tree::Count;
 use std::alloc::{AllocError, Global};
 
 /// What an edit does.
-#[derive(Clone, Copy, PartialEq, Eq)]
+#[derive(Clone, Copy)]
 pub enum Change {
     /// The counts of the reads in this frame are narrowed.
     Count { frame: u32 },
@@ -49,16 +49,6 @@ pub enum Edited {
     First,
     Second,
     Both,
-}
-
-/// An item that is edited, and what it no longer sends.
-#[derive(Drop)]
-pub struct EditedItem {
-    /// The name that it gives.
-    pub name: String,
-    /// The counts, the values of the byte or of the address that are no longer sent, as the texts would have them. Nothing for
-    /// other edits.
-    pub gone: String,
 }
 
 /// An edit of the texts, and what a sentence about it needs.
@@ -118,59 +108,22 @@ pub fn proposals_for(alloc: Global, sought: Sought<'_, '_>) -> Result<Vec<Propos
     Ok(found)
 }
 
-// ---- drafts
-
-/// A proposal that is made item by item.
-#[derive(Drop)]
-pub struct Draft {
-    pub edits: Edits,
-    items: Vec<EditedItem>,
-    is_whole: bool,
-}
-
-impl Draft {
-    pub fn new(alloc: Global) -> Draft {
-        Draft {
-            edits: Edits::new(alloc),
-            items: Vec::new(alloc),
-            is_whole: true,
-        }
-    }
-
-    // This item is edited.
-    fn name(&mut self, alloc: Global, item: &SideItem<'_>, gone: Result<String, AllocError>) {
-        let is_added = match (String::from_str(alloc, item.name.as_str()), gone) {
-            (Ok(name), Ok(gone)) => self.items.push(EditedItem { name, gone }).is_ok(),
-            _ => false,
-        };
-        self.is_whole = self.is_whole && is_added;
-    }
-
-    // Adds it to these, where each item could be edited.
-    pub fn finish(
-        self,
-        found: &mut Vec<Proposal>,
-        change: Change,
-        edited: Edited,
-    ) -> Result<(), AllocError> {
-        let Draft {
-            edits,
+/// Adds what these edits are, where each item could be edited.
+pub fn push_made(
+    found: &mut Vec<Proposal>,
+    made: Edits,
+    change: Change,
+    edited: Edited,
+) -> Result<(), AllocError> {
+    if let Some((items, edits)) = made.finish()? {
+        found.push(Proposal {
+            change,
+            edited,
             items,
-            is_whole,
-        } = self;
-        if !is_whole {
-            return Err(AllocError);
-        }
-        if let Some(edits) = edits.finish()? {
-            found.push(Proposal {
-                change,
-                edited,
-                items,
-                edits,
-            })?;
-        }
-        Ok(())
+            edits,
+        })?;
     }
+    Ok(())
 }
 
 // ---- counts
@@ -234,33 +187,33 @@ fn push_narrowed(
     };
     for within in [below, above] {
         if let Some(within) = within {
-            let mut draft = Draft::new(alloc);
+            let mut made = Edits::new(alloc);
             for item in side {
-                draft.narrow(alloc, item, frame, within);
+                item.narrow(alloc, &mut made, frame, within);
             }
-            draft.finish(found, Change::Count { frame }, edited)?;
+            push_made(found, made, Change::Count { frame }, edited)?;
         }
     }
     Ok(())
 }
 
-impl Draft {
-    // Of the counts of an item in this frame those stay that are within these.
-    fn narrow(&mut self, alloc: Global, item: &SideItem<'_>, frame: u32, within: Count) {
-        let count = match item.paths.first() {
+impl SideItem<'_> {
+    // Of its counts in this frame those stay that are within these.
+    fn narrow(&self, alloc: Global, made: &mut Edits, frame: u32, within: Count) {
+        let count = match self.paths.first() {
             Some((_, path)) => count_of(path.as_slice(), frame),
             None => None,
         };
         let Some(count) = count else {
-            return self.edits.refuse();
+            return made.refuse();
         };
         let least = count.least().max(within.least());
         let Some(kept) = Count::between(least, count.greatest().min(within.greatest())) else {
-            return self.edits.refuse();
+            return made.refuse();
         };
         if kept != count {
-            item.text.narrow(alloc, &mut self.edits, frame, kept);
-            self.name(alloc, item, spelled_gone(alloc, count, kept));
+            self.text.narrow(alloc, made, frame, kept);
+            made.name(alloc, self.name.as_str(), spelled_gone(alloc, count, kept));
         }
     }
 }
@@ -313,34 +266,32 @@ fn push_bits_at(
         if fixed & mask != 0 {
             let value = ones & mask != 0;
             let bit = mask.trailing_zeros();
-            let mut draft = Draft::new(alloc);
-            draft.fix(alloc, side, place, mask, value);
+            let mut made = Edits::new(alloc);
+            fix(alloc, &mut made, side, place, (mask, value));
             let change = if edited == Edited::Both {
-                draft.fix(alloc, other, place, mask, true);
+                fix(alloc, &mut made, other, place, (mask, true));
                 Change::Bit { place, bit }
             } else {
                 Change::Known { place, bit, value }
             };
-            draft.finish(found, change, edited)?;
+            push_made(found, made, change, edited)?;
         }
         mask /= 2;
     }
     Ok(())
 }
 
-impl Draft {
-    // This bit has this value in each item of a side.
-    fn fix(&mut self, alloc: Global, side: &[SideItem<'_>], place: Place, mask: u8, value: bool) {
-        for item in side {
-            match bits_at(item, place) {
-                Some(bits) => {
-                    item.text
-                        .fix(alloc, &mut self.edits, place, bits.with(mask, value));
-                    let gone = bits.with(mask, !value);
-                    self.name(alloc, item, spelled_bits(alloc, gone, item.text.is_plan()));
-                }
-                None => self.edits.refuse(),
+// This bit has this value in each item of a side.
+fn fix(alloc: Global, made: &mut Edits, side: &[SideItem<'_>], place: Place, bit: (u8, bool)) {
+    let (mask, value) = bit;
+    for item in side {
+        match bits_at(item, place) {
+            Some(bits) => {
+                let gone = spelled_bits(alloc, bits.with(mask, !value), item.text.is_plan());
+                item.text.fix(alloc, made, place, bits.with(mask, value));
+                made.name(alloc, item.name.as_str(), gone);
             }
+            None => made.refuse(),
         }
     }
 }
@@ -370,28 +321,25 @@ fn push_change(
     edited: Edited,
 ) -> Result<(), AllocError> {
     let (side, _) = sought.facing(edited);
-    let mut draft = Draft::new(alloc);
+    let mut made = Edits::new(alloc);
     for item in side {
-        draft.change(alloc, item, change);
+        item.change(alloc, &mut made, change);
     }
-    draft.finish(found, change, edited)
+    push_made(found, made, change, edited)
 }
 
-impl Draft {
-    fn change(&mut self, alloc: Global, item: &SideItem<'_>, change: Change) {
+impl SideItem<'_> {
+    fn change(&self, alloc: Global, made: &mut Edits, change: Change) {
         match change {
-            Change::Read if is_bare(item) => item.text.read_one(alloc, &mut self.edits),
-            Change::Pointer if has_pointer(item) => {
-                item.text.leave_out_first(alloc, &mut self.edits);
+            Change::Read if is_bare(self) => self.text.read_one(alloc, made),
+            Change::Pointer if has_pointer(self) => self.text.leave_out_first(alloc, made),
+            Change::Address(address) if self.is_interrupt => {
+                self.text.readdress(alloc, made, known_address(address));
             }
-            Change::Address(address) if item.is_interrupt => {
-                item.text
-                    .readdress(alloc, &mut self.edits, known_address(address));
-            }
-            Change::Length { bytes } => item.text.lengthen(alloc, &mut self.edits, bytes),
-            _ => return self.edits.refuse(),
+            Change::Length { bytes } => self.text.lengthen(alloc, made, bytes),
+            _ => return made.refuse(),
         }
-        self.name(alloc, item, Ok(String::new(alloc)));
+        made.name(alloc, self.name.as_str(), Ok(String::new(alloc)));
     }
 }
 

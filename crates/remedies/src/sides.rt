@@ -32,7 +32,6 @@ impl Drop for Given<'_> {
 }
 
 /// An item of a side.
-#[derive(Drop)]
 pub struct SideItem<'a> {
     // how many items of the texts stand before it
     number: usize,
@@ -43,6 +42,20 @@ pub struct SideItem<'a> {
     pub text: MessageText<'a>,
     /// What it sends on this side, one at least.
     pub paths: Vec<Sending>,
+}
+
+// Written out, so that one call lets it go.
+impl Drop for SideItem<'_> {
+    fn drop(self) {
+        let Self {
+            number: _,
+            name: _,
+            is_interrupt: _,
+            is_alone: _,
+            text: _,
+            paths: _,
+        } = self;
+    }
 }
 
 // A message or an interrupt by its number, and its path.

@@ -22,6 +22,8 @@ pub struct Outcome {
     /// How many pairs the edited plan has, and how many of them are unsafe.
     pub pairs: u32,
     pub unsafe_pairs: usize,
+    /// How many pairs fewer that are than those of the plan.
+    pub price: u32,
 }
 
 /// Tries of edits of these texts, which give a plan, as long as the steps suffice.
@@ -108,6 +110,7 @@ fn outcome_of(
             left,
             pairs: edited.pair_count(),
             unsafe_pairs,
+            price: plan.pair_count().saturating_sub(edited.pair_count()),
         })),
         None => Ok(None),
     }
