@@ -41,7 +41,7 @@ pub fn diagnose_check(
 ) -> Result<Vec<Diagnostic>, AllocError>
     requires { AreFaults (plan_contents checked.now.plan) (fault_list checked.now.faults) }
 {
-    let groups = grouped_of(alloc, &checked.plan, words, &checked.faults, None)?;
+    let groups = grouped_of(alloc, &checked.plan, words, &checked.faults)?;
     let items = Items::of(alloc, texts, spans)?;
     diagnose_groups(alloc, words, checked, &groups, odd, wanted, &items, texts)
 }

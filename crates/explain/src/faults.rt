@@ -4,7 +4,8 @@ use bus_rows::{
     ALIKE, Meeting, Rule, Side, bus_row, deed, row_of, say, say_all, tell_places, tell_rows,
 };
 use growing_text::{Lines, Part, Sentence};
-use plan_findings::{Advice, tell_ranges};
+use offers::Advice;
+use plan_findings::tell_ranges;
 use plan_words::PlanWords;
 use std::alloc::{AllocError, Global};
 

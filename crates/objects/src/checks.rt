@@ -1,18 +1,19 @@
 // Objects of a check.
 
 use crate::fields::add_words;
-use crate::offers::{add_list, add_offers};
 use crate::oddities::add_oddities;
+use crate::offers::{add_list, add_offers};
 use bus_rows::{Labels, Meeting, Rule, labels_of, meeting_of};
 use causes::{Group, Place};
 use certificate::Fault;
 use growing_text::Text;
 use lint::Oddity;
 use object_lines::{ObjectLines, all_at};
+use offers::{Offers, Reasons};
 use plan_core::Plan;
 use plan_findings::{Detail, unsent_in};
 use plan_words::PlanWords;
-use remedies::{Grouped, Reasons, Safety, both_of, controller_of, kept_apart};
+use remedies::{Grouped, Safety, both_of, controller_of, kept_apart};
 use run_parts::{Output, RunError};
 use std::alloc::{AllocError, Global};
 use verdicts::Checked;
@@ -42,7 +43,7 @@ pub fn write_check<O: Output>(
         labels: labels_of(alloc, &checked.plan)?,
         places,
         groups: match reasons {
-            Some(Reasons::Unsafe(groups)) => Some(groups),
+            Some(Reasons::Unsafe(groups, offers)) => Some((groups, offers)),
             _ => None,
         },
     };
@@ -65,7 +66,7 @@ struct Told<'a> {
     labels: Labels,
     // where the message of each participant stands, if briefs mean the plan
     places: Option<Vec<String>>,
-    groups: Option<&'a Grouped>,
+    groups: Option<(&'a Grouped, &'a Offers)>,
 }
 
 impl Told<'_> {
@@ -92,7 +93,7 @@ impl Told<'_> {
         most: usize,
         out: &mut O,
     ) -> Result<(), RunError> {
-        let Some(groups) = self.groups else {
+        let Some((groups, offers)) = self.groups else {
             return Ok(());
         };
         for g in 0..groups.len() {
@@ -100,7 +101,7 @@ impl Told<'_> {
                 add_group(lines, groups, g, group);
                 self.add_example(lines, group.example, g < most);
                 if g < most {
-                    add_offers(lines, self.words, self.texts, groups, g);
+                    add_offers(lines, self.words, self.texts, offers, g);
                 }
                 lines.end();
             }
@@ -120,7 +121,7 @@ impl Told<'_> {
 
     // The number of the group of the `k`th unsafe pair.
     fn add_number(&self, text: &mut Text, k: usize) {
-        if let Some(groups) = self.groups {
+        if let Some((groups, _)) = self.groups {
             if let Some(g) = groups.number_of(k) {
                 text.push(",\"group\":");
                 text.push_number(g as u64);
@@ -271,7 +272,9 @@ fn add_plan(
     match reasons {
         None => {}
         Some(Reasons::Safe(safety)) => add_kept(lines, &checked.plan, safety),
-        Some(Reasons::Unsafe(groups)) => add_mended(lines, checked, words, groups, most),
+        Some(Reasons::Unsafe(groups, offers)) => {
+            add_mended(lines, checked, words, (groups.len(), most), offers);
+        }
     }
     lines.end();
 }
@@ -302,13 +305,14 @@ fn add_mended(
     lines: &mut ObjectLines,
     checked: &Checked,
     words: PlanWords<'_>,
-    groups: &Grouped,
-    most: usize,
+    explained: (usize, usize),
+    offers: &Offers,
 ) {
+    let (groups, most) = explained;
     lines.open("explain");
-    lines.number("explained", groups.len().min(most) as u64);
-    lines.number("groups", groups.len() as u64);
-    add_list(lines, groups);
+    lines.number("explained", groups.min(most) as u64);
+    lines.number("groups", groups as u64);
+    add_list(lines, offers);
     match interrupted_in(lines.alloc, checked) {
         Ok(pairs) => lines.field("interrupts", &pairs.as_slice()),
         Err(_) => lines.cut(),

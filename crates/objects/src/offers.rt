@@ -3,27 +3,24 @@
 use edits::Edit;
 use growing_text::Text;
 use object_lines::ObjectLines;
-use plan_findings::SHOWN;
+use offers::{Offer, Offers, SHOWN, Together};
 use plan_words::PlanWords;
-use remedies::{Grouped, Offer, Together};
 use std::alloc::{AllocError, Global};
+use std::str;
 
 /// Adds the field with what is offered for the group with this number: the first offers, and how many more there are.
 pub(crate) fn add_offers(
     lines: &mut ObjectLines,
     words: PlanWords<'_>,
     texts: &[Vec<u8>],
-    groups: &Grouped,
+    offers: &Offers,
     g: usize,
 ) {
-    let Some(offers) = groups.offers() else {
-        return;
-    };
     let all = offers.of(g);
     lines.open("explain");
     lines.open_list("offers");
     for offer in all.iter().take(SHOWN) {
-        add_offer(lines, words, texts, groups, offer);
+        add_offer(lines, words, texts, offer);
     }
     lines.close_list();
     if SHOWN < all.len() {
@@ -32,20 +29,13 @@ pub(crate) fn add_offers(
     lines.close();
 }
 
-fn add_offer(
-    lines: &mut ObjectLines,
-    words: PlanWords<'_>,
-    texts: &[Vec<u8>],
-    groups: &Grouped,
-    offer: &Offer,
-) {
+fn add_offer(lines: &mut ObjectLines, words: PlanWords<'_>, texts: &[Vec<u8>], offer: &Offer) {
     lines.open_element();
     add_number(lines, offer);
     lines.word("kind", offer.proposal.change.kind());
     lines.field("mends", &offer.groups.as_slice());
-    lines.number("pairs", pairs_in(groups, offer) as u64);
-    let unchecked = words.plan().pair_count().saturating_sub(offer.outcome.pairs);
-    lines.number("unchecked", u64::from(unchecked));
+    lines.number("pairs", offer.pairs as u64);
+    lines.number("unchecked", u64::from(offer.outcome.price));
     lines.open_list("edits");
     for edit in offer.proposal.edits.iter() {
         add_edit(lines, words, texts, edit);
@@ -68,17 +58,6 @@ fn number_of(alloc: Global, offer: &Offer) -> Result<String, AllocError> {
     text.push(".");
     text.push_number(offer.number as u64);
     text.finish()
-}
-
-// How many pairs the groups have that it mends.
-fn pairs_in(groups: &Grouped, offer: &Offer) -> usize {
-    let mut pairs = 0usize;
-    for g in offer.groups.iter() {
-        if let Some(group) = groups.group(*g) {
-            pairs = pairs.saturating_add(group.pairs);
-        }
-    }
-    pairs
 }
 
 // What is replaced where, and by what.
@@ -121,11 +100,12 @@ fn column_after(before: &[u8]) -> u64 {
 }
 
 /// Adds the offers that mend all, or most, and what a check says of the plan with them.
-pub(crate) fn add_list(lines: &mut ObjectLines, groups: &Grouped) {
-    let Some(offers) = groups.offers() else {
-        return;
-    };
-    let Together { places, outcome, .. } = &offers.together;
+pub(crate) fn add_list(lines: &mut ObjectLines, offers: &Offers) {
+    let Together {
+        places,
+        outcome,
+        ..
+    } = &offers.together;
     lines.open_list("list");
     for place in places.iter() {
         if let Some(offer) = offers.all.get(*place) {

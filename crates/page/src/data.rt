@@ -40,7 +40,7 @@ struct Verdict {
 /// What was found of a plan, as JSON on one line.
 pub(crate) fn data_of(alloc: Global, page: &Page<'_>) -> Result<String, AllocError> {
     let ways = Ways::new(alloc, page.order)?;
-    let offers = all_offered(alloc, page.words, page.groups)?;
+    let offers = all_offered(alloc, page.words, page.offers)?;
     let data = Data {
         capture: match page.recording {
             Some(recording) => Some(recording.recorded()),
@@ -95,6 +95,7 @@ fn all_of<'a>(
             checked: page.checked,
             words,
             groups,
+            offers: page.offers,
         },
         offers,
         capture: None,

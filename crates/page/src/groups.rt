@@ -3,6 +3,7 @@
 use crate::offers::{Offered, offered_for};
 use bus_rows::{Meeting, deed, meeting_of};
 use causes::Group;
+use offers::Offers;
 use plan_findings::why_unsafe;
 use plan_words::PlanWords;
 use remedies::Grouped;
@@ -17,6 +18,7 @@ pub(crate) struct Groups<'a> {
     pub(crate) checked: &'a Checked,
     pub(crate) words: PlanWords<'a>,
     pub(crate) groups: &'a Grouped,
+    pub(crate) offers: Option<&'a Offers>,
 }
 
 // A group: how many pairs it has, the number of the one that stands for it, what the two of that one do where they meet, why
@@ -71,7 +73,7 @@ impl<'a> Groups<'a> {
             meets: deeds_of(&meeting),
             why: why_unsafe(group.cause.first.kind, group.cause.second.kind),
             between: self.between(g)?,
-            offers: offered_for(self.alloc, self.words, self.groups, g)?,
+            offers: offered_for(self.alloc, self.words, self.offers, g)?,
         }))
     }
 

@@ -1,8 +1,7 @@
 // What is offered to mend unsafe pairs, as the page has it: in the words of a report.
 
-use plan_findings::{Advice, advice_for_all, advice_for_group};
+use offers::{Advice, Offers, advice_for_all, advice_for_group};
 use plan_words::PlanWords;
-use remedies::Grouped;
 use serde::Serialize;
 use std::alloc::{AllocError, Global};
 
@@ -28,22 +27,25 @@ impl Offered {
 pub(crate) fn all_offered(
     alloc: Global,
     words: PlanWords<'_>,
-    groups: &Grouped,
+    offers: Option<&Offers>,
 ) -> Result<Vec<Offered>, AllocError> {
-    if groups.len() == 0 {
-        return Ok(Vec::new(alloc));
+    match offers {
+        Some(offers) => offered(alloc, advice_for_all(alloc, words, offers)?),
+        None => Ok(Vec::new(alloc)),
     }
-    offered(alloc, advice_for_all(alloc, words, groups)?)
 }
 
 /// What is offered to mend the group with this number.
 pub(crate) fn offered_for(
     alloc: Global,
     words: PlanWords<'_>,
-    groups: &Grouped,
+    offers: Option<&Offers>,
     g: usize,
 ) -> Result<Vec<Offered>, AllocError> {
-    offered(alloc, advice_for_group(alloc, words, groups, g)?)
+    match offers {
+        Some(offers) => offered(alloc, advice_for_group(alloc, words, offers, g)?),
+        None => Ok(Vec::new(alloc)),
+    }
 }
 
 fn offered(alloc: Global, advice: Vec<Advice>) -> Result<Vec<Offered>, AllocError> {

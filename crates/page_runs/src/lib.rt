@@ -10,6 +10,7 @@ use decoding::{ExplainedSink, Explaining};
 use dump_findings::{Layout, Selection};
 use dump_tokens::Bus;
 use given_plans::{GivenPlan, Provenance};
+use offers::{Offers, offers_of};
 use order::{order_of, order_report};
 use page::{Page, Recording, Texts, page_of};
 use plan_core::Plan;
@@ -36,8 +37,7 @@ pub fn write_page_alone<R: AllocGlobal + Threads + Sync, I: Input, O: Output>(
     let GivenPlan { plan, provenance } = plans.find(rt.alloc())?;
     let checked = check_found(rt, rt.alloc(), plan, 1, &NoGate)?;
     let words = plans.words(&checked.plan, &provenance);
-    let groups = groups_of(rt.alloc(), &checked, words, &provenance)?;
-    write_page(rt.alloc(), title, &checked, words, &groups, None, out)?;
+    write_page(rt.alloc(), title, &checked, words, &provenance, None, out)?;
     Ok(Ended::quietly(status_of(checked.faults.is_safe())))
 }
 
@@ -60,8 +60,15 @@ pub fn write_page_with<R: AllocGlobal + Threads + Sync, I: Input, J: Input, O: O
         recording: &recording,
         report: text_of(capture.as_slice()),
     };
-    let groups = groups_of(rt.alloc(), &checked, words, &provenance)?;
-    write_page(rt.alloc(), title, &checked, words, &groups, Some(capture), out)?;
+    write_page(
+        rt.alloc(),
+        title,
+        &checked,
+        words,
+        &provenance,
+        Some(capture),
+        out,
+    )?;
     Ok(Ended {
         status: worse(status_of(checked.faults.is_safe()), seen),
         findings: Findings::Recording(Recorded::Other, rises, None),
@@ -179,12 +186,42 @@ fn write_page<O: Output>(
     title: &str,
     checked: &Checked,
     words: PlanWords<'_>,
-    groups: &Grouped,
+    provenance: &Provenance,
     capture: Option<Shown<'_>>,
     out: &mut O,
 ) -> Result<(), RunError>
     requires { AreFaults (plan_contents checked.now.plan) (fault_list checked.now.faults) }
 {
+    let Checked { plan, faults } = checked;
+    let groups = grouped_of(alloc, plan, words, faults)?;
+    let offers = if faults.is_safe() {
+        None
+    } else {
+        Some(offers_of(alloc, plan, words, faults, &groups, provenance)?)
+    };
+    write_grouped(
+        alloc,
+        title,
+        checked,
+        words,
+        (&groups, offers.as_ref()),
+        capture,
+        out,
+    )
+}
+
+fn write_grouped<O: Output>(
+    alloc: Global,
+    title: &str,
+    checked: &Checked,
+    words: PlanWords<'_>,
+    found: (&Grouped, Option<&Offers>),
+    capture: Option<Shown<'_>>,
+    out: &mut O,
+) -> Result<(), RunError>
+    requires { AreFaults (plan_contents checked.now.plan) (fault_list checked.now.faults) }
+{
+    let (groups, offers) = found;
     let order = order_of(alloc, &checked.plan, &checked.faults)?;
     let plan = print_plan(alloc, &checked.plan)?;
     let check = check_report(alloc, checked)?;
@@ -199,6 +236,7 @@ fn write_page<O: Output>(
         words,
         order: &order,
         groups,
+        offers,
         recording,
         texts: Texts {
             plan: text_of(plan.as_slice()),
@@ -210,19 +248,6 @@ fn write_page<O: Output>(
     let text = page_of(alloc, &page)?;
     write_lines(out, text.as_bytes(), Status::Good)?;
     Ok(())
-}
-
-// The groups of the unsafe pairs, with what is offered to mend them.
-fn groups_of(
-    alloc: Global,
-    checked: &Checked,
-    words: PlanWords<'_>,
-    provenance: &Provenance,
-) -> Result<Grouped, AllocError>
-    requires { AreFaults (plan_contents checked.now.plan) (fault_list checked.now.faults) }
-{
-    let Checked { plan, faults } = checked;
-    grouped_of(alloc, plan, words, faults, Some(provenance))
 }
 
 fn worse(one: Status, other: Status) -> Status {

@@ -30,11 +30,12 @@ use growing_text::Text;
 use hints::{Found, NoWaves};
 use lint::oddities;
 use objects::{write_answer, write_check, write_order, write_scores};
+use offers::reasons_of;
 use order::{Called, Order, order_report, order_summary, scores_of};
 use plan_core::Plan;
 use plan_findings::{Detail, Mistake, is_all_checked, mistake_of};
 use plan_words::{PlanWords, sides_of};
-use remedies::{count_groups, kept_apart, reasons_of};
+use remedies::{count_groups, kept_apart};
 use report::{check_report, status_of};
 use run_parts::devices::reading::READS;
 use run_parts::{Input, Output, RunError, Status, read_within, write_lines};
@@ -64,7 +65,10 @@ pub fn check<R: Eprint + Clock + AllocGlobal + Threads + Sync, I: Input, O: Outp
 {
     let gate = Comparing::new(rt, extras.watcher);
     let (found, by_plan) = check_by_form(rt, plans, out, look, &gate, extras)?;
-    let within = is_within(plans.words(&found.checked.plan, &found.provenance), look.apart);
+    let within = is_within(
+        plans.words(&found.checked.plan, &found.provenance),
+        look.apart,
+    );
     let status = judged(by_plan, &found.checked.plan, look.strict, within);
     let wave = wave_of(rt.alloc(), &found.checked, look)?;
     let findings = findings_of(rt.alloc(), found, plans, look, extras);

@@ -1,6 +1,5 @@
 // The two sides of a group: what its participants send, and the items that give that.
 
-use crate::mends::both_of;
 use crate::paths::{Sent, Step, header, known_address, path_of, step_at};
 use causes::Group;
 use edits::{MessageText, Place};
@@ -8,6 +7,7 @@ use given_plans::Provenance;
 use origins::{Kind, NameAt, NamedTexts, Spans};
 use plan_core::{Participant, Plan};
 use plan_words::PlanWords;
+use remedies::both_of;
 use std::alloc::{AllocError, Global};
 use verdicts::Faults;
 

@@ -1,12 +1,13 @@
 // What is offered to mend unsafe pairs, in words.
 
+use crate::offers::{Offer, Offers, Together};
+use crate::proposals::Change;
 use edits::{ChangedLine, Place};
 use growing_text::{Part, Sentence, Text};
 use plan_words::PlanWords;
-use remedies::{Change, Grouped, Offer, Offers, Together};
 use std::alloc::{AllocError, Global};
 
-// How many ranges of slots are named, how many items, groups and places.
+// How many items, groups and places are named.
 const NAMED: usize = 6;
 
 /// How many offers of a group are shown.
@@ -31,16 +32,13 @@ pub struct Advice {
 pub fn advice_for_group(
     alloc: Global,
     words: PlanWords<'_>,
-    groups: &Grouped,
+    offers: &Offers,
     g: usize,
 ) -> Result<Vec<Advice>, AllocError> {
     let mut advice = Vec::new(alloc);
-    let Some(offers) = groups.offers() else {
-        return Ok(advice);
-    };
     let all = offers.of(g);
     for offer in all.iter().take(SHOWN) {
-        advice.push(advice_of(alloc, words, groups, offer)?)?;
+        advice.push(advice_of(alloc, words, offer)?)?;
     }
     if SHOWN < all.len() {
         let more = [Part::Number(all.len().saturating_sub(SHOWN) as u64)];
@@ -58,12 +56,9 @@ pub fn advice_for_group(
 pub fn advice_for_all(
     alloc: Global,
     words: PlanWords<'_>,
-    groups: &Grouped,
+    offers: &Offers,
 ) -> Result<Vec<Advice>, AllocError> {
     let mut advice = Vec::new(alloc);
-    let Some(offers) = groups.offers() else {
-        return Ok(advice);
-    };
     if offers.together.places.is_empty() {
         let template = "no edit was found that mends a group";
         advice.push(spoken(alloc, Sentence::of(alloc, template, &[])))?;
@@ -87,18 +82,13 @@ fn spoken(alloc: Global, said: Sentence) -> Advice {
 
 // ---- an offer
 
-fn advice_of(
-    alloc: Global,
-    words: PlanWords<'_>,
-    groups: &Grouped,
-    offer: &Offer,
-) -> Result<Advice, AllocError> {
+fn advice_of(alloc: Global, words: PlanWords<'_>, offer: &Offer) -> Result<Advice, AllocError> {
     let mut said = Sentence::new(alloc);
     tell_number(&mut said, offer);
     tell_change(&mut said, words, offer);
     tell_places(&mut said, words, offer.lines.as_slice());
     if 1 < offer.groups.len() {
-        tell_groups(&mut said, groups, offer);
+        tell_groups(&mut said, offer);
     }
     Ok(Advice {
         said,
@@ -126,7 +116,10 @@ fn tell_change(said: &mut Sentence, words: PlanWords<'_>, offer: &Offer) {
             tell_byte(said, place);
             tell_items(said, " of ", offer);
             let gone = Part::Name(gone_in(offer));
-            said.tell(" be {}, as it never is in the other (no longer {})", &[value, gone]);
+            said.tell(
+                " be {}, as it never is in the other (no longer {})",
+                &[value, gone],
+            );
         }
         Change::Bit { place, bit } => {
             said.tell("let bit {} of", &[Part::Number(u64::from(bit))]);
@@ -226,20 +219,14 @@ fn tell_places(said: &mut Sentence, words: PlanWords<'_>, lines: &[ChangedLine])
 }
 
 // All groups that it mends, and how many pairs that is.
-fn tell_groups(said: &mut Sentence, groups: &Grouped, offer: &Offer) {
-    let mut pairs = 0usize;
+fn tell_groups(said: &mut Sentence, offer: &Offer) {
     said.tell(" (mends groups", &[]);
-    for (k, g) in offer.groups.iter().enumerate() {
-        if let Some(group) = groups.group(*g) {
-            pairs = pairs.saturating_add(group.pairs);
-        }
-        if k < NAMED {
-            let template = if k == 0 { " {}" } else { ", {}" };
-            said.tell(template, &[Part::Number(*g as u64)]);
-        }
+    for (k, g) in offer.groups.iter().take(NAMED).enumerate() {
+        let template = if k == 0 { " {}" } else { ", {}" };
+        said.tell(template, &[Part::Number(*g as u64)]);
     }
     tell_more(said, offer.groups.len());
-    said.tell(": {} pairs)", &[Part::Number(pairs as u64)]);
+    said.tell(": {} pairs)", &[Part::Number(offer.pairs as u64)]);
 }
 
 // The lines as they would stand, and how many more there are.
@@ -297,23 +284,5 @@ fn tell_list(said: &mut Sentence, offers: &Offers, list: &Together) {
             ];
             said.tell(if k == 0 { " {}.{}" } else { ", {}.{}" }, &parts);
         }
-    }
-}
-
-/// Adds runs of slots, the first of them by first and last ones.
-pub fn tell_ranges(said: &mut Sentence, ranges: &[(usize, usize)]) {
-    for (k, range) in ranges.iter().take(NAMED).enumerate() {
-        said.tell(if k == 0 { " " } else { ", " }, &[]);
-        tell_range(said, *range);
-    }
-    tell_more(said, ranges.len());
-}
-
-fn tell_range(said: &mut Sentence, range: (usize, usize)) {
-    let (from, to) = (Part::Number(range.0 as u64), Part::Number(range.1 as u64));
-    if range.0 == range.1 {
-        said.tell("{}", &[from]);
-    } else {
-        said.tell("{}..{}", &[from, to]);
     }
 }

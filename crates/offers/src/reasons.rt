@@ -3,10 +3,10 @@
 ghost use Rattle.plan_core.specs.PlanContents.{plan_contents};
 ghost use Rattle.verdicts.specs.Faults.{AreFaults, fault_list};
 
-use crate::groups::{Grouped, grouped_of};
-use crate::safety::{Safety, safety_of};
+use crate::offers::{Offers, offers_of};
 use given_plans::Provenance;
 use plan_words::PlanWords;
+use remedies::{Grouped, Safety, grouped_of, safety_of};
 use std::alloc::{AllocError, Global};
 use verdicts::Checked;
 
@@ -14,7 +14,7 @@ use verdicts::Checked;
 #[derive(Drop)]
 pub enum Reasons {
     Safe(Safety),
-    Unsafe(Grouped),
+    Unsafe(Grouped, Offers),
 }
 
 /// What explains the verdict on a plan that was checked, in these words of it. Of a safe one the proof of each two senders is looked at
@@ -35,24 +35,8 @@ pub fn reasons_of(
     if faults.is_safe() {
         Ok(Reasons::Safe(safety_of(alloc, words)?))
     } else {
-        let groups = grouped_of(alloc, plan, words, faults, Some(provenance))?;
-        Ok(Reasons::Unsafe(groups))
+        let groups = grouped_of(alloc, plan, words, faults)?;
+        let offers = offers_of(alloc, plan, words, faults, &groups, provenance)?;
+        Ok(Reasons::Unsafe(groups, offers))
     }
-}
-
-/// How many groups the unsafe pairs of a plan that was checked are, in these words of it.
-///
-/// # Errors
-///
-/// Where an allocation fails.
-pub fn count_groups(
-    alloc: Global,
-    checked: &Checked,
-    words: PlanWords<'_>,
-) -> Result<usize, AllocError>
-    requires { AreFaults (plan_contents checked.now.plan) (fault_list checked.now.faults) }
-{
-    let Checked { plan, faults } = checked;
-    let groups = grouped_of(alloc, plan, words, faults, None)?;
-    Ok(groups.len())
 }

@@ -4,10 +4,9 @@ ghost use Rattle.plan_core.specs.PlanContents.{plan_contents};
 ghost use Rattle.verdicts.specs.Faults.{AreFaults, fault_list};
 
 use crate::keeping;
-use crate::mends::{has_interrupt, kept_in};
+use crate::nevers::{has_interrupt, kept_in};
 use crate::paths::{can_have, places_on};
 use crate::proposals::{Change, Edited, Proposal, Sought, proposals_for, push_made};
-use crate::ranks::Ranked;
 use crate::sides::{BothSides, Given};
 use crate::tries::{Outcome, Tries};
 use causes::Group;
@@ -15,6 +14,7 @@ use edits::{ChangedLine, Edit, Edits, Place, joined, push_never, push_second_ver
 use given_plans::Provenance;
 use plan_core::Plan;
 use plan_words::PlanWords;
+use remedies::Grouped;
 use std::alloc::{AllocError, Global};
 use verdicts::Faults;
 
@@ -97,7 +97,7 @@ impl Offers {
 struct Search<'s, 'a> {
     words: PlanWords<'a>,
     texts: &'a [Vec<u8>],
-    groups: &'s Ranked,
+    groups: &'s Grouped,
     given: &'s Given<'a>,
     keeping: &'s keeping::Groups,
     free: Option<u8>,
@@ -114,7 +114,7 @@ pub fn offers_of(
     plan: &Plan,
     words: PlanWords<'_>,
     faults: &Faults,
-    groups: &Ranked,
+    groups: &Grouped,
     provenance: &Provenance,
 ) -> Result<Offers, AllocError>
     requires { AreFaults (plan_contents plan.now) (fault_list faults.now) }
@@ -152,7 +152,7 @@ fn all_offers(
     let mut all = Vec::new(alloc);
     let mut rest = members.as_slice();
     for g in 0..search.groups.len() {
-        if let Some(group) = search.groups.get(g) {
+        if let Some(group) = search.groups.group(g) {
             let pairs = rest.get(..group.pairs).unwrap_or(rest);
             rest = rest.get(group.pairs..).unwrap_or(rest);
             push_offers(
@@ -261,7 +261,7 @@ fn offer_of(
 }
 
 // The groups of which no pair is left.
-fn mended_by(alloc: Global, groups: &Ranked, left: &[bool]) -> Result<Vec<usize>, AllocError> {
+fn mended_by(alloc: Global, groups: &Grouped, left: &[bool]) -> Result<Vec<usize>, AllocError> {
     let mut open = vec![in alloc; false; groups.len()]?;
     for (g, is_left) in groups.numbers().iter().zip(left.iter()) {
         if let Some(is_open) = open.get_mut(*g) {
@@ -277,10 +277,10 @@ fn mended_by(alloc: Global, groups: &Ranked, left: &[bool]) -> Result<Vec<usize>
     Ok(mended)
 }
 
-fn pairs_of(groups: &Ranked, numbers: &[usize]) -> usize {
+fn pairs_of(groups: &Grouped, numbers: &[usize]) -> usize {
     let mut pairs = 0usize;
     for g in numbers {
-        if let Some(group) = groups.get(*g) {
+        if let Some(group) = groups.group(*g) {
             pairs = pairs.saturating_add(group.pairs);
         }
     }
@@ -288,7 +288,7 @@ fn pairs_of(groups: &Ranked, numbers: &[usize]) -> usize {
 }
 
 // Each unsafe pair by its group and its place among all, group by group.
-fn by_groups(alloc: Global, groups: &Ranked) -> Result<Vec<(usize, usize)>, AllocError> {
+fn by_groups(alloc: Global, groups: &Grouped) -> Result<Vec<(usize, usize)>, AllocError> {
     let mut all = Vec::with_capacity(alloc, groups.numbers().len())?;
     for (k, g) in groups.numbers().iter().enumerate() {
         all.push((*g, k))?;
