@@ -2,7 +2,7 @@
 
 use crate::fields::add_words;
 use crate::oddities::add_oddities;
-use crate::offers::{add_list, add_offers};
+use crate::offered::{add_list, add_offers};
 use bus_rows::{Labels, Meeting, Rule, labels_of, meeting_of};
 use causes::{Group, Place};
 use certificate::Fault;

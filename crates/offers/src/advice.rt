@@ -1,6 +1,6 @@
 // What is offered to mend unsafe pairs, in words.
 
-use crate::offers::{Offer, Offers, Together};
+use crate::found::{Offer, Offers, Together};
 use crate::proposals::Change;
 use edits::{ChangedLine, Place};
 use growing_text::{Part, Sentence, Text};

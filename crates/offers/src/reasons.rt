@@ -3,7 +3,7 @@
 ghost use Rattle.plan_core.specs.PlanContents.{plan_contents};
 ghost use Rattle.verdicts.specs.Faults.{AreFaults, fault_list};
 
-use crate::offers::{Offers, offers_of};
+use crate::found::{Offers, offers_of};
 use given_plans::Provenance;
 use plan_words::PlanWords;
 use remedies::{Grouped, Safety, grouped_of, safety_of};

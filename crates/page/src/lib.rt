@@ -17,7 +17,7 @@ mod lanes;
 mod levels;
 mod matrix;
 mod nodes;
-mod offers;
+mod offered;
 mod pages;
 mod pairs;
 mod parties;
