@@ -440,13 +440,17 @@ fn together_of(
     Ok(list)
 }
 
-// The first of the offers that mend the most of the open pairs.
+// Of the offers that mend open pairs the one that leaves out the fewest pairs, of several the one that mends the most open ones, and
+// of these the first.
 fn best_of(offers: &[Offer], unused: &[bool], open: &[bool]) -> Option<usize> {
     let mut best = None;
+    let mut least = u32::MAX;
     let mut most = 0usize;
     for (place, (offer, is_unused)) in offers.iter().zip(unused.iter()).enumerate() {
+        let price = offer.outcome.price;
         let gain = gain_of(offer.outcome.left.as_slice(), open);
-        if *is_unused && most < gain {
+        if *is_unused && 0 < gain && (price < least || price == least && most < gain) {
+            least = price;
             most = gain;
             best = Some(place);
         }
@@ -497,7 +501,8 @@ impl Together {
         let Some(outcome) = tried else {
             return Ok(false);
         };
-        if !are_closed(open, offer.outcome.left.as_slice(), outcome.left.as_slice()) {
+        let own = offer.outcome.left.as_slice();
+        if outcome.pairs == 0 || !are_closed(open, own, outcome.left.as_slice()) {
             return Ok(false);
         }
         self.places.push(place)?;
