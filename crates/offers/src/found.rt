@@ -131,7 +131,7 @@ pub fn offers_of(
     };
     let mut tries = Tries::new(plan, provenance.texts.as_slice());
     let all = all_offers(alloc, plan, faults, search, &mut tries)?;
-    let together = together_of(alloc, plan, faults, all.as_slice(), &mut tries)?;
+    let together = together_of(alloc, plan, faults, groups, all.as_slice(), &mut tries)?;
     Ok(Offers {
         all,
         together,
@@ -408,11 +408,12 @@ fn is_free(plan: &Plan, address: u8) -> bool {
 
 // ---- all together
 
-// Offers that go together, of those that are left each time the one that mends the most further pairs.
+// Offers that go together: each time one more, as far as it mends a further group.
 fn together_of(
     alloc: Global,
     plan: &Plan,
     faults: &Faults,
+    groups: &Grouped,
     offers: &[Offer],
     tries: &mut Tries<'_>,
 ) -> Result<Together, AllocError>
@@ -423,32 +424,59 @@ fn together_of(
         outcome: None,
         edits: Vec::new(alloc),
     };
-    let mut open = vec![in alloc; true; faults.len()]?;
+    let mut open = vec![in alloc; true; groups.len()]?;
     let mut unused = vec![in alloc; true; offers.len()]?;
     for _ in 0..offers.len() {
-        let Some(best) = best_of(offers, unused.as_slice(), open.as_slice()) else {
+        let Some(best) = best_of(groups, offers, unused.as_slice(), open.as_slice()) else {
             return Ok(list);
         };
         if let (Some(offer), Some(is_unused)) = (offers.get(best), unused.get_mut(best)) {
             *is_unused = false;
-            let left = offer.outcome.left.as_slice();
-            if list.add(alloc, plan, faults, tries, (best, offer), open.as_slice())? {
-                close(open.as_mut_slice(), left);
+            let both = joined(alloc, list.edits.as_slice(), offer.proposal.edits.as_slice())?;
+            let tried = outcome_of(alloc, plan, faults, tries, both.as_ref())?;
+            if let (Some(edits), Some(outcome)) = (both, tried) {
+                let mended = mended_by(alloc, groups, outcome.left.as_slice())?;
+                if outcome.pairs != 0 && are_mended(mended.as_slice(), open.as_slice(), offer) {
+                    close(open.as_mut_slice(), offer);
+                    list.places.push(best)?;
+                    list.edits = edits;
+                    list.outcome = Some(outcome);
+                }
             }
         }
     }
     Ok(list)
 }
 
-// Of the offers that mend open pairs the one that leaves out the fewest pairs, of several the one that mends the most open ones, and
-// of these the first.
-fn best_of(offers: &[Offer], unused: &[bool], open: &[bool]) -> Option<usize> {
+fn outcome_of(
+    alloc: Global,
+    plan: &Plan,
+    faults: &Faults,
+    tries: &mut Tries<'_>,
+    edits: Option<&Vec<Edit>>,
+) -> Result<Option<Outcome>, AllocError>
+    requires { AreFaults (plan_contents plan.now) (fault_list faults.now) }
+{
+    match edits {
+        Some(edits) => tries.outcome(alloc, plan, faults, edits.as_slice()),
+        None => Ok(None),
+    }
+}
+
+// Of the offers that mend open groups the one that leaves out the fewest pairs, of several the one that mends the most pairs of open
+// groups, and of these the first.
+fn best_of(
+    groups: &Grouped,
+    offers: &[Offer],
+    unused: &[bool],
+    open: &[bool],
+) -> Option<usize> {
     let mut best = None;
     let mut least = u32::MAX;
     let mut most = 0usize;
     for (place, (offer, is_unused)) in offers.iter().zip(unused.iter()).enumerate() {
         let price = offer.outcome.price;
-        let gain = gain_of(offer.outcome.left.as_slice(), open);
+        let gain = gain_of(groups, offer, open);
         if *is_unused && 0 < gain && (price < least || price == least && most < gain) {
             least = price;
             most = gain;
@@ -458,64 +486,30 @@ fn best_of(offers: &[Offer], unused: &[bool], open: &[bool]) -> Option<usize> {
     best
 }
 
-fn gain_of(left: &[bool], open: &[bool]) -> usize {
+// How many pairs the open groups have that an offer mends.
+fn gain_of(groups: &Grouped, offer: &Offer, open: &[bool]) -> usize {
     let mut gain = 0usize;
-    for (is_left, is_open) in left.iter().zip(open.iter()) {
-        if *is_open && !*is_left {
-            gain = gain.saturating_add(1);
+    for g in offer.groups.as_slice() {
+        if let (Some(true), Some(group)) = (open.get(*g), groups.group(*g)) {
+            gain = gain.saturating_add(group.pairs);
         }
     }
     gain
 }
 
-fn close(open: &mut [bool], left: &[bool]) {
-    for (is_open, is_left) in open.iter_mut().zip(left.iter()) {
-        *is_open = *is_open && *is_left;
-    }
-}
-
-impl Together {
-    // Adds an offer, where it goes together with the others: all pairs are mended that are not open, and those that it mends. Whether
-    // it does.
-    fn add(
-        &mut self,
-        alloc: Global,
-        plan: &Plan,
-        faults: &Faults,
-        tries: &mut Tries<'_>,
-        offer: (usize, &Offer),
-        open: &[bool],
-    ) -> Result<bool, AllocError>
-        requires { AreFaults (plan_contents plan.now) (fault_list faults.now) }
-    {
-        let (place, offer) = offer;
-        let both = joined(
-            alloc,
-            self.edits.as_slice(),
-            offer.proposal.edits.as_slice(),
-        )?;
-        let Some(edits) = both else {
-            return Ok(false);
-        };
-        let tried = tries.outcome(alloc, plan, faults, edits.as_slice())?;
-        let Some(outcome) = tried else {
-            return Ok(false);
-        };
-        let own = offer.outcome.left.as_slice();
-        if outcome.pairs == 0 || !are_closed(open, own, outcome.left.as_slice()) {
-            return Ok(false);
+fn close(open: &mut [bool], offer: &Offer) {
+    for g in offer.groups.as_slice() {
+        if let Some(is_open) = open.get_mut(*g) {
+            *is_open = false;
         }
-        self.places.push(place)?;
-        self.edits = edits;
-        self.outcome = Some(outcome);
-        Ok(true)
     }
 }
 
-// Whether only those of the open pairs are left together that the offer leaves.
-fn are_closed(open: &[bool], own: &[bool], left: &[bool]) -> bool {
-    for ((is_open, is_own), is_left) in open.iter().zip(own.iter()).zip(left.iter()) {
-        if *is_left && !(*is_open && *is_own) {
+// Whether all groups are mended that are not open, and those that the offer mends.
+fn are_mended(mended: &[usize], open: &[bool], offer: &Offer) -> bool {
+    for (g, is_open) in open.iter().enumerate() {
+        let is_wanted = !*is_open || offer.groups.contains(&g);
+        if is_wanted && !mended.contains(&g) {
             return false;
         }
     }

@@ -224,7 +224,8 @@ impl<'a> Trials<'a> {
         *self.known.entry([spelled(x), spelled(y)]).or_insert_with(|| first_clash(x, y).is_some())
     }
 
-    // To the list comes the offer that mends the most pairs which nothing of it mends, of groups that are mended whole.
+    // To the list comes, of the offers that mend a group which nothing of it mends, the one of the least price, and of several the one
+    // whose further groups have the most pairs.
     fn make_list(&mut self, mending: &mut Mending) {
         let all = mending.groups.iter().enumerate();
         let mut left: Vec<(usize, usize)> =
@@ -237,8 +238,12 @@ impl<'a> Trials<'a> {
                 let further: Vec<usize> = mends.iter().copied().filter(|it| !mended.contains(it)).collect();
                 mending.pairs_of(&further)
             };
-            let most = left.iter().map(further).max().unwrap_or(0);
-            let Some(place) = left.iter().position(|one| most > 0 && further(one) == most) else {
+            let price = |(group, k): &(usize, usize)| mending.groups[*group].1[*k].unchecked;
+            let worth = |one: &(usize, usize)| (std::cmp::Reverse(price(one)), further(one));
+            let Some(most) = left.iter().filter(|one| further(one) > 0).map(worth).max() else {
+                return;
+            };
+            let Some(place) = left.iter().position(|one| further(one) > 0 && worth(one) == most) else {
                 return;
             };
             let (group, k) = left.remove(place);
@@ -249,7 +254,7 @@ impl<'a> Trials<'a> {
                 continue;
             };
             let are_mended = all.iter().all(|group| tried.faults.is_disjoint(&self.groups[*group]));
-            if self.is_offer(&tried) && are_mended {
+            if self.is_offer(&tried) && are_mended && tried.pairs > 0 {
                 mending.list.push((group, k));
                 mending.then = (tried.pairs, tried.unsafe_pairs);
                 (edits, mended) = (together, all);
