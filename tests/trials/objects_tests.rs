@@ -89,7 +89,7 @@ fn unsafe_pairs_are_explained() {
     );
 }
 
-// (both get the lowest address: the second one, with the first in the list, would meet that)
+// (each gets an address of its own)
 #[test]
 fn an_interrupt_is_mended_by_another_address() {
     let plan = "plan 1 message get read 1001000 1 stop else stop ; controller a get ;
@@ -99,7 +99,7 @@ fn an_interrupt_is_mended_by_another_address() {
     let bytes = ["\"S 48 Rd\",\"S 48 Rd (waits)\"", "\"S 48 Rd (waits)\",\"S 48 Rd (waits)\""];
     assert_eq!(explain_of(&found[3]), format!("{rule}\"bytes\":[{}],\"open\":[[],[]]}}", bytes[0]));
     assert_eq!(explain_of(&found[5]), format!("{rule}\"bytes\":[{}],\"open\":[[],[]]}}", bytes[1]));
-    let mends = "{\"explained\":3,\"groups\":3,\"list\":[\"0.1\"],\"then\":{\"pairs\":3,\"unsafe_pairs\":1},\
+    let mends = "{\"explained\":3,\"groups\":3,\"list\":[\"0.1\",\"1.1\"],\"then\":{\"pairs\":3,\"unsafe_pairs\":0},\
                  \"interrupts\":[0,1,2],\"unsent\":[],\"kept_apart\":0}";
     assert_eq!(explain_of(&found[6]), mends);
 }

@@ -318,11 +318,7 @@ impl<'n, 'a> Reader<'n, 'a> {
         };
     }
 
-    // Before an `else` a byte that is sent several times has no place.
     fn take_else(&mut self, span: Span) {
-        if self.is_repeated() {
-            self.unplace();
-        }
         let after = if self.is_plan {
             After::Other
         } else {
@@ -331,20 +327,25 @@ impl<'n, 'a> Reader<'n, 'a> {
         self.push(Part::Nack, span, after);
     }
 
-    // `stop`, or a bracket.
+    // `stop`, or a bracket: before that a byte that is sent several times has no place.
     fn take_after_else(&mut self, symbol: Symbol<'_>, span: Span) {
-        let after = match symbol {
-            Symbol::Sign(Sign::Open) => After::Inner(1),
-            _ => After::Other,
-        };
-        self.has_stops_alone = self.has_stops_alone && matches!(after, After::Other);
-        self.push(Part::Nack, span, after);
+        match symbol {
+            Symbol::Sign(Sign::Open) => {
+                self.has_stops_alone = false;
+                self.unplace_repeated();
+                self.push(Part::Nack, span, After::Inner(1));
+            }
+            _ => self.push(Part::Nack, span, After::Other),
+        }
     }
 
-    fn is_repeated(&self) -> bool {
-        match self.tokens.last() {
-            Some(last) => matches!(last.part, Part::Bytes { word, .. } if word != last.span.end),
-            None => false,
+    // The token before the last one.
+    fn unplace_repeated(&mut self) {
+        let before = self.tokens.len().saturating_sub(2);
+        if let Some(token) = self.tokens.get_mut(before) {
+            if matches!(token.part, Part::Bytes { word, .. } if word != token.span.end) {
+                token.part = Part::Other;
+            }
         }
     }
 

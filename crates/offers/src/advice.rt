@@ -136,7 +136,7 @@ fn tell_change(said: &mut Sentence, words: PlanWords<'_>, offer: &Offer) {
                 " writes before it reads, if the device keeps its pointer (someone else may have moved it)";
             said.tell(template, &[]);
         }
-        Change::Address(_) => {
+        Change::Address => {
             tell_items(said, "give ", offer);
             said.tell(" an address that nothing else has", &[]);
         }

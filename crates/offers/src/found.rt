@@ -100,7 +100,7 @@ struct Search<'s, 'a> {
     groups: &'s Grouped,
     given: &'s Given<'a>,
     keeping: &'s keeping::Groups,
-    free: Option<u8>,
+    free: &'s [u8],
 }
 
 /// What is offered to mend these groups of the unsafe pairs of the plan, which has these words and faults, and which these texts
@@ -121,13 +121,14 @@ pub fn offers_of(
 {
     let given = Given::new(alloc, words, provenance)?;
     let keeping = keeping::groups_of(alloc, words)?;
+    let free = free_addresses(alloc, plan)?;
     let search = Search {
         words,
         texts: provenance.texts.as_slice(),
         groups,
         given: &given,
         keeping: &keeping,
-        free: free_address(plan),
+        free: free.as_slice(),
     };
     let mut tries = Tries::new(plan, provenance.texts.as_slice());
     let all = all_offers(alloc, plan, faults, search, &mut tries)?;
@@ -245,7 +246,8 @@ fn offer_of(
         return Ok(None);
     };
     let groups = mended_by(alloc, search.groups, outcome.left.as_slice())?;
-    if !groups.contains(&group) {
+    let is_dear = outcome.price != 0 && !matches!(proposal.change, Change::Never);
+    if is_dear || !groups.contains(&group) {
         return Ok(None);
     }
     let lines = tries.lines(alloc, proposal.edits.as_slice())?;
@@ -384,12 +386,16 @@ fn pairs_at(
     Ok(pairs)
 }
 
-// The lowest address that no header of a message can have, and no interrupt has. It is asked for where there is one.
-fn free_address(plan: &Plan) -> Option<u8> {
-    if plan.interrupts() == 0 {
-        return None;
+// The addresses that no header of a message can have, and no interrupt has, from the lowest on: as many as there are interrupts.
+fn free_addresses(alloc: Global, plan: &Plan) -> Result<Vec<u8>, AllocError> {
+    let interrupts = plan.interrupts() as usize;
+    let mut free = Vec::new(alloc);
+    for address in LOWEST..=HIGHEST {
+        if free.len() < interrupts && is_free(plan, address) {
+            free.push(address)?;
+        }
     }
-    (LOWEST..=HIGHEST).find(|address| is_free(plan, *address))
+    Ok(free)
 }
 
 fn is_free(plan: &Plan, address: u8) -> bool {
@@ -432,7 +438,11 @@ fn together_of(
         };
         if let (Some(offer), Some(is_unused)) = (offers.get(best), unused.get_mut(best)) {
             *is_unused = false;
-            let both = joined(alloc, list.edits.as_slice(), offer.proposal.edits.as_slice())?;
+            let both = joined(
+                alloc,
+                list.edits.as_slice(),
+                offer.proposal.edits.as_slice(),
+            )?;
             let tried = outcome_of(alloc, plan, faults, tries, both.as_ref())?;
             if let (Some(edits), Some(outcome)) = (both, tried) {
                 let mended = mended_by(alloc, groups, outcome.left.as_slice())?;
@@ -465,12 +475,7 @@ fn outcome_of(
 
 // Of the offers that mend open groups the one that leaves out the fewest pairs, of several the one that mends the most pairs of open
 // groups, and of these the first.
-fn best_of(
-    groups: &Grouped,
-    offers: &[Offer],
-    unused: &[bool],
-    open: &[bool],
-) -> Option<usize> {
+fn best_of(groups: &Grouped, offers: &[Offer], unused: &[bool], open: &[bool]) -> Option<usize> {
     let mut best = None;
     let mut least = u32::MAX;
     let mut most = 0usize;

@@ -19,8 +19,8 @@ pub enum Change {
     Read,
     /// The write before a read is left out.
     Pointer,
-    /// The interrupt has this address.
-    Address(u8),
+    /// Interrupts have other addresses.
+    Address,
     /// So many bytes more are sent.
     Length { bytes: u32 },
     /// `never` items keep the pairs apart.
@@ -36,7 +36,7 @@ impl Change {
             Change::Bit { .. } => "bit",
             Change::Read => "read",
             Change::Pointer => "pointer",
-            Change::Address(_) => "address",
+            Change::Address => "address",
             Change::Length { .. } => "length",
             Change::Never => "never",
         }
@@ -70,8 +70,8 @@ pub struct Sought<'s, 'a> {
     pub places: &'s [Place],
     /// Its frame.
     pub frame: u32,
-    /// The lowest address that nothing has.
-    pub free: Option<u8>,
+    /// The addresses that nothing has, from the lowest on: one for each interrupt, as far as there are so many.
+    pub free: &'s [u8],
 }
 
 // A side, and the other one.
@@ -97,9 +97,7 @@ pub fn proposals_for(alloc: Global, sought: Sought<'_, '_>) -> Result<Vec<Propos
     }
     push_both(alloc, &mut found, sought, Change::Read)?;
     push_both(alloc, &mut found, sought, Change::Pointer)?;
-    if let Some(address) = sought.free {
-        push_both(alloc, &mut found, sought, Change::Address(address))?;
-    }
+    push_both(alloc, &mut found, sought, Change::Address)?;
     for edited in [Edited::First, Edited::Second] {
         if let Some(bytes) = bytes_more(sought.facing(edited)) {
             push_change(alloc, &mut found, sought, Change::Length { bytes }, edited)?;
@@ -323,23 +321,29 @@ fn push_change(
     let (side, _) = sought.facing(edited);
     let mut made = Edits::new(alloc);
     for item in side {
-        item.change(alloc, &mut made, change);
+        item.change(alloc, &mut made, change, sought.free);
     }
     push_made(found, made, change, edited)
 }
 
 impl SideItem<'_> {
-    fn change(&self, alloc: Global, made: &mut Edits, change: Change) {
+    fn change(&self, alloc: Global, made: &mut Edits, change: Change, free: &[u8]) {
         match change {
             Change::Read if is_bare(self) => self.text.read_one(alloc, made),
             Change::Pointer if has_pointer(self) => self.text.leave_out_first(alloc, made),
-            Change::Address(address) if self.is_interrupt => {
-                self.text.readdress(alloc, made, known_address(address));
-            }
+            Change::Address => match self.address_in(free) {
+                Some(address) => self.text.readdress(alloc, made, known_address(address)),
+                None => return made.refuse(),
+            },
             Change::Length { bytes } => self.text.lengthen(alloc, made, bytes),
             _ => return made.refuse(),
         }
         made.name(alloc, self.name.as_str(), Ok(String::new(alloc)));
+    }
+
+    // Of the free addresses that of the interrupt.
+    fn address_in(&self, free: &[u8]) -> Option<u8> {
+        free.get(self.interrupt? as usize).copied()
     }
 }
 
@@ -350,7 +354,7 @@ fn is_bare(item: &SideItem<'_>) -> bool {
             return false;
         }
     }
-    !item.is_interrupt
+    item.interrupt.is_none()
 }
 
 fn is_header_alone(path: &[Step]) -> bool {
@@ -408,7 +412,7 @@ fn is_shorter(one: &[Step], other: &[Step]) -> bool {
 // The path of the one message of a side, whose item makes no other.
 fn only_path<'s>(side: &'s [SideItem<'_>]) -> Option<&'s [Step]> {
     match side {
-        [item] if item.is_alone && !item.is_interrupt => {
+        [item] if item.is_alone && item.interrupt.is_none() => {
             let (_, path) = item.paths.first()?;
             Some(path.as_slice())
         }

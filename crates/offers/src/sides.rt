@@ -36,7 +36,8 @@ pub struct SideItem<'a> {
     // how many items of the texts stand before it
     number: usize,
     pub name: String,
-    pub is_interrupt: bool,
+    /// The number of the interrupt, where it is one.
+    pub interrupt: Option<u32>,
     /// Whether it makes one message of the plan, and no other.
     pub is_alone: bool,
     pub text: MessageText<'a>,
@@ -50,7 +51,7 @@ impl Drop for SideItem<'_> {
         let Self {
             number: _,
             name: _,
-            is_interrupt: _,
+            interrupt: _,
             is_alone: _,
             text: _,
             paths: _,
@@ -150,7 +151,7 @@ impl<'a> Given<'a> {
         items.push(SideItem {
             number: name.item,
             name: String::from_utf8_lossy(alloc, self.names.word(name))?,
-            is_interrupt: self.plan.messages() <= sender,
+            interrupt: sender.checked_sub(self.plan.messages()),
             is_alone: self.makes_one(name),
             text: MessageText::read(alloc, &self.names, self.spans, name)?,
             paths,

@@ -188,7 +188,7 @@ impl<'a> Trials<'a> {
             return None;
         }
         let is_never = kind == "never";
-        if is_never && tried.pairs == 0 {
+        if is_never && tried.pairs == 0 || !is_never && tried.pairs != self.pairs {
             return None;
         }
         let mends = (0..self.groups.len()).filter(|other| tried.faults.is_disjoint(&self.groups[*other])).collect();
@@ -498,20 +498,21 @@ impl<'a> Sides<'a> {
         self.edits(side, |_, item| item.without_pointer()).filter(|_| are_same)
     }
 
-    // The lowest address that no header can have, and no other interrupt has.
+    // Of the addresses that no header can have, and no interrupt has, that of each interrupt: by its place in the plan.
     fn address(&self, side: usize, plan: &plans::Items) -> Option<Vec<Edit>> {
         if !self.has_interrupt(side) {
             return None;
         }
-        let own = &self.names[side];
-        let others = plan.interrupts.iter().filter(|one| !own.contains(&format!("!{}", one.name).as_str()));
-        let senders = plan.messages.iter().chain(others).map(|one| &one.sender);
+        let senders = plan.messages.iter().chain(&plan.interrupts).map(|one| &one.sender);
         let headers: Vec<&str> =
             senders.flat_map(|it| &it.parts).filter(|part| part.is_header()).map(|part| part.bits()).collect();
         let fits = |bits: &str, header: &str| header.chars().zip(bits.chars()).all(|(a, b)| a == 'x' || a == b);
-        let mut all = (0x08..=0x77).map(|address| format!("{address:07b}"));
-        let free = all.find(|bits| !headers.iter().any(|header| fits(bits, header)))?;
-        self.edits(side, |_, item| Some(item.with_address(&free)))
+        let all = (0x08..=0x77).map(|address| format!("{address:07b}"));
+        let free: Vec<String> = all.filter(|bits| !headers.iter().any(|header| fits(bits, header))).collect();
+        self.edits(side, |_, item| {
+            let place = plan.interrupts.iter().position(|one| one.name == item.name())?;
+            Some(item.with_address(free.get(place)?))
+        })
     }
 
     // The shorter one of two messages that differ in length alone, with as many bytes more.

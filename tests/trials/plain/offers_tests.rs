@@ -266,12 +266,15 @@ fn a_repeated_byte_is_parted() {
 }
 
 #[test]
-fn a_repeated_byte_before_an_else_has_no_place() {
+fn a_repeated_byte_before_other_frames_has_no_place() {
     assert_two("write 0x50 any*2 else (read 0x51 1)", "write 0x50 0x00*3", &[]);
     assert_two(
         "write 0x50 any*2 else stop",
         "write 0x50 0x00*3",
-        &["length 0: message m write 0x50 any*2 any else stop ;"],
+        &[
+            "known 0: message m write 0x50 0b1xxxxxxx any else stop ;",
+            "length 0: message m write 0x50 any*2 any else stop ;",
+        ],
     );
     // one of its own has a place
     assert_two(
@@ -458,12 +461,10 @@ fn a_pointer_is_left_out() {
     let plan = "plan 1 message m write 1010000 00000001 again read 1010000 2 stop else stop else stop else stop ;
         message n write 1010000 00000001 stop else stop else stop ; controller a m ; controller b n ;";
     assert_offers(&[plan], &[&["pointer 0: message m read 1010000 2 stop else stop ;"]]);
-    // (the messages m_1 and m_2, of which one repeats START after a byte and one goes on, become one of another name: the pairs
-    // of both groups are none any more)
+    // (the messages m_1 and m_2 would become one of another name: the pairs of both groups would be none any more)
     let brief = "brief 1 message m write 0x50 any*1..2 read 0x50 2 ; message n write 0x50 0x00 ; controller a m ; controller b n ;";
-    let wanted = "pointer 0,1: message m read 0x50 2 ;";
-    assert_offers(&[brief], &[&[wanted], &[wanted]]);
-    // so it is none where a controller lists one of them
+    assert_offers(&[brief], &[&[], &[]]);
+    // nor is it offered where a controller lists one of them
     let brief = "brief 1 message m write 0x50 any*1..2 read 0x50 2 ; message n write 0x50 0x00 ; controller a m_1 ; controller b n ;";
     assert_offers(&[brief], &[&[]]);
     // another address, an `else`, a header alone, a read before a read
@@ -477,10 +478,11 @@ fn a_pointer_is_left_out() {
 fn an_interrupt_gets_an_address_that_nothing_has() {
     let brief = "brief 1 device s 0x48 ; message m read 0b100100x 1 ; controller a m ; interrupt al s ;";
     assert_offers(&[brief], &[&["known 0: message m read 0x49 1 ;", "address 0: interrupt al 0x08 ;"]]);
-    // headers of all frames count, also after an `else`, and those of messages that nobody sends
+    // headers of all frames count, also after an `else`, and those of messages that nobody sends; the first free address is for
+    // the first interrupt
     let brief = "brief 1 message m read 0x48 1 write 0x08 else (read 0b000101x 1) ; message spare read 0x09 1 ;
         controller a m ; interrupt t 0x0C ; interrupt al 0x48 ;";
-    assert_offers(&[brief], &[&["address 0: interrupt al 0x0D ;"]]);
+    assert_offers(&[brief], &[&["address 0: interrupt al 0x0E ;"]]);
     let plan = "plan 1 message m read 1001000 1 stop else stop ; controller a m ; interrupt al 1001000 ;";
     assert_offers(&[plan], &[&["address 0: interrupt al 0001000 ;"]]);
     // the last one that there is, and none
@@ -596,7 +598,11 @@ fn a_side_is_changed_at_one_place() {
         &[&["known 0: message w1 write 0x50 0b1xxxxxxx ; message w2 write 0x50 0b1xxxxxxx else (read 0x51 1) ;"]],
     );
     assert_offers(&[&brief("0x00")], &[&[]]);
-    assert_offers(&[&brief("any*1 else stop")], &[&[]]);
+    assert_offers(
+        &[&brief("any*1 else stop")],
+        &[&["known 0: message w1 write 0x50 0b1xxxxxxx ; message w2 write 0x50 0b1xxxxxxx else stop ;"]],
+    );
+    assert_offers(&[&brief("any*1 else (read 0x51 1)")], &[&[]]);
 }
 
 #[test]
@@ -658,20 +664,20 @@ fn the_list_takes_what_goes_together() {
     assert_eq!(list_of(brief), (vec![(1, 0)], (9, 2)));
 }
 
-// Both interrupts would get the same address, and so meet: the second one stays unsafe.
+// Each interrupt gets an address of its own, so that both offers go together.
 #[test]
-fn the_list_leaves_out_what_undoes_it() {
+fn interrupts_get_different_addresses() {
     let plan = "plan 1 message get read 1001000 1 stop else stop ; controller a get ;
         interrupt al 1001000 ; interrupt second 1001000 ;";
     assert_offers(
         &[plan],
         &[
             &["address 0,2: interrupt al 0001000 ;"],
-            &["address 1,2: interrupt second 0001000 ;"],
-            &["address 0,2: interrupt al 0001000 ;", "address 1,2: interrupt second 0001000 ;"],
+            &["address 1,2: interrupt second 0001001 ;"],
+            &["address 0,2: interrupt al 0001000 ;", "address 1,2: interrupt second 0001001 ;"],
         ],
     );
-    assert_eq!(list_of(plan), (vec![(0, 0)], (3, 1)));
+    assert_eq!(list_of(plan), (vec![(0, 0), (1, 0)], (3, 0)));
 }
 
 // There are two tries of the group, and one of the list. Each takes a step for the pair, and one for each byte.

@@ -246,7 +246,7 @@ impl<'a> Item<'a> {
             while !is_read && !["write", "read", ";"].contains(&self.words[k].text) {
                 let (form, words) = self.byte_at(k);
                 let next = self.past_else(k + words);
-                frame.bytes.push(Byte { first: k, last: k + words - 1, form, has_else: next > k + words });
+                frame.bytes.push(Byte { first: k, last: k + words - 1, form, has_else: self.is(k + words, "else") && !self.is(k + words + 1, "stop") });
                 k = next;
             }
             self.frames.push(frame);
@@ -304,6 +304,11 @@ impl<'a> Item<'a> {
     /// Something more stands behind a word.
     pub fn put_after(&self, k: usize, puts: impl Into<String>) -> Edit {
         self.put_at(self.words[k].end(), puts)
+    }
+
+    /// The name that it gives.
+    pub fn name(&self) -> &str {
+        self.words[1].text
     }
 
     /// The address of an interrupt is this one.
