@@ -87,6 +87,6 @@ pub(crate) fn below_unsafe(alloc: Global, advice: &[Advice]) -> Result<String, A
 pub(crate) fn tell_advice(lines: &mut Lines, advice: &Advice) {
     say_all(lines, &advice.said);
     for line in &advice.lines {
-        say(lines, "    {}", &[Part::Name(line.as_str())]);
+        say(lines, "{}", &[Part::Name(line.as_str())]);
     }
 }

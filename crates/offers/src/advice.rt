@@ -42,7 +42,7 @@ pub fn advice_for_group(
     }
     if SHOWN < all.len() {
         let more = [Part::Number(all.len().saturating_sub(SHOWN) as u64)];
-        let template = "and {} more ('mend' lists all)";
+        let template = "and {} more offers";
         advice.push(spoken(alloc, Sentence::of(alloc, template, &more)))?;
     }
     Ok(advice)
