@@ -12,7 +12,7 @@ use std::alloc::{AllocError, Global};
 use verdicts::{Faults, faults};
 
 // How many steps all tries have together.
-const STEPS: u64 = 4_194_304;
+const STEPS: u64 = 1_048_576;
 
 /// What is left of the unsafe pairs of a plan after an edit that makes no other pair unsafe.
 #[derive(Drop)]

@@ -46,7 +46,7 @@ impl Mending {
 }
 
 /// How many steps all tries take.
-pub const BUDGET: usize = 4_194_304;
+pub const BUDGET: usize = 1_048_576;
 
 /// What is offered for the plan that these texts give. How `never` items are chosen is not said here: these are those of the
 /// groups that have some.
