@@ -58,7 +58,15 @@ fn diagnose_groups(
 ) -> Result<Vec<Diagnostic>, AllocError> {
     let mut found = Vec::new(alloc);
     push_unsafe(alloc, &mut found, words, checked, groups, items)?;
-    push_odd(alloc, &mut found, words, odd, wanted.is_strict, items, texts)?;
+    push_odd(
+        alloc,
+        &mut found,
+        words,
+        odd,
+        wanted.is_strict,
+        items,
+        texts,
+    )?;
     if wanted.is_strict {
         push_unchecked(alloc, &mut found, words, items)?;
     }
