@@ -326,54 +326,157 @@ compare "two messages of five controllers"
 
 # ---- What mends each group.
 
-# mends NAME LINE..: what stands below the lines of each group of p.plan that say between whom it is, and how many pairs it has.
+# mends NAME TEXT: what is offered for the groups of p.plan, or of another FILE, and what stands below the count of unsafe pairs.
 mends() {
-    call check --summary --most 100 p.plan
-    sed -i -n '/^unsafe/q; / × .*differ$/,/ group /{/ × \| group /!p}' out
-    judge "$1" 1 "$(printf '    %s\n' "${@:2}")" ""
+    call check --summary --most 100 "${3:-p.plan}"
+    awk '/^    group / { on = 0 } on; / × / { on = 1 }' out >offered
+    mv offered out
+    judge "$1" 1 "$2" ""
 }
 
-# Each two of these meet after one byte or two, before which their first byte is open in both.
+# Each two of these meet after one byte or two. The second stands on both sides, so that no edit of messages is theirs.
 plan 'plan 1' "message w1 write 1010000$(any 1)$(tails 2)" "message w2 write 1010000$(any 1) 0xxxxxxx$(tails 3)" \
-    "message w3 write 1010000$(any 1) 00000001$(any 1)$(tails 4)" 'controller a w1 w2 w3 ;' 'controller b w1 w2 w3 ;'
-mends "a family against itself: each needs messages of its own" \
-    "to mend each: a bit in slot 9..16, known in both and different (in messages" "of their own)"
-# With another group each says what keeps its pairs apart.
+    "message w3 write 1010000$(any 1) 00000001$(any 1)$(tails 4)" 'message far read 0100000 1 stop else stop ;' \
+    'controller a w1 w2 w3 ;' 'controller b w1 w2 w3 ;' 'controller c far ;'
+mends "a message on both sides: nothing but 'never'" "\
+    0.1 keep them apart by a lock outside the bus: 9 of 15 pairs are not checked
+    then, more than half: p.plan:1, p.plan:9
+    plan 2
+    never a b ;
+unsafe: 6 of 15 pairs
+    to mend all pairs: 0.1; then check says 'safe: 6 pairs' (9 are not checked)"
+# Without another pair there is nothing to check then, and so no offer.
+sed -i '/far/d' p.plan
+mends "a message on both sides, of the only two controllers" "\
+unsafe: 6 of 9 pairs
+    no edit was found that mends a group"
+# Bits of the first two bytes are open in both, or in one of them. A byte more in the shorter one would make it clash with what
+# is as long as it now. The list has no two edits of one byte: 'w2' cannot be 0 there for the one, and 1 for the other.
 plan 'plan 1' "message w1 write 1010000$(any 2)$(tails 3)" "message w2 write 1010000$(any 3)$(tails 4)" \
     "message v write 1010000 0000xxxx 1xxxxxx0$(tails 3)" "message probe write 1010001$(tails 1)" \
     "message put write 1010001$(any 1)$(tails 2)" 'controller a w2 probe ;' 'controller b v put ;' 'controller c w1 ;'
-mends "three groups, each with items of its own" \
-    "to mend it: the same shape from its slot on; or:" "never a b ;" "(leaves 4 of 8 pairs unchecked; the first line becomes 'plan 2')" \
-    "to mend it: a bit in slot 13..16, 19..24, known in both and different; or" "the same shape from its slot on; or:" \
-    "never a b ;" "(leaves 4 of 8 pairs unchecked; the first line becomes 'plan 2')" \
-    "to mend it: a bit in slot 9..16, 18..25, known in both and different; or the" "same shape from its slot on; or:" \
-    "never a c ;" "(leaves 2 of 8 pairs unchecked; the first line becomes 'plan 2')"
-# After a NACK of the first byte one repeats START and the other ends: no bit after it mends the pair, and no shape.
+mends "three groups, each with edits of its own" "\
+    0.1 let probe read one byte, in place of a header alone: p.plan:5
+    message probe read 1010001 1 stop else stop ;
+    0.2 let probe send as many bytes as the other: 1 more: p.plan:5
+    message probe write 1010001 xxxxxxxx stop else stop else stop ;
+    0.3 keep them apart by a lock outside the bus: 4 of 8 pairs are not checked
+    then: p.plan:1, p.plan:10 (mends groups 0, 1: 2 pairs)
+    plan 2
+    never a b ;
+    1.1 let bit 7 of data byte 1 of w2 be 1, as it never is in the other (no
+    longer 0xxxxxxx): p.plan:3
+    message w2 write 1010000 1xxxxxxx$(any 2)$(tails 4)
+    1.2 let bit 3 of data byte 1 be 0 in one and 1 in the other: p.plan:3,
+    p.plan:4
+    message w2 write 1010000 xxxx0xxx$(any 2)$(tails 4)
+    message v write 1010000 00001xxx 1xxxxxx0$(tails 3)
+    1.3 keep them apart by a lock outside the bus: 4 of 8 pairs are not checked
+    then: p.plan:1, p.plan:10 (mends groups 0, 1: 2 pairs)
+    plan 2
+    never a b ;
+    2.1 let bit 7 of data byte 1 be 0 in one and 1 in the other: p.plan:2,
+    p.plan:3
+    message w1 write 1010000 1xxxxxxx$(any 1)$(tails 3)
+    message w2 write 1010000 0xxxxxxx$(any 2)$(tails 4)
+    2.2 keep them apart by a lock outside the bus: 2 of 8 pairs are not checked
+    then: p.plan:1, p.plan:10
+    plan 2
+    never a c ;
+unsafe: 3 of 8 pairs
+    to mend all pairs: 0.1, 1.1, 2.2; then check says 'safe: 6 pairs' (2 are not
+    checked)"
+# After a NACK of the first byte one repeats START and the other ends: no bit after it mends the pair, and no byte more.
 plan 'plan 1' "message m write 101xxxx$(any 2) stop else stop else again write 1010000 stop else stop else stop ;" \
     "message n write 1010xxx$(any 3)$(tails 4)" 'controller a m ;' 'controller b n ;'
-mends "another fault after a NACK" "to mend it: a bit in slot 4..6, 9..16, known in both and different"
+mends "another fault after a NACK" "\
+    0.1 let bit 3 of the address of m be 1, as it never is in the other (no
+    longer 1010xxx): p.plan:2
+    message m write 1011xxx$(any 2) stop else stop else again write 1010000 stop else stop else stop ;
+    0.2 let bit 2 of the address be 0 in one and 1 in the other: p.plan:2,
+    p.plan:3
+    message m write 101x0xx$(any 2) stop else stop else again write 1010000 stop else stop else stop ;
+    message n write 10101xx$(any 3)$(tails 4)
+unsafe: 1 of 1 pairs
+    to mend all pairs: 0.1; then check says 'safe: 1 pairs'"
+# Counts below all of the other side, and above: of the second side, since the first one has but one count.
+plan 'plan 2' 'message two read 1001000 2 again write 1001000 stop else stop else stop ;' \
+    'message few read 1001000 1..4 stop else stop ;' 'controller a two ;' 'controller b few ;'
+mends "counts below and above" "\
+    0.1 let few no longer read 2..4 bytes: p.plan:3
+    message few read 1001000 1 stop else stop ;
+    0.2 let few no longer read 1..2 bytes: p.plan:3
+    message few read 1001000 3..4 stop else stop ;
+unsafe: 1 of 1 pairs
+    to mend all pairs: 0.1; then check says 'safe: 1 pairs'"
+# Of two bytes the first is open in both, and the second known in one: what is known comes before what is open in both. That a
+# pointer is left out comes after both, and a place of a number of bytes is parted from the others.
+printf '%s\n' 'brief 1' 'message put write 0x50 any*4 ; # four bytes' 'message get write 0x50 any*2 0x7f read 0x50 1 ;' \
+    'controller a put ;' 'controller b get ;' >p.brief
+mends "known before open, and then a pointer" "\
+    0.1 let bit 7 of data byte 3 of put be 1, as it never is in the other (no
+    longer 0b0xxxxxxx): p.brief:2
+    message put write 0x50 any*2 0b1xxxxxxx any ; # four bytes
+    0.2 let bit 7 of data byte 1 be 0 in one and 1 in the other: p.brief:2,
+    p.brief:3
+    message put write 0x50 0b0xxxxxxx any*3 ; # four bytes
+    message get write 0x50 0b1xxxxxxx any 0x7f read 0x50 1 ;
+    0.3 leave out what get writes before it reads, if the device keeps its
+    pointer (someone else may have moved it): p.brief:3
+    message get read 0x50 1 ;
+unsafe: 1 of 1 pairs
+    to mend all pairs: 0.1; then check says 'safe: 1 pairs'" p.brief
+# Four of five offers. Each side has a bit that is known in the other.
+printf '%s\n' 'brief 1' 'message set write 0x50 0b0xxxxxx1 any ;' 'message get write 0x50 0bx0xxxxxx read 0x50 1 ;' \
+    'message far read 0x20 1 ;' 'controller a set far ;' 'controller b get ;' >p.brief
+mends "five offers, of which four are shown" "\
+    0.1 let bit 6 of data byte 1 of set be 1, as it never is in the other (no
+    longer 0b00xxxxx1): p.brief:2
+    message set write 0x50 0b01xxxxx1 any ;
+    0.2 let bit 7 of data byte 1 of get be 1, as it never is in the other (no
+    longer 0b00xxxxxx): p.brief:3
+    message get write 0x50 0b10xxxxxx read 0x50 1 ;
+    0.3 let bit 5 of data byte 1 be 0 in one and 1 in the other: p.brief:2,
+    p.brief:3
+    message set write 0x50 0b0x0xxxx1 any ;
+    message get write 0x50 0bx01xxxxx read 0x50 1 ;
+    0.4 leave out what get writes before it reads, if the device keeps its
+    pointer (someone else may have moved it): p.brief:3
+    message get read 0x50 1 ;
+    and 1 more offers
+unsafe: 1 of 2 pairs
+    to mend all pairs: 0.1; then check says 'safe: 2 pairs'" p.brief
 
 # The same with known bits alone: nothing mends it but a 'never', after which no pair would be left.
 plan 'plan 1' "message m write 1010000 00000001 00000001 stop else stop else again write 1010000 stop else stop else stop ;" \
     "message n write 1010000 00000001 00000001 00000001$(tails 4)" 'controller a m ;' 'controller b n ;'
-want 1 "    nothing was found that mends it and leaves a pair to check" ""
-call check --summary p.plan
-sed -i '1,/^unsafe/d' out
-compare "nothing mends the only pair"
-# Beside another group that the same shape mends: no way mends each. A 'plan 1' has no 'never'.
+mends "nothing mends the only pair" "\
+unsafe: 1 of 1 pairs
+    no edit was found that mends a group"
+# Beside another group, which a read mends, or as many bytes. A 'plan 1' has no 'never'.
 sed -i "2i message put write 1010001$(any 1)$(tails 2)\nmessage probe write 1010001$(tails 1)\nmessage far read 0100000 1 stop else stop ;" p.plan
 sed -i 's/^controller a m/& put far/; s/^controller b n/& probe/' p.plan
 echo 'controller c far ;' >>p.plan
-want 1 "    to mend each: this, which leaves 6 of 11 pairs unchecked:
+mends "no edit of messages mends each pair" "\
+    0.1 let probe read one byte, in place of a header alone: p.plan:3
+    message probe read 1010001 1 stop else stop ;
+    0.2 let probe send as many bytes as the other: 1 more: p.plan:3
+    message probe write 1010001 xxxxxxxx stop else stop else stop ;
+    0.3 keep them apart by a lock outside the bus: 6 of 11 pairs are not checked
+    then, more than half: p.plan:1, p.plan:10 (mends groups 0, 1: 2 pairs)
+    plan 2
     never a b ;
-    (the first line becomes 'plan 2')" ""
-call check --summary p.plan
-sed -i '1,/^unsafe/d' out
-compare "no bit and no shape mends each pair"
+    1.1 keep them apart by a lock outside the bus: 6 of 11 pairs are not checked
+    then, more than half: p.plan:1, p.plan:10 (mends groups 0, 1: 2 pairs)
+    plan 2
+    never a b ;
+unsafe: 2 of 11 pairs
+    to mend all pairs: 0.1, 0.3; then check says 'safe: 5 pairs' (6 are not
+    checked)"
 sed 's/^plan 1/plan 2/' p.plan >q.plan
 echo 'never a b ;' >>q.plan
 want 0 "safe: 5 pairs" ""
-run "the item that is named, where the first line became 'plan 2'" check q.plan
+run "the item that is offered, where the first line became 'plan 2'" check q.plan
 # What mends all pairs does not depend on how many groups are explained.
 want 1 "$("$twire" check --summary --most 100 p.plan | sed '1,/^unsafe/d')" ""
 for most in 0 1; do
