@@ -285,9 +285,10 @@ host/entry  S 50 Wr A xxxxxxxx A Sr        next: a repeated START" "$(sed -n '/<
 same "what is offered in a browser" "to mend all pairs: 0.1; then check says 'safe: 66 pairs'
 0.1 let bit 7 of data byte 1 be 0 in one and 1 in the other: lock.brief:3, lock.brief:4
 message page  write eeprom 0b0xxxxxxx any*1..32 ;
-message entry write eeprom 0b1xxxxxxx read eeprom 1 ;
+message entry write eeprom 0b1xxxxxxx read eeprom 1 ;         # sets the pointer, then reads
 0.2 leave out what entry writes before it reads, if the device keeps its pointer (someone else may have moved it): lock.brief:4" \
-    "$(sed -n '/<div class="offer">/,$p' dom | sed 's/<\/p>/\n/g; s/<\/pre>/\n/g' | sed -nE '/<pre>/,$ { s/.*<(p|pre)>//; }; s/.*<p>//; /^(to mend|[0-9]+\.|message)/p' | head -n 5)"
+    "$(sed 's/<div class="offer">/\n&/g; s/<\/div>/\n/g' dom | awk '/^<div class="offer">/ { on = 1 } on; /<\/pre>|<\/p>$/ { on = 0 }' |
+        sed -e 's/<\/p><pre>/\n/' -e 's/<[^>]*>//g' | head -n 5)"
 same "its open bits: eight of each, and one that meets the repeated START" 17 "$(grep -o 'class="open">x<' dom | wc -l)"
 same "the rows and columns of a family stand in a band" "colspan=\"32\"
 rowspan=\"32\"" "$(grep -oE '(colspan|rowspan)="32"' dom | sort -u)"
