@@ -1330,8 +1330,8 @@ $meets
     board.brief:3
     message $one write 0x48 0b0xxxxxxx any*254 ;
     message $other write 0x48 0b1xxxxxxx any*253 ;
-    0.2 let $other send as many bytes as the
-    other: 1 more: board.brief:3
+    0.2 let $other send as many bytes as the other: 1
+    more: board.brief:3
     message $other write 0x48 any*254 any ;
     to mend all pairs: 0.1; then check says 'safe: 1 pairs'" check board.brief
 meets="    pair 0:
