@@ -2,7 +2,6 @@
 //! none besides. What is explained has no lines: there its fields have to be in their places.
 
 use crate::json::{read, Value};
-use crate::plain::offers::KINDS;
 
 /// The lines of a text with one object a line.
 ///
@@ -24,6 +23,9 @@ fn without_place(line: &str) -> &str {
 
 // What stands before the place of a token.
 const PLACE: &str = " byte ";
+
+// The kinds of offers (docs/MENDING.md).
+const KINDS: [&str; 8] = ["count", "known", "bit", "read", "pointer", "address", "length", "never"];
 
 /// The same, where the line of a refused token has its place too: how many bytes stand before it, and in its line and one.
 ///
