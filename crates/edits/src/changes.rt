@@ -172,9 +172,10 @@ impl MessageText<'_> {
         Span { end, ..span }
     }
 
-    /// So many open bytes stand after the last byte of the path.
+    /// So many open bytes stand after the last byte of the path, which is no checksum.
     pub fn lengthen(&self, alloc: Global, edits: &mut Edits, bytes: u32) {
         match (self.last_on_path(), self.tokens.last()) {
+            (Some(byte), _) if matches!(byte.part, Part::Check) => edits.refuse(),
             (Some(byte), Some(stop)) if self.has_stops_alone && self.is_plan => {
                 edits.add(after(byte), repeated(alloc, " xxxxxxxx", bytes));
                 edits.add(after(*stop), repeated(alloc, " else stop", bytes));

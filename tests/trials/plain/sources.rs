@@ -411,6 +411,10 @@ impl<'a> Item<'a> {
     pub fn lengthened(&self, more: usize) -> Option<Vec<Edit>> {
         let frame = self.frames.last().filter(|frame| !frame.is_read && !self.has_tails)?;
         let last = frame.bytes.last().map_or(frame.word + 1, |byte| byte.last);
+        let is_check = frame.bytes.last().is_some_and(|byte| byte.form == Form::Derived && byte.first == byte.last);
+        if is_check && ["pec", "sum"].contains(&self.words[last].text) {
+            return None;
+        }
         if self.language != Language::Plan {
             let times = if more > 1 { format!("*{more}") } else { String::new() };
             return Some(vec![self.put_after(last, format!(" any{times}"))]);
