@@ -238,7 +238,10 @@ impl<'a> Trials<'a> {
                 let further: Vec<usize> = mends.iter().copied().filter(|it| !mended.contains(it)).collect();
                 mending.pairs_of(&further)
             };
-            let price = |(group, k): &(usize, usize)| mending.groups[*group].1[*k].unchecked;
+            let price = |(group, k): &(usize, usize)| match &mending.groups[*group].1[*k] {
+                offer if offer.kind == "pointer" => usize::MAX,
+                offer => offer.unchecked,
+            };
             let worth = |one: &(usize, usize)| (std::cmp::Reverse(price(one)), further(one));
             let Some(most) = left.iter().filter(|one| further(one) > 0).map(worth).max() else {
                 return;
