@@ -666,6 +666,43 @@ fn the_list_takes_what_goes_together() {
     assert_eq!(list_of(brief), (vec![(1, 0)], (9, 2)));
 }
 
+// A pointer mends both groups, and is not taken: somebody else may move it.
+#[test]
+fn the_list_takes_a_pointer_last() {
+    let others = "brief 1 message page write 0x50 any any ; message poll write 0x50 ; controller a page poll ;";
+    let brief = format!("{others} message fetch write 0x50 any read 0x50 1 ; controller b fetch ;");
+    assert_offers(
+        &[&brief],
+        &[
+            &["read 0: message poll read 0x50 1 ;", "pointer 0,1: message fetch read 0x50 1 ;"],
+            &[
+                "bit 1: message page write 0x50 0b0xxxxxxx any ; message fetch write 0x50 0b1xxxxxxx read 0x50 1 ;",
+                "pointer 0,1: message fetch read 0x50 1 ;",
+            ],
+        ],
+    );
+    assert_eq!(list_of(&brief), (vec![(0, 0), (1, 0)], (2, 0)));
+    // where nothing else mends it is
+    let brief = "brief 1 message set write 0x50 0x01 any ; message get write 0x50 0x01 read 0x50 1 ;
+        controller a set ; controller b get ;";
+    assert_eq!(list_of(brief), (vec![(0, 0)], (1, 0)));
+}
+
+// What a message makes for the devices of a group is one family, and its pairs are one group, whatever the devices are called.
+#[test]
+fn what_a_message_makes_for_the_devices_of_a_group_is_one_family() {
+    let brief = "brief 2 device p 0x21 ; device q 0x22 ; group h p q ;
+        message m write 0x50 any wr(h) ; message n write 0x50 any ; controller a m ; controller b n ;";
+    assert_offers(
+        &[brief],
+        &[&["bit 0: message m write 0x50 0b0xxxxxxx wr(h) ; message n write 0x50 0b1xxxxxxx ;"]],
+    );
+    // messages with the same names are two
+    let brief = "brief 2 message m_p write 0x50 any 0x42 ; message m_q write 0x50 any 0x44 ; message n write 0x50 any ;
+        controller a m_p m_q ; controller b n ;";
+    assert_eq!(offers(&[brief]).len(), 2);
+}
+
 // Each interrupt gets an address of its own, so that both offers go together.
 #[test]
 fn interrupts_get_different_addresses() {
