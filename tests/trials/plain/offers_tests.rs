@@ -693,10 +693,7 @@ fn the_list_takes_a_pointer_last() {
 fn what_a_message_makes_for_the_devices_of_a_group_is_one_family() {
     let brief = "brief 2 device p 0x21 ; device q 0x22 ; group h p q ;
         message m write 0x50 any wr(h) ; message n write 0x50 any ; controller a m ; controller b n ;";
-    assert_offers(
-        &[brief],
-        &[&["bit 0: message m write 0x50 0b0xxxxxxx wr(h) ; message n write 0x50 0b1xxxxxxx ;"]],
-    );
+    assert_offers(&[brief], &[&["bit 0: message m write 0x50 0b0xxxxxxx wr(h) ; message n write 0x50 0b1xxxxxxx ;"]]);
     // messages with the same names are two
     let brief = "brief 2 message m_p write 0x50 any 0x42 ; message m_q write 0x50 any 0x44 ; message n write 0x50 any ;
         controller a m_p m_q ; controller b n ;";

@@ -254,7 +254,12 @@ impl<'a> Item<'a> {
             while !is_read && !["write", "read", ";"].contains(&self.words[k].text) {
                 let (form, words) = self.byte_at(k);
                 let next = self.past_else(k + words);
-                frame.bytes.push(Byte { first: k, last: k + words - 1, form, has_else: self.is(k + words, "else") && !self.is(k + words + 1, "stop") });
+                frame.bytes.push(Byte {
+                    first: k,
+                    last: k + words - 1,
+                    form,
+                    has_else: self.is(k + words, "else") && !self.is(k + words + 1, "stop"),
+                });
                 k = next;
             }
             self.frames.push(frame);
