@@ -91,8 +91,11 @@ fn of_unsafe(plan: &Participants, faults: &[Fault], mended: &Mended, most: usize
         ("explained", Value::of(groups.len().min(most))),
         ("groups", Value::of(groups.len())),
         ("list", Value::Array(list.iter().copied().map(called).collect())),
-        ("then", object(vec![("pairs", Value::of(pairs)), ("unsafe_pairs", Value::of(unsafe_pairs))])),
     ];
+    if !list.is_empty() {
+        let said = object(vec![("pairs", Value::of(pairs)), ("unsafe_pairs", Value::of(unsafe_pairs))]);
+        fields.push(("then", said));
+    }
     fields.extend(is_cut.then_some(("untried", Value::Bool(true))));
     let with_interrupts = with_interrupts(faults).into_iter().map(Value::of);
     fields.extend([

@@ -60,10 +60,14 @@ fn offers(all: &[String], more: usize) -> String {
     format!("{{\"offers\":[{}]{more}}}", all.join(","))
 }
 
+// (an empty list comes to nothing)
 fn list(names: &str, (pairs, unsafe_pairs): (usize, usize)) -> String {
+    let then = match names {
+        "" => String::new(),
+        _ => format!("\"then\":{{\"pairs\":{pairs},\"unsafe_pairs\":{unsafe_pairs}}},"),
+    };
     format!(
-        "{{\"explained\":1,\"groups\":1,\"list\":[{names}],\"then\":{{\"pairs\":{pairs},\"unsafe_pairs\":{unsafe_pairs}}},\
-         \"interrupts\":[],\"unsent\":[],\"kept_apart\":0}}"
+        "{{\"explained\":1,\"groups\":1,\"list\":[{names}],{then}\"interrupts\":[],\"unsent\":[],\"kept_apart\":0}}"
     )
 }
 
@@ -322,7 +326,9 @@ fn shapes_are_looked_at() {
         list("0.1", (1, 0)),
         list("", (1, 1)).replace("\"list\":[],", ""),
         list("", (1, 1)).replace(",\"interrupts\"", ",\"untried\":false,\"interrupts\""),
-        list("", (1, 1)).replace("{\"pairs\":1,\"unsafe_pairs\":1}", "{\"pairs\":1}"),
+        list("\"0.1\"", (1, 0)).replace("{\"pairs\":1,\"unsafe_pairs\":0}", "{\"pairs\":1}"),
+        list("\"0.1\"", (1, 0)).replace("\"then\":{\"pairs\":1,\"unsafe_pairs\":0},", ""),
+        list("", (1, 1)).replace("\"interrupts\"", "\"then\":{\"pairs\":1,\"unsafe_pairs\":1},\"interrupts\""),
     ] {
         let refused = read(&wrong).is_err() || shown(&offers(&[right.clone()], 0), &wrong).is_err();
         assert!(refused, "{wrong}");

@@ -69,12 +69,14 @@ const ADDRESSES: [&str; 6] = ["d", "d", "d", "0x50", "0b101000x", "g"];
 
 const REGISTERS: [&str; 5] = ["0x01", "0x01", "p", "any", "0x0X"];
 
-const DATA: [&str; 13] = [
+const DATA: [&str; 15] = [
     "",
     "any",
     "any any",
     "any*2",
     "any*4",
+    "any # why\n *4",
+    "any any*1..2 sum",
     "0x01",
     "0x01 0x0X",
     "0x0X*3",

@@ -454,11 +454,14 @@ fn explained_plan(explain: &mut Fields, is_safe: bool) -> Result<(), String> {
     } else {
         explain.number("explained")?;
         let groups = count(explain.number("groups")?)?;
-        only_if(explain.texts("list")?.iter().all(|it| is_offer(it, groups)), "there is no such offer")?;
-        let mut then = Fields::of(explain.take("then")?)?;
-        then.number("pairs")?;
-        then.number("unsafe_pairs")?;
-        then.end()?;
+        let list = explain.texts("list")?;
+        only_if(list.iter().all(|it| is_offer(it, groups)), "there is no such offer")?;
+        if !list.is_empty() {
+            let mut then = Fields::of(explain.take("then")?)?;
+            then.number("pairs")?;
+            then.number("unsafe_pairs")?;
+            then.end()?;
+        }
         let is_cut = explain.maybe("untried", Value::into_bool)?;
         only_if(is_cut != Some(false), "'untried' is false")?;
         explain.take("interrupts")?.into_numbers()?;

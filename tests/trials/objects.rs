@@ -11,7 +11,7 @@ use crate::plain::found::{checked, decoded, decoded_so_far, explainers, ordered,
 use crate::plain::found::{Decoded, Fault, Ordered};
 use crate::plain::groups::{groups_of, Group};
 use crate::plain::offers::mending;
-use crate::plain::sources::Edit;
+use crate::plain::sources::{families_of, Edit};
 use crate::plain::{symbols, with_plan, Participant, Participants, Ways, Wrong};
 use crate::values::object;
 use std::collections::HashMap;
@@ -82,7 +82,8 @@ pub const MOST: usize = 10;
 
 fn of_check(plan: &Participants, mended: Option<&Mended>) -> Vec<Value> {
     let checked = checked(plan);
-    let groups = if mended.is_some() { groups_of(plan, &checked.faults) } else { Vec::new() };
+    let families = mended.map_or(Vec::new(), |mended| families_of(&mended.sources));
+    let groups = if mended.is_some() { groups_of(plan, &checked.faults, &families) } else { Vec::new() };
     let numbered = groups.iter().enumerate();
     let numbers: HashMap<usize, usize> =
         numbered.flat_map(|(number, group)| group.pairs.iter().map(move |place| (*place, number))).collect();

@@ -22,9 +22,85 @@ impl MessageText<'_> {
     /// The byte in this place has these bits.
     pub fn fix(&self, alloc: Global, edits: &mut Edits, place: Place, bits: Bits) {
         match self.token_of(place) {
-            Some((token, nth)) => edits.add(token.span, self.with_bits(alloc, token, nth, bits)),
+            Some((token, nth)) => {
+                let text = self.with_bits(alloc, token, nth, bits);
+                self.replace(alloc, edits, token, text);
+            }
             None => edits.refuse(),
         }
+    }
+
+    // This text stands in the place of a token. Comments between the words of that stay behind it.
+    fn replace(
+        &self,
+        alloc: Global,
+        edits: &mut Edits,
+        token: Token,
+        text: Result<String, AllocError>,
+    ) {
+        let words = token.span;
+        let first = match token.part {
+            Part::Bytes { word, .. } => word,
+            _ => words.end,
+        };
+        let rest = Span {
+            start: first,
+            ..words
+        };
+        if self.has_comment(rest) {
+            edits.add(
+                Span {
+                    end: first,
+                    ..words
+                },
+                text,
+            );
+            self.leave_out(alloc, edits, rest);
+        } else {
+            edits.add(words, text);
+        }
+    }
+
+    fn has_comment(&self, span: Span) -> bool {
+        let words = self.text.get(span.start..span.end).unwrap_or(&[]);
+        words.contains(&b'#')
+    }
+
+    // All of a span is left out but its comments, with the blanks before them and the line feeds after them. It ends in no comment.
+    fn leave_out(&self, alloc: Global, edits: &mut Edits, span: Span) {
+        let mut out = Span {
+            end: span.start,
+            ..span
+        };
+        let mut is_comment = false;
+        for at in span.start..span.end {
+            let next = at.saturating_add(1);
+            match self.text.get(at).copied() {
+                Some(b'\n') if is_comment => {
+                    is_comment = false;
+                    out = Span {
+                        start: next,
+                        end: next,
+                        ..span
+                    };
+                }
+                _ if is_comment => {}
+                Some(b'#') => {
+                    is_comment = true;
+                    push_out(alloc, edits, out);
+                }
+                Some(b' ' | b'\t' | b'\r' | b'\n') => {}
+                _ => out.end = next,
+            }
+        }
+        push_out(
+            alloc,
+            edits,
+            Span {
+                end: span.end,
+                ..out
+            },
+        );
     }
 
     // A token whose byte after so many has these bits.
@@ -74,14 +150,14 @@ impl MessageText<'_> {
         let mut stops = 0usize;
         for token in self.tokens.iter() {
             if token.frame == 0 && !(self.is_plan && matches!(token.part, Part::Nack)) {
-                edits.add(self.with_blanks(token.span), Ok(String::new(alloc)));
+                self.leave_out(alloc, edits, self.with_blanks(token.span));
                 if self.is_plan && matches!(token.part, Part::Address | Part::Bytes { .. }) {
                     stops = stops.saturating_add(2);
                 }
             }
         }
         for token in self.tokens.iter().rev().take(stops) {
-            edits.add(self.with_blanks(token.span), Ok(String::new(alloc)));
+            self.leave_out(alloc, edits, self.with_blanks(token.span));
         }
     }
 
@@ -96,9 +172,10 @@ impl MessageText<'_> {
         Span { end, ..span }
     }
 
-    /// So many open bytes stand after the last byte of the path.
+    /// So many open bytes stand after the last byte of the path, which is no checksum.
     pub fn lengthen(&self, alloc: Global, edits: &mut Edits, bytes: u32) {
         match (self.last_on_path(), self.tokens.last()) {
+            (Some(byte), _) if matches!(byte.part, Part::Check) => edits.refuse(),
             (Some(byte), Some(stop)) if self.has_stops_alone && self.is_plan => {
                 edits.add(after(byte), repeated(alloc, " xxxxxxxx", bytes));
                 edits.add(after(*stop), repeated(alloc, " else stop", bytes));
@@ -125,6 +202,12 @@ impl MessageText<'_> {
             Some(token) => edits.add(token.span, spelled_bits(alloc, bits, self.is_plan)),
             None => edits.refuse(),
         }
+    }
+}
+
+fn push_out(alloc: Global, edits: &mut Edits, span: Span) {
+    if span.start < span.end {
+        edits.add(span, Ok(String::new(alloc)));
     }
 }
 

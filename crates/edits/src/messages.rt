@@ -27,6 +27,8 @@ pub(crate) enum Part {
         times: u32,
         word: usize,
     },
+    /// A `pec` or a `sum`.
+    Check,
     /// What else stands on the path.
     Other,
     /// `else` and what is sent after a NACK. In a plan text also the first `stop`.
@@ -237,6 +239,10 @@ impl<'n, 'a> Reader<'n, 'a> {
             }
             Symbol::Sign(Sign::Star) => self.grow(span, After::Star),
             Symbol::Keyword(Keyword::Wr | Keyword::Rd) => self.take_other(span, After::Made),
+            Symbol::Keyword(Keyword::Pec | Keyword::Sum) => {
+                self.pass(1);
+                self.push(Part::Check, span, After::Other);
+            }
             _ => self.take_other(span, After::Other),
         }
     }

@@ -41,8 +41,13 @@ pub fn advice_for_group(
         advice.push(advice_of(alloc, words, offer)?)?;
     }
     if SHOWN < all.len() {
-        let more = [Part::Number(all.len().saturating_sub(SHOWN) as u64)];
-        let template = "and {} more offers";
+        let more = all.len().saturating_sub(SHOWN);
+        let template = if more == 1 {
+            "and {} more offer"
+        } else {
+            "and {} more offers"
+        };
+        let more = [Part::Number(more as u64)];
         advice.push(spoken(alloc, Sentence::of(alloc, template, &more)))?;
     }
     Ok(advice)
@@ -200,12 +205,17 @@ fn tell_price(said: &mut Sentence, words: PlanWords<'_>, offer: &Offer) {
         Part::Number(u64::from(unchecked)),
         Part::Number(u64::from(pairs)),
         Part::Words(if pairs == 1 { "pair" } else { "pairs" }),
+        Part::Words(is_or_are(unchecked)),
     ];
-    let template = "keep them apart by a lock outside the bus: {} of {} {} are not checked then";
+    let template = "keep them apart by a lock outside the bus: {} of {} {} {} not checked then";
     said.tell(template, &parts);
     if u64::from(pairs) < u64::from(unchecked).saturating_mul(2) {
         said.tell(", more than half", &[]);
     }
+}
+
+fn is_or_are(number: u32) -> &'static str {
+    if number == 1 { "is" } else { "are" }
 }
 
 // Where the lines stand that change.
@@ -238,8 +248,9 @@ fn lines_of(alloc: Global, lines: &[ChangedLine]) -> Result<Vec<String>, AllocEr
     if LINES < lines.len() {
         let mut text = Text::new(alloc);
         text.push("# and ");
-        text.push_number(lines.len().saturating_sub(LINES) as u64);
-        text.push(" lines more");
+        let more = lines.len().saturating_sub(LINES);
+        text.push_number(more as u64);
+        text.push(if more == 1 { " line more" } else { " lines more" });
         shown.push(text.finish()?)?;
     }
     Ok(shown)
@@ -268,8 +279,11 @@ fn together(alloc: Global, words: PlanWords<'_>, offers: &Offers) -> Sentence {
         }
         let unchecked = words.plan().pair_count().saturating_sub(outcome.pairs);
         if unchecked != 0 {
-            let unchecked = Part::Number(u64::from(unchecked));
-            said.tell(" ({} are not checked)", &[unchecked]);
+            let parts = [
+                Part::Number(u64::from(unchecked)),
+                Part::Words(is_or_are(unchecked)),
+            ];
+            said.tell(" ({} {} not checked)", &parts);
         }
     }
     said

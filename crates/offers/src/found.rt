@@ -473,14 +473,14 @@ fn outcome_of(
     }
 }
 
-// Of the offers that mend open groups the one that leaves out the fewest pairs, of several the one that mends the most pairs of open
-// groups, and of these the first.
+// Of the offers that mend open groups the one with the least price, of several the one that mends the most pairs of open groups, and of
+// these the first.
 fn best_of(groups: &Grouped, offers: &[Offer], unused: &[bool], open: &[bool]) -> Option<usize> {
     let mut best = None;
-    let mut least = u32::MAX;
+    let mut least = u64::MAX;
     let mut most = 0usize;
     for (place, (offer, is_unused)) in offers.iter().zip(unused.iter()).enumerate() {
-        let price = offer.outcome.price;
+        let price = price_of(offer);
         let gain = gain_of(groups, offer, open);
         if *is_unused && 0 < gain && (price < least || price == least && most < gain) {
             least = price;
@@ -489,6 +489,14 @@ fn best_of(groups: &Grouped, offers: &[Offer], unused: &[bool], open: &[bool]) -
         }
     }
     best
+}
+
+// How many pairs an offer leaves out. One that warns comes after all others.
+fn price_of(offer: &Offer) -> u64 {
+    match offer.proposal.change {
+        Change::Pointer => u64::MAX,
+        _ => u64::from(offer.outcome.price),
+    }
 }
 
 // How many pairs the open groups have that an offer mends.

@@ -89,7 +89,8 @@ impl<'a> Given<'a> {
         })
     }
 
-    /// The sides of a group, of which these are the numbers and the places among the faults. None where an item stands on both.
+    /// The sides of a group, of which these are the numbers and the places among the faults: the first is that of the first participant
+    /// of its example. None where an item stands on both.
     pub fn sides(
         &self,
         alloc: Global,
@@ -97,6 +98,10 @@ impl<'a> Given<'a> {
         group: Group,
         members: &[(usize, usize)],
     ) -> Result<Option<BothSides<'a>>, AllocError> {
+        if faults.len() <= group.example {
+            return Ok(None);
+        }
+        let (_, example) = faults.get(group.example);
         let mut sides = BothSides {
             first: Vec::new(alloc),
             second: Vec::new(alloc),
@@ -105,7 +110,7 @@ impl<'a> Given<'a> {
             if *k < faults.len() {
                 let (pair, fault) = faults.get(*k);
                 let (x, y) = both_of(self.plan, pair);
-                let is_in_order = fault.first == group.cause.first.kind;
+                let is_in_order = fault.first == example.first;
                 let (x, y) = if is_in_order { (x, y) } else { (y, x) };
                 self.push_sender(alloc, &mut sides.first, x)?;
                 self.push_sender(alloc, &mut sides.second, y)?;

@@ -34,6 +34,17 @@ pub fn origins_of<T: AsRef<str>>(briefs: &[T]) -> Result<[Vec<(String, Origin)>;
     Ok([origins(board.messages), origins(board.interrupts)])
 }
 
+/// The families of these briefs, each with its messages: those of a RANGE or a choice, and then those that a message makes for the
+/// devices of a group. So the narrowest one that makes a message is the first.
+pub fn families_of<T: AsRef<str>>(briefs: &[T]) -> Result<Vec<Vec<String>>, Refusal> {
+    let mut board = Board::default();
+    for brief in briefs {
+        board.read(brief.as_ref())?;
+    }
+    let all = board.families.iter().chain(&board.grouped);
+    Ok(all.map(|one| board.named(&one.name)).collect())
+}
+
 /// What a brief has names for: devices and data bytes with their bits, messages and families, and controllers.
 pub struct Declared {
     pub devices: Vec<(String, String)>,

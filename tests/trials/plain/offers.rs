@@ -7,7 +7,7 @@ use super::pairs::first_clash;
 use super::participants::{Participant, Participants};
 use super::plans;
 use super::senders::{Part, Sender};
-use super::sources::{edited, items_of, plan_of, Edit, Item, Source};
+use super::sources::{edited, families_of, items_of, plan_of, Edit, Item, Source};
 use super::wires::Item as Slot;
 use std::collections::{BTreeSet, HashMap};
 
@@ -64,7 +64,7 @@ pub fn mending_within(budget: usize, sources: &[Source], nevers: &HashMap<usize,
     };
     let plan = Participants::of(&items);
     let found = checked(&plan);
-    let groups = groups_of(&plan, &found.faults);
+    let groups = groups_of(&plan, &found.faults, &families_of(sources));
     let mut trials = Trials::of(budget, sources, &found, &groups);
     let (makers, made_by) = items_of(sources);
     let mut mending = Mending::default();
@@ -100,7 +100,7 @@ pub fn that_mend(sources: &[Source], edits: impl Fn(&Item) -> Vec<(String, Vec<E
     let items = plans::items_of(&text).expect("a plan");
     let plan = Participants::of(&items);
     let found = checked(&plan);
-    let groups = groups_of(&plan, &found.faults);
+    let groups = groups_of(&plan, &found.faults, &families_of(sources));
     let mut trials = Trials::of(usize::MAX, sources, &found, &groups);
     let (makers, made_by) = items_of(sources);
     let mut all = Vec::new();
@@ -238,7 +238,10 @@ impl<'a> Trials<'a> {
                 let further: Vec<usize> = mends.iter().copied().filter(|it| !mended.contains(it)).collect();
                 mending.pairs_of(&further)
             };
-            let price = |(group, k): &(usize, usize)| mending.groups[*group].1[*k].unchecked;
+            let price = |(group, k): &(usize, usize)| match &mending.groups[*group].1[*k] {
+                offer if offer.kind == "pointer" => usize::MAX,
+                offer => offer.unchecked,
+            };
             let worth = |one: &(usize, usize)| (std::cmp::Reverse(price(one)), further(one));
             let Some(most) = left.iter().filter(|one| further(one) > 0).map(worth).max() else {
                 return;

@@ -1,6 +1,6 @@
 //! The texts that give a plan, with the places of what stands in them, and edits of them (docs/MENDING.md, "Sides and places").
 
-use super::briefs::{begins_board, expansion_of, origins_of};
+use super::briefs::{self, begins_board, expansion_of, origins_of};
 use super::commands::plan_given;
 use super::words::{has_form, number, Language, Reading, Word, BITS};
 use std::collections::HashMap;
@@ -53,6 +53,14 @@ pub fn plan_of(sources: &[Source]) -> Option<String> {
         [one] => plan_given(one.text.as_bytes()).ok(),
         several => expansion_of(&texts_of(several)).ok(),
     }
+}
+
+/// The messages of each family of the briefs among these. A plan text has none.
+pub fn families_of(sources: &[Source]) -> Vec<Vec<String>> {
+    if sources.iter().all(Source::is_plan) {
+        return Vec::new();
+    }
+    briefs::families_of(&texts_of(sources)).unwrap_or_default()
 }
 
 fn texts_of(sources: &[Source]) -> Vec<&str> {
@@ -246,7 +254,12 @@ impl<'a> Item<'a> {
             while !is_read && !["write", "read", ";"].contains(&self.words[k].text) {
                 let (form, words) = self.byte_at(k);
                 let next = self.past_else(k + words);
-                frame.bytes.push(Byte { first: k, last: k + words - 1, form, has_else: self.is(k + words, "else") && !self.is(k + words + 1, "stop") });
+                frame.bytes.push(Byte {
+                    first: k,
+                    last: k + words - 1,
+                    form,
+                    has_else: self.is(k + words, "else") && !self.is(k + words + 1, "stop"),
+                });
                 k = next;
             }
             self.frames.push(frame);
@@ -403,8 +416,13 @@ impl<'a> Item<'a> {
     pub fn lengthened(&self, more: usize) -> Option<Vec<Edit>> {
         let frame = self.frames.last().filter(|frame| !frame.is_read && !self.has_tails)?;
         let last = frame.bytes.last().map_or(frame.word + 1, |byte| byte.last);
+        let is_check = frame.bytes.last().is_some_and(|byte| byte.form == Form::Derived && byte.first == byte.last);
+        if is_check && ["pec", "sum"].contains(&self.words[last].text) {
+            return None;
+        }
         if self.language != Language::Plan {
-            return Some(vec![self.put_after(last, " any".repeat(more))]);
+            let times = if more > 1 { format!("*{more}") } else { String::new() };
+            return Some(vec![self.put_after(last, format!(" any{times}"))]);
         }
         // (in a plan the STOP follows)
         Some(vec![self.put_after(last, " xxxxxxxx".repeat(more)), self.put_after(last + 1, " else stop".repeat(more))])
