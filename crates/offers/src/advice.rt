@@ -250,7 +250,11 @@ fn lines_of(alloc: Global, lines: &[ChangedLine]) -> Result<Vec<String>, AllocEr
         text.push("# and ");
         let more = lines.len().saturating_sub(LINES);
         text.push_number(more as u64);
-        text.push(if more == 1 { " line more" } else { " lines more" });
+        text.push(if more == 1 {
+            " line more"
+        } else {
+            " lines more"
+        });
         shown.push(text.finish()?)?;
     }
     Ok(shown)
