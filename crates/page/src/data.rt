@@ -1,7 +1,7 @@
 // What a page shows, as JSON.
 
+use crate::advice::{Offered, all_offered};
 use crate::groups::Groups;
-use crate::offered::{Offered, all_offered};
 use crate::pages::Page;
 use crate::pairs::{Pairs, Unsafe};
 use crate::parties::{Controllers, Interrupts, Messages, Nevers, Participants};

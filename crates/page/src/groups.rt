@@ -1,6 +1,6 @@
 // The groups of the unsafe pairs, as the page has them.
 
-use crate::offered::{Offered, offered_for};
+use crate::advice::{Offered, offered_for};
 use bus_rows::{Meeting, deed, meeting_of};
 use causes::Group;
 use offers::Offers;

@@ -30,7 +30,7 @@ pub(crate) fn all_offered(
     offers: Option<&Offers>,
 ) -> Result<Vec<Offered>, AllocError> {
     match offers {
-        Some(offers) => offered(alloc, advice_for_all(alloc, words, offers)?),
+        Some(offers) => texts_of(alloc, advice_for_all(alloc, words, offers)?),
         None => Ok(Vec::new(alloc)),
     }
 }
@@ -43,12 +43,12 @@ pub(crate) fn offered_for(
     g: usize,
 ) -> Result<Vec<Offered>, AllocError> {
     match offers {
-        Some(offers) => offered(alloc, advice_for_group(alloc, words, offers, g)?),
+        Some(offers) => texts_of(alloc, advice_for_group(alloc, words, offers, g)?),
         None => Ok(Vec::new(alloc)),
     }
 }
 
-fn offered(alloc: Global, advice: Vec<Advice>) -> Result<Vec<Offered>, AllocError> {
+fn texts_of(alloc: Global, advice: Vec<Advice>) -> Result<Vec<Offered>, AllocError> {
     let mut offered = Vec::new(alloc);
     for one in advice {
         offered.push(Offered::of(alloc, one)?)?;
