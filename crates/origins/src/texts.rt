@@ -111,9 +111,12 @@ impl<'a> NamedTexts<'a> {
         if used.item != message.item || used.kind != Kind::Device {
             return false;
         }
-        match (after(self.word(message), name), self.group(self.word(used))) {
-            (Some(rest), Some(group)) => self.has_device(group, self.range(message), rest),
-            _ => false,
+        let Some(rest) = after(self.word(message), name) else {
+            return false;
+        };
+        match self.group(self.word(used)) {
+            Some(group) => self.has_device(group, self.range(message), rest),
+            None => false,
         }
     }
 
