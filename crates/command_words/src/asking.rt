@@ -285,6 +285,7 @@ fn check_of<'a>(matches: &ArgMatches<'a>) -> Result<Request<'a>, Fault> {
         explain: most_of(matches),
         summary: matches.get_flag("summary"),
         strict: matches.get_flag("strict"),
+        apart: matches.get_one::<u32>("apart"),
         wave: wave_of(matches)?,
         pair: matches.get_one::<u32>("pair"),
     };

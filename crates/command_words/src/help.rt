@@ -68,7 +68,8 @@ shown):
 SCL, SDA and what each of the two pulls, for GTKWave or PulseView.
 
 Exit status: 0 safe, 1 not safe, 2 refused. With '--strict' it is 1 also where
-some message is in no controller, and where there is no pair.";
+some message is in no controller, and where there is no pair; with '--apart N'
+beside it also where 'never' leaves out more than N pairs.";
 
 pub const AFTER_CERTIFY_HELP: &str = "\
 The certificate of a safe plan has a line for each pair of participants, in the

@@ -69,14 +69,15 @@ pub enum Request<'a> {
 }
 
 /// How a plan is looked at: by so many workers, with so many groups of its unsafe pairs explained, in a summary these alone;
-/// strictly, so that a safe plan of which not all was looked at is not good; and with the waves of an unsafe pair in a file: of
-/// the first one, or of the one with this number.
+/// strictly, so that a safe plan of which not all was looked at is not good, nor one whose `never` items leave out more pairs than
+/// this; and with the waves of an unsafe pair in a file: of the first one, or of the one with this number.
 #[derive(Clone, Copy)]
 pub struct Look<'a> {
     pub workers: u32,
     pub explain: Option<u32>,
     pub summary: bool,
     pub strict: bool,
+    pub apart: Option<u32>,
     pub wave: Option<&'a str>,
     pub pair: Option<u32>,
 }

@@ -167,7 +167,7 @@ const CHECK: Entry = Entry {
     usage: None,
     after_help: AFTER_CHECK_HELP,
     arguments: &[
-        PLAN, WITH, WORKERS, STRICT, EXPLAIN, GROUPS, MOST, WAVE, PAIR,
+        PLAN, WITH, WORKERS, STRICT, APART, EXPLAIN, GROUPS, MOST, WAVE, PAIR,
     ],
 };
 
@@ -380,6 +380,13 @@ const WORKERS: Argument = Argument::Number {
 const STRICT: Argument = Argument::Flag {
     id: "strict",
     help: "Status 1 also where not all was looked at",
+};
+
+const APART: Argument = Argument::CountWith {
+    id: "apart",
+    other: "strict",
+    value_name: "N",
+    help: "With --strict: 'never' leaves out N pairs at most",
 };
 
 const EXPLAIN: Argument = Argument::Flag {

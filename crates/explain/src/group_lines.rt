@@ -1,11 +1,12 @@
 // Lines of a group of unsafe pairs, and of one pair by itself.
 
-use crate::faults::{tell_offer, tell_pair};
+use crate::faults::{tell_advice, tell_pair};
 use bus_rows::{Meeting, meeting_of, say, say_all};
 use causes::Group;
 use certificate::Fault;
 use growing_text::{Lines, Part, Sentence};
-use plan_findings::{offer_for_group, why_unsafe};
+use offers::{Offers, advice_for_group};
+use plan_findings::why_unsafe;
 use plan_words::PlanWords;
 use remedies::Grouped;
 use std::alloc::{AllocError, Global};
@@ -58,11 +59,12 @@ const NAMED: usize = 4;
 pub(crate) fn of_group(
     alloc: Global,
     words: PlanWords<'_>,
-    groups: &Grouped,
+    unsafe_groups: (&Grouped, &Offers),
     g: usize,
     example: (u32, (u32, u32)),
     meeting: &Meeting,
 ) -> Result<String, AllocError> {
+    let (groups, offers) = unsafe_groups;
     let (pair, both) = example;
     let mut lines = Lines::new(alloc);
     if let Some(group) = groups.group(g) {
@@ -70,8 +72,8 @@ pub(crate) fn of_group(
         tell_pair(alloc, &mut lines, words, both, meeting)?;
         tell_alike(alloc, &mut lines, groups, g, group);
     }
-    if let Some(offer) = offer_for_group(alloc, words, groups, g)? {
-        tell_offer(&mut lines, &offer);
+    for advice in &advice_for_group(alloc, words, offers, g)? {
+        tell_advice(&mut lines, advice);
     }
     lines.finish()
 }

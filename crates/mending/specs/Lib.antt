@@ -1,2 +1,4 @@
 pub mod Added
+pub mod Left
 pub mod Mended
+pub mod Numbers

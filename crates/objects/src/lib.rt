@@ -9,6 +9,7 @@ mod certificates;
 mod checks;
 mod fields;
 mod oddities;
+mod offered;
 mod orders;
 
 pub use benches::write_rehearsal;

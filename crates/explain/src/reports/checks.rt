@@ -8,10 +8,11 @@ use crate::unchecked::below_checked;
 use bus_rows::{Paint, meeting_of};
 use certificate::Fault;
 use growing_text::Text;
+use offers::{Offers, Reasons, advice_for_all};
 use plan_core::Plan;
-use plan_findings::{Detail, offers_for_all};
+use plan_findings::Detail;
 use plan_words::PlanWords;
-use remedies::{Grouped, Mends, Reasons, both_of};
+use remedies::{Grouped, both_of};
 use report::{push_count, push_fault};
 use run_parts::{Output, RunError};
 use std::alloc::{AllocError, Global};
@@ -38,7 +39,8 @@ pub fn explain_check<O: Output>(
     if detail.pairs {
         write_pairs(alloc, plan, faults, &mut text, out)?;
     }
-    if let Some(Reasons::Unsafe(_, groups)) = reasons {
+    if let Some(Reasons::Unsafe(groups, offers)) = reasons {
+        let groups = (groups, offers);
         write_groups(alloc, words, faults, groups, detail.groups, &mut text, out)?;
     }
     push_end(alloc, &mut text, checked, words, reasons, paint);
@@ -65,14 +67,15 @@ fn write_groups<O: Output>(
     alloc: Global,
     words: PlanWords<'_>,
     faults: &Faults,
-    groups: &Grouped,
+    unsafe_groups: (&Grouped, &Offers),
     most: u32,
     text: &mut Text,
     out: &mut O,
 ) -> Result<(), RunError> {
+    let (groups, _) = unsafe_groups;
     let explained = groups.len().min(most as usize);
     for g in 0..explained {
-        text.push_made(example_of(alloc, words, faults, groups, g));
+        text.push_made(example_of(alloc, words, faults, unsafe_groups, g));
         write_full(alloc, text, out)?;
     }
     if explained < groups.len() {
@@ -108,24 +111,16 @@ fn push_end(
     paint.push_verdict(text, last_line(alloc, plan, faults.len()), word, is_safe);
     match reasons {
         Some(Reasons::Safe(safety)) => text.push_made(below_safe(alloc, safety)),
-        Some(Reasons::Unsafe(mends, groups)) => {
-            text.push_made(offered(alloc, words, faults, mends, groups))
-        }
+        Some(Reasons::Unsafe(_, offers)) => text.push_made(offered(alloc, words, offers)),
         None => return,
     }
     text.push_made(below_checked(alloc, words));
 }
 
 // What is offered to mend all unsafe pairs.
-fn offered(
-    alloc: Global,
-    words: PlanWords<'_>,
-    faults: &Faults,
-    mends: &Mends,
-    groups: &Grouped,
-) -> Result<String, AllocError> {
-    let offers = offers_for_all(alloc, words, faults, mends, groups)?;
-    below_unsafe(alloc, offers.as_slice())
+fn offered(alloc: Global, words: PlanWords<'_>, offers: &Offers) -> Result<String, AllocError> {
+    let advice = advice_for_all(alloc, words, offers)?;
+    below_unsafe(alloc, advice.as_slice())
 }
 
 // The line of an unsafe pair.
@@ -142,16 +137,17 @@ fn example_of(
     alloc: Global,
     words: PlanWords<'_>,
     faults: &Faults,
-    groups: &Grouped,
+    unsafe_groups: (&Grouped, &Offers),
     g: usize,
 ) -> Result<String, AllocError> {
     let plan = words.plan();
+    let (groups, _) = unsafe_groups;
     match groups.group(g) {
         Some(group) if group.example < faults.len() => {
             let (pair, fault) = faults.get(group.example);
             let both = both_of(plan, pair);
             let meeting = meeting_of(alloc, plan, both, fault.wire.as_slice())?;
-            of_group(alloc, words, groups, g, (pair, both), &meeting)
+            of_group(alloc, words, unsafe_groups, g, (pair, both), &meeting)
         }
         _ => Ok(String::new(alloc)),
     }

@@ -1,9 +1,10 @@
 // The `never` items of a brief that keep unsafe pairs apart: by labels of families, and of single messages.
 
-use crate::mends::{Never, both_of, controller_of, has_interrupt, is_never, is_whole, sendings};
+use crate::nevers::{Never, has_interrupt, is_whole};
 use plan_core::Plan;
 use plan_core::limits::MOST_CONTROLLERS;
 use plan_words::PlanWords;
+use remedies::{both_of, controller_of, is_never, sendings};
 use std::alloc::{AllocError, Global};
 
 // How many items are said at most.
