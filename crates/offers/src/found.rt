@@ -23,6 +23,9 @@ const LOWEST: u8 = 0x08;
 
 const HIGHEST: u8 = 0x77;
 
+// Those that SMBus has for itself: of the host, of the alert response, and the default one of devices.
+const OF_SMBUS: [u8; 3] = [0x08, 0x0C, 0x61];
+
 /// An edit that mends a group.
 pub struct Offer {
     /// The number of the group.
@@ -220,12 +223,13 @@ fn number_of(all: &[Offer], g: usize, proposal: &Proposal) -> Option<usize> {
     Some(number)
 }
 
-// Of counts those of one frame are offered, and of each other kind one for a side.
+// For a side one of each kind is offered, and of counts those of one frame.
 fn excludes(found: &Proposal, other: &Proposal) -> bool {
-    match (found.change, other.change) {
+    let is_more = match (found.change, other.change) {
         (Change::Count { frame }, Change::Count { frame: later }) => frame != later,
-        (one, two) => one.kind() == two.kind() && found.edited == other.edited,
-    }
+        (one, two) => one.kind() == two.kind(),
+    };
+    is_more && found.edited == other.edited
 }
 
 // The offer that a proposal is, where it mends the group.
@@ -246,8 +250,7 @@ fn offer_of(
         return Ok(None);
     };
     let groups = mended_by(alloc, search.groups, outcome.left.as_slice())?;
-    let is_dear = outcome.price != 0 && !matches!(proposal.change, Change::Never);
-    if is_dear || !groups.contains(&group) {
+    if !has_its_pairs(plan, &outcome, proposal.change) || !groups.contains(&group) {
         return Ok(None);
     }
     let lines = tries.lines(alloc, proposal.edits.as_slice())?;
@@ -260,6 +263,14 @@ fn offer_of(
         groups,
         lines,
     }))
+}
+
+// Whether what comes of an edit has as many pairs as the plan. Of a `never` some are to be left.
+fn has_its_pairs(plan: &Plan, outcome: &Outcome, change: Change) -> bool {
+    match change {
+        Change::Never => outcome.pairs != 0,
+        _ => outcome.pairs == plan.pair_count(),
+    }
 }
 
 // The groups of which no pair is left.
@@ -386,7 +397,8 @@ fn pairs_at(
     Ok(pairs)
 }
 
-// The addresses that no header of a message can have, and no interrupt has, from the lowest on: as many as there are interrupts.
+// The addresses that no header of a message can have, and neither an interrupt nor SMBus has, from the lowest on: as many as there
+// are interrupts.
 fn free_addresses(alloc: Global, plan: &Plan) -> Result<Vec<u8>, AllocError> {
     let interrupts = plan.interrupts() as usize;
     let mut free = Vec::new(alloc);
@@ -399,6 +411,9 @@ fn free_addresses(alloc: Global, plan: &Plan) -> Result<Vec<u8>, AllocError> {
 }
 
 fn is_free(plan: &Plan, address: u8) -> bool {
+    if OF_SMBUS.contains(&address) {
+        return false;
+    }
     for k in 0..plan.interrupts() {
         if plan.interrupt_address(k) == address {
             return false;

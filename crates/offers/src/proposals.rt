@@ -131,12 +131,13 @@ fn push_counts(
     found: &mut Vec<Proposal>,
     sought: Sought<'_, '_>,
 ) -> Result<(), AllocError> {
-    let (first, second) = sought.facing(Edited::Both);
-    for frame in 0..=sought.frame {
-        if let (Some(firsts), Some(seconds)) = (counts_of(first, frame), counts_of(second, frame)) {
-            if firsts.meets(&seconds) {
-                push_narrowed(alloc, found, frame, Edited::First, (first, seconds))?;
-                push_narrowed(alloc, found, frame, Edited::Second, (second, firsts))?;
+    for edited in [Edited::First, Edited::Second] {
+        let (side, other) = sought.facing(edited);
+        for frame in 0..=sought.frame {
+            if let (Some(own), Some(theirs)) = (counts_of(side, frame), counts_of(other, frame)) {
+                if own.meets(&theirs) {
+                    push_narrowed(alloc, found, frame, edited, (side, theirs))?;
+                }
             }
         }
     }
@@ -390,10 +391,11 @@ fn begins_so(path: &[Step]) -> bool {
     }
 }
 
-// How many data bytes the one message of the other side has more at its end than that of this side, where all else is of one shape.
+// How many data bytes the one message of the other side has more at its end than that of this side, which ends with one, where all
+// else is of one shape. (What is put behind a header alone would write a register, or run a command.)
 fn bytes_more(sides: Facing<'_, '_>) -> Option<u32> {
     let (own, other) = (only_path(sides.0)?, only_path(sides.1)?);
-    if matches!(own.last()?.sent, Sent::Read(_)) || !is_shorter(own, other) {
+    if own.last()?.sent != Sent::Data || !is_shorter(own, other) {
         return None;
     }
     u32::try_from(other.len().checked_sub(own.len())?).ok()
