@@ -1,5 +1,8 @@
 // Edits, the texts that come of them, and the lines that are others then.
 
+ghost use Rattle.std.specs.Prelude.{◌≡◌, ◌<◌, ◌+◌, ◌^◌, ◌++◌, length, IfOk, OnOk};
+ghost use Rattle.edits.specs.Edited.{between, bytes_of, edited_from, edited_texts, edited_texts_from};
+
 use origins::Span;
 use std::alloc::{AllocError, Global};
 
@@ -161,38 +164,67 @@ pub fn edited_texts(
     alloc: Global,
     texts: &[Vec<u8>],
     edits: &[Edit],
-) -> Result<Vec<Vec<u8>>, AllocError> {
+) -> Result<Vec<Vec<u8>>, AllocError>
+    ensures { IfOk result (λ it. bytes_of it.items ≡ edited_texts (bytes_of texts.now) edits.now) }
+{
     let mut edited = Vec::with_capacity(alloc, texts.len())?;
-    let mut file = 0u32;
-    for text in texts {
-        edited.push(edited_text(alloc, file, text.as_slice(), edits)?)?;
-        file = file.saturating_add(1);
-    }
+    push_edited(alloc, &mut edited, 0, texts, edits)?;
     Ok(edited)
 }
 
-// The text of this number with those of the edits that are of it.
+// Adds these texts with their edits. The first one has this number.
+fn push_edited(
+    alloc: Global,
+    edited: &mut Vec<Vec<u8>>,
+    number: usize,
+    texts: &[Vec<u8>],
+    edits: &[Edit],
+) -> Result<(), AllocError>
+    requires { number + length texts.now < 2 ^ 64 }
+    ensures { OnOk result (bytes_of edited.new.items ≡
+        bytes_of edited.old.items ++ edited_texts_from number (bytes_of texts.now) edits.now) }
+{
+    match texts {
+        [] => Ok(()),
+        [text, rest @ ..] => {
+            edited.push(edited_text(alloc, number, text.as_slice(), edits)?)?;
+            push_edited(alloc, edited, number + 1, rest, edits)
+        }
+    }
+}
+
+// The text with this number, with those of the edits that are of it.
 fn edited_text(
     alloc: Global,
-    file: u32,
+    number: usize,
     text: &[u8],
     edits: &[Edit],
-) -> Result<Vec<u8>, AllocError> {
+) -> Result<Vec<u8>, AllocError>
+    ensures { IfOk result (λ it. it.items ≡ edited_from number text.now 0 edits.now) }
+{
     let mut edited = Vec::new(alloc);
     let mut kept = 0usize;
-    for edit in edits {
-        if edit.span.file == file {
+    let mut left = edits;
+    while let [edit, rest @ ..] = left {
+        if edit.span.file as usize == number {
             edited.extend_from_slice(between(text, kept, edit.span.start))?;
             edited.extend_from_slice(edit.text.as_bytes())?;
             kept = edit.span.end;
         }
+        left = rest;
     }
     edited.extend_from_slice(between(text, kept, text.len()))?;
     Ok(edited)
 }
 
-fn between(text: &[u8], start: usize, end: usize) -> &[u8] {
-    text.get(start..end).unwrap_or(&[])
+fn between(text: &[u8], start: usize, end: usize) -> &[u8]
+    ensures { result.now ≡ between text.now start end }
+{
+    if start <= end && end <= text.len() {
+        &text[start..end]
+    } else {
+        &[]
+    }
 }
 
 /// A line of an edited text that stood there otherwise, or not at all.

@@ -1,4 +1,2 @@
-pub mod Added
 pub mod Left
-pub mod Mended
 pub mod Numbers

@@ -1,16 +1,22 @@
 // What is offered to mend the groups of a plan's unsafe pairs: edits of its texts, each of which was tried.
 
+ghost use Rattle.std.specs.Prelude.{IfOk, IfSome, IsTrue, OnOk, All};
+ghost use Rattle.given_plans.specs.Sources.{bytes_of};
+ghost use Rattle.offers.specs.Offered.{AreOffers, IsOffer, KeepsPairs};
 ghost use Rattle.plan_core.specs.PlanContents.{plan_contents};
+ghost use Rattle.remedies.specs.Numbers.{group_numbers};
 ghost use Rattle.verdicts.specs.Faults.{AreFaults, fault_list};
 
 use crate::keeping;
+use crate::lists::{Together, together_of};
+use crate::mended::{mended_by, pairs_of};
 use crate::nevers::{has_interrupt, kept_in};
 use crate::paths::{can_have, places_on};
 use crate::proposals::{Change, Edited, Proposal, Sought, proposals_for, push_made};
 use crate::sides::{BothSides, Given};
-use crate::tries::{Outcome, Tries};
+use crate::tries::{Outcome, Tries, Unedited, lines_changed};
 use causes::Group;
-use edits::{ChangedLine, Edit, Edits, Place, joined, push_never, push_second_version};
+use edits::{ChangedLine, Edits, Place, push_never, push_second_version};
 use given_plans::Provenance;
 use plan_core::Plan;
 use plan_words::PlanWords;
@@ -66,26 +72,6 @@ pub struct Offers {
     pub is_cut: bool,
 }
 
-/// Offers that mend as many groups as possible.
-pub struct Together {
-    /// Their places among all.
-    pub places: Vec<usize>,
-    /// What comes of all of them. None where there are none.
-    pub outcome: Option<Outcome>,
-    edits: Vec<Edit>,
-}
-
-// Written out, so that one call lets it go.
-impl Drop for Together {
-    fn drop(self) {
-        let Self {
-            places: _,
-            outcome: _,
-            edits: _,
-        } = self;
-    }
-}
-
 impl Offers {
     /// Those for the group with this number.
     pub fn of(&self, g: usize) -> &[Offer] {
@@ -121,10 +107,17 @@ pub fn offers_of(
     provenance: &Provenance,
 ) -> Result<Offers, AllocError>
     requires { AreFaults (plan_contents plan.now) (fault_list faults.now) }
+    ensures { IfOk result (λ it. AreOffers (bytes_of provenance.now.texts.items) (plan_contents plan.now)
+        (fault_list faults.now) (group_numbers groups.now) it) }
 {
     let given = Given::new(alloc, words, provenance)?;
     let keeping = keeping::groups_of(alloc, words)?;
     let free = free_addresses(alloc, plan)?;
+    let it = Unedited {
+        plan,
+        faults,
+        texts: provenance.texts.as_slice(),
+    };
     let search = Search {
         words,
         texts: provenance.texts.as_slice(),
@@ -133,9 +126,23 @@ pub fn offers_of(
         keeping: &keeping,
         free: free.as_slice(),
     };
-    let mut tries = Tries::new(plan, provenance.texts.as_slice());
-    let all = all_offers(alloc, plan, faults, search, &mut tries)?;
-    let together = together_of(alloc, plan, faults, groups, all.as_slice(), &mut tries)?;
+    offers_in(alloc, it, groups, search)
+}
+
+// The same, with what is looked at to find them.
+fn offers_in(
+    alloc: Global,
+    it: Unedited<'_>,
+    groups: &Grouped,
+    search: Search<'_, '_>,
+) -> Result<Offers, AllocError>
+    requires { AreFaults (plan_contents it.plan.now) (fault_list it.faults.now) }
+    ensures { IfOk result (λ offers. AreOffers (bytes_of it.texts.now) (plan_contents it.plan.now)
+        (fault_list it.faults.now) (group_numbers groups.now) offers) }
+{
+    let mut tries = Tries::new(it);
+    let all = all_offers(alloc, it, groups, search, &mut tries)?;
+    let together = together_of(alloc, it, groups, all.as_slice(), &mut tries)?;
     Ok(Offers {
         all,
         together,
@@ -145,24 +152,26 @@ pub fn offers_of(
 
 fn all_offers(
     alloc: Global,
-    plan: &Plan,
-    faults: &Faults,
+    it: Unedited<'_>,
+    groups: &Grouped,
     search: Search<'_, '_>,
-    tries: &mut Tries<'_>,
+    tries: &mut Tries,
 ) -> Result<Vec<Offer>, AllocError>
-    requires { AreFaults (plan_contents plan.now) (fault_list faults.now) }
+    requires { AreFaults (plan_contents it.plan.now) (fault_list it.faults.now) }
+    ensures { IfOk result (λ offers. All (IsOffer (bytes_of it.texts.now) (plan_contents it.plan.now)
+        (fault_list it.faults.now) (group_numbers groups.now)) offers.items) }
 {
-    let members = by_groups(alloc, search.groups)?;
+    let members = by_groups(alloc, groups)?;
     let mut all = Vec::new(alloc);
     let mut rest = members.as_slice();
-    for g in 0..search.groups.len() {
-        if let Some(group) = search.groups.group(g) {
-            let pairs = rest.get(..group.pairs).unwrap_or(rest);
-            rest = rest.get(group.pairs..).unwrap_or(rest);
+    for g in 0..groups.len() {
+        if let Some(group) = groups.group(g) {
+            let (pairs, later) = parted_at(rest, group.pairs);
+            rest = later;
             push_offers(
                 alloc,
-                plan,
-                faults,
+                it,
+                groups,
                 search,
                 tries,
                 &mut all,
@@ -173,40 +182,64 @@ fn all_offers(
     Ok(all)
 }
 
+fn parted_at<T>(all: &[T], first: usize) -> (&[T], &[T]) {
+    (
+        all.get(..first).unwrap_or(all),
+        all.get(first..).unwrap_or(all),
+    )
+}
+
 // A group with its number, and its pairs: each by that number and its place among the faults.
 type Numbered<'m> = (usize, Group, &'m [(usize, usize)]);
 
 // Adds what is offered for a group.
 fn push_offers(
     alloc: Global,
-    plan: &Plan,
-    faults: &Faults,
+    it: Unedited<'_>,
+    groups: &Grouped,
     search: Search<'_, '_>,
-    tries: &mut Tries<'_>,
+    tries: &mut Tries,
     all: &mut Vec<Offer>,
     group: Numbered<'_>,
 ) -> Result<(), AllocError>
-    requires { AreFaults (plan_contents plan.now) (fault_list faults.now) }
+    requires faults { AreFaults (plan_contents it.plan.now) (fault_list it.faults.now) }
+    requires before { All (IsOffer (bytes_of it.texts.now) (plan_contents it.plan.now)
+        (fault_list it.faults.now) (group_numbers groups.now)) all.old.items }
+    ensures { OnOk result (All (IsOffer (bytes_of it.texts.now) (plan_contents it.plan.now)
+        (fault_list it.faults.now) (group_numbers groups.now)) all.new.items) }
 {
     if tries.are_spent() {
         return Ok(());
     }
     let (g, _, _) = group;
-    for proposal in search.proposals(alloc, faults, group)? {
-        let number = number_of(all.as_slice(), g, &proposal);
-        if let Some(number) = number {
-            let offer = offer_of(alloc, plan, faults, search, tries, (g, number), proposal)?;
-            push_some(all, offer)?;
+    for proposal in search.proposals(alloc, it.faults, group)? {
+        if let Some(number) = number_of(all.as_slice(), g, &proposal) {
+            push_offer(alloc, it, groups, tries, all, (g, number), proposal)?;
         }
     }
     Ok(())
 }
 
-fn push_some(all: &mut Vec<Offer>, offer: Option<Offer>) -> Result<(), AllocError> {
-    if let Some(offer) = offer {
-        all.push(offer)?;
+// Adds the offer that a proposal is, where it mends the group.
+fn push_offer(
+    alloc: Global,
+    it: Unedited<'_>,
+    groups: &Grouped,
+    tries: &mut Tries,
+    all: &mut Vec<Offer>,
+    numbers: (usize, usize),
+    proposal: Proposal,
+) -> Result<(), AllocError>
+    requires faults { AreFaults (plan_contents it.plan.now) (fault_list it.faults.now) }
+    requires before { All (IsOffer (bytes_of it.texts.now) (plan_contents it.plan.now)
+        (fault_list it.faults.now) (group_numbers groups.now)) all.old.items }
+    ensures { OnOk result (All (IsOffer (bytes_of it.texts.now) (plan_contents it.plan.now)
+        (fault_list it.faults.now) (group_numbers groups.now)) all.new.items) }
+{
+    match offer_of(alloc, it, groups, tries, numbers, proposal)? {
+        Some(offer) => all.push(offer),
+        None => Ok(()),
     }
-    Ok(())
 }
 
 // The number that a proposal for the last group would have. None where those before it leave no room for it.
@@ -232,72 +265,46 @@ fn excludes(found: &Proposal, other: &Proposal) -> bool {
     is_more && found.edited == other.edited
 }
 
-// The offer that a proposal is, where it mends the group.
 fn offer_of(
     alloc: Global,
-    plan: &Plan,
-    faults: &Faults,
-    search: Search<'_, '_>,
-    tries: &mut Tries<'_>,
+    it: Unedited<'_>,
+    groups: &Grouped,
+    tries: &mut Tries,
     numbers: (usize, usize),
     proposal: Proposal,
 ) -> Result<Option<Offer>, AllocError>
-    requires { AreFaults (plan_contents plan.now) (fault_list faults.now) }
+    requires { AreFaults (plan_contents it.plan.now) (fault_list it.faults.now) }
+    ensures { IfOk result (λ found. IfSome found (λ offer. IsOffer (bytes_of it.texts.now) (plan_contents it.plan.now)
+        (fault_list it.faults.now) (group_numbers groups.now) offer)) }
 {
     let (group, number) = numbers;
-    let tried = tries.outcome(alloc, plan, faults, proposal.edits.as_slice())?;
-    let Some(outcome) = tried else {
+    let Some(outcome) = tries.outcome(alloc, it, proposal.edits.as_slice())? else {
         return Ok(None);
     };
-    let groups = mended_by(alloc, search.groups, outcome.left.as_slice())?;
-    if !has_its_pairs(plan, &outcome, proposal.change) || !groups.contains(&group) {
+    let mended = mended_by(alloc, groups, outcome.left.as_slice())?;
+    if !may_cost(proposal.change, outcome.price) || !mended.contains(&group) {
         return Ok(None);
     }
-    let lines = tries.lines(alloc, proposal.edits.as_slice())?;
+    let lines = lines_changed(alloc, it.texts, proposal.edits.as_slice())?;
     Ok(Some(Offer {
         group,
         number,
         proposal,
         outcome,
-        pairs: pairs_of(search.groups, groups.as_slice()),
-        groups,
+        pairs: pairs_of(groups, mended.as_slice()),
+        groups: mended,
         lines,
     }))
 }
 
-// Whether what comes of an edit has as many pairs as the plan. Of a `never` some are to be left.
-fn has_its_pairs(plan: &Plan, outcome: &Outcome, change: Change) -> bool {
+// Only items that keep pairs apart may leave some out.
+fn may_cost(change: Change, price: u32) -> bool
+    ensures { IsTrue result → KeepsPairs change price }
+{
     match change {
-        Change::Never => outcome.pairs != 0,
-        _ => outcome.pairs == plan.pair_count(),
+        Change::Never => true,
+        _ => price == 0,
     }
-}
-
-// The groups of which no pair is left.
-fn mended_by(alloc: Global, groups: &Grouped, left: &[bool]) -> Result<Vec<usize>, AllocError> {
-    let mut open = vec![in alloc; false; groups.len()]?;
-    for (g, is_left) in groups.numbers().iter().zip(left.iter()) {
-        if let Some(is_open) = open.get_mut(*g) {
-            *is_open = *is_open || *is_left;
-        }
-    }
-    let mut mended = Vec::new(alloc);
-    for (g, is_open) in open.iter().enumerate() {
-        if !*is_open {
-            mended.push(g)?;
-        }
-    }
-    Ok(mended)
-}
-
-fn pairs_of(groups: &Grouped, numbers: &[usize]) -> usize {
-    let mut pairs = 0usize;
-    for g in numbers {
-        if let Some(group) = groups.group(*g) {
-            pairs = pairs.saturating_add(group.pairs);
-        }
-    }
-    pairs
 }
 
 // Each unsafe pair by its group and its place among all, group by group.
@@ -421,123 +428,6 @@ fn is_free(plan: &Plan, address: u8) -> bool {
     }
     for m in 0..plan.messages() {
         if can_have(plan.message(m), address) {
-            return false;
-        }
-    }
-    true
-}
-
-// ---- all together
-
-// Offers that go together: each time one more, as far as it mends a further group.
-fn together_of(
-    alloc: Global,
-    plan: &Plan,
-    faults: &Faults,
-    groups: &Grouped,
-    offers: &[Offer],
-    tries: &mut Tries<'_>,
-) -> Result<Together, AllocError>
-    requires { AreFaults (plan_contents plan.now) (fault_list faults.now) }
-{
-    let mut list = Together {
-        places: Vec::new(alloc),
-        outcome: None,
-        edits: Vec::new(alloc),
-    };
-    let mut open = vec![in alloc; true; groups.len()]?;
-    let mut unused = vec![in alloc; true; offers.len()]?;
-    for _ in 0..offers.len() {
-        let Some(best) = best_of(groups, offers, unused.as_slice(), open.as_slice()) else {
-            return Ok(list);
-        };
-        if let (Some(offer), Some(is_unused)) = (offers.get(best), unused.get_mut(best)) {
-            *is_unused = false;
-            let both = joined(
-                alloc,
-                list.edits.as_slice(),
-                offer.proposal.edits.as_slice(),
-            )?;
-            let tried = outcome_of(alloc, plan, faults, tries, both.as_ref())?;
-            if let (Some(edits), Some(outcome)) = (both, tried) {
-                let mended = mended_by(alloc, groups, outcome.left.as_slice())?;
-                if outcome.pairs != 0 && are_mended(mended.as_slice(), open.as_slice(), offer) {
-                    close(open.as_mut_slice(), offer);
-                    list.places.push(best)?;
-                    list.edits = edits;
-                    list.outcome = Some(outcome);
-                }
-            }
-        }
-    }
-    Ok(list)
-}
-
-fn outcome_of(
-    alloc: Global,
-    plan: &Plan,
-    faults: &Faults,
-    tries: &mut Tries<'_>,
-    edits: Option<&Vec<Edit>>,
-) -> Result<Option<Outcome>, AllocError>
-    requires { AreFaults (plan_contents plan.now) (fault_list faults.now) }
-{
-    match edits {
-        Some(edits) => tries.outcome(alloc, plan, faults, edits.as_slice()),
-        None => Ok(None),
-    }
-}
-
-// Of the offers that mend open groups the one with the least price, of several the one that mends the most pairs of open groups, and of
-// these the first.
-fn best_of(groups: &Grouped, offers: &[Offer], unused: &[bool], open: &[bool]) -> Option<usize> {
-    let mut best = None;
-    let mut least = u64::MAX;
-    let mut most = 0usize;
-    for (place, (offer, is_unused)) in offers.iter().zip(unused.iter()).enumerate() {
-        let price = price_of(offer);
-        let gain = gain_of(groups, offer, open);
-        if *is_unused && 0 < gain && (price < least || price == least && most < gain) {
-            least = price;
-            most = gain;
-            best = Some(place);
-        }
-    }
-    best
-}
-
-// How many pairs an offer leaves out. One that warns comes after all others.
-fn price_of(offer: &Offer) -> u64 {
-    match offer.proposal.change {
-        Change::Pointer => u64::MAX,
-        _ => u64::from(offer.outcome.price),
-    }
-}
-
-// How many pairs the open groups have that an offer mends.
-fn gain_of(groups: &Grouped, offer: &Offer, open: &[bool]) -> usize {
-    let mut gain = 0usize;
-    for g in offer.groups.as_slice() {
-        if let (Some(true), Some(group)) = (open.get(*g), groups.group(*g)) {
-            gain = gain.saturating_add(group.pairs);
-        }
-    }
-    gain
-}
-
-fn close(open: &mut [bool], offer: &Offer) {
-    for g in offer.groups.as_slice() {
-        if let Some(is_open) = open.get_mut(*g) {
-            *is_open = false;
-        }
-    }
-}
-
-// Whether all groups are mended that are not open, and those that the offer mends.
-fn are_mended(mended: &[usize], open: &[bool], offer: &Offer) -> bool {
-    for (g, is_open) in open.iter().enumerate() {
-        let is_wanted = !*is_open || offer.groups.contains(&g);
-        if is_wanted && !mended.contains(&g) {
             return false;
         }
     }

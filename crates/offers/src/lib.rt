@@ -1,6 +1,6 @@
 //! What is offered to mend an unsafe plan: edits of the texts that give it, each of which was tried.
 //!
-//! `found` has which edits mend a group, and which mend most together. `proposals` says what may be edited on the `sides` of a
+//! `found` has which edits mend a group, and `lists` which mend most together; `mended` says which groups an edit mends. `proposals` says what may be edited on the `sides` of a
 //! group (`paths` what these send), `nevers` which `never` items keep its pairs apart (`keeping` those by labels of a brief), and
 //! `tries` what comes of an edit. `advice` has the words that several forms share, and `reasons` what explains a verdict.
 #![tactic(auto)]
@@ -8,6 +8,8 @@
 mod advice;
 mod found;
 mod keeping;
+mod lists;
+mod mended;
 mod nevers;
 mod paths;
 mod proposals;
@@ -16,7 +18,8 @@ mod sides;
 mod tries;
 
 pub use advice::{Advice, SHOWN, advice_for_all, advice_for_group};
-pub use found::{Offer, Offers, Together, offers_of};
+pub use found::{Offer, Offers, offers_of};
+pub use lists::Together;
 pub use proposals::{Change, Edited, Proposal};
 pub use reasons::{Reasons, reasons_of};
 pub use tries::Outcome;

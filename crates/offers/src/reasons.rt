@@ -1,5 +1,8 @@
 // Why a plan is safe, or what mends it.
 
+ghost use Rattle.std.specs.Prelude.{IfOk};
+ghost use Rattle.given_plans.specs.Sources.{bytes_of};
+ghost use Rattle.offers.specs.Reasons.{AreReasons};
 ghost use Rattle.plan_core.specs.PlanContents.{plan_contents};
 ghost use Rattle.verdicts.specs.Faults.{AreFaults, fault_list};
 
@@ -30,6 +33,8 @@ pub fn reasons_of(
     provenance: &Provenance,
 ) -> Result<Reasons, AllocError>
     requires { AreFaults (plan_contents checked.now.plan) (fault_list checked.now.faults) }
+    ensures { IfOk result (λ it. AreReasons (bytes_of provenance.now.texts.items) (plan_contents checked.now.plan)
+        (fault_list checked.now.faults) it) }
 {
     let Checked { plan, faults } = checked;
     if faults.is_safe() {

@@ -1,10 +1,14 @@
 // Tries of edits: what the plan comes to that the edited texts give.
 
+ghost use Rattle.std.specs.Prelude.{◌≡◌, ◌-◌, length, IfOk, IfSome, IsTrue};
+ghost use Rattle.edits.specs.Edited.{edited_texts};
+ghost use Rattle.given_plans.specs.Sources.{GiveThePlan, bytes_of};
+ghost use Rattle.offers.specs.Tried.{IsTried, TriedOn};
 ghost use Rattle.plan_core.specs.PlanContents.{plan_contents};
 ghost use Rattle.verdicts.specs.Faults.{AreFaults, fault_list};
 
 use edits::{ChangedLine, Edit, changed_lines, edited_texts};
-use given_plans::find_among;
+use given_plans::{GivenPlan, Provenance, find_among};
 use mending::left_by;
 use plan_core::Plan;
 use run_parts::{RunError, Watched};
@@ -13,6 +17,14 @@ use verdicts::{Faults, faults};
 
 // How many steps all tries have together.
 const STEPS: u64 = 1_048_576;
+
+/// A plan, its faults, and the texts that give it.
+#[derive(Clone, Copy)]
+pub struct Unedited<'a> {
+    pub plan: &'a Plan,
+    pub faults: &'a Faults,
+    pub texts: &'a [Vec<u8>],
+}
 
 /// What is left of the unsafe pairs of a plan after an edit that makes no other pair unsafe.
 #[derive(Drop)]
@@ -26,23 +38,22 @@ pub struct Outcome {
     pub price: u32,
 }
 
-/// Tries of edits of these texts, which give a plan, as long as the steps suffice.
-#[derive(Drop)]
-pub struct Tries<'a> {
-    texts: &'a [Vec<u8>],
+/// Tries of edits, as long as the steps suffice.
+#[derive(Clone, Copy)]
+pub struct Tries {
     cost: u64,
     steps: u64,
     is_spent: bool,
 }
 
-impl<'a> Tries<'a> {
-    pub fn new(plan: &Plan, texts: &'a [Vec<u8>]) -> Tries<'a> {
-        let mut cost = u64::from(plan.pair_count());
-        for text in texts {
+impl Tries {
+    /// None yet, over this plan.
+    pub fn new(it: Unedited<'_>) -> Tries {
+        let mut cost = u64::from(it.plan.pair_count());
+        for text in it.texts {
             cost = cost.saturating_add(text.len() as u64);
         }
         Tries {
-            texts,
             cost,
             steps: STEPS,
             is_spent: false,
@@ -67,31 +78,44 @@ impl<'a> Tries<'a> {
         }
     }
 
-    /// What comes of edits of the texts of a plan with these faults. None where they give no plan then, where a pair without a
-    /// fault has one in that, and where the steps do not suffice.
+    /// What comes of edits of the texts of a plan. None where they give no plan then, where a pair without a fault has one in that,
+    /// and where the steps do not suffice.
+    ///
+    /// # Errors
+    ///
+    /// Where an allocation fails.
     pub fn outcome(
         &mut self,
         alloc: Global,
-        plan: &Plan,
-        faults: &Faults,
+        it: Unedited<'_>,
         edits: &[Edit],
     ) -> Result<Option<Outcome>, AllocError>
-        requires { AreFaults (plan_contents plan.now) (fault_list faults.now) }
+        requires { AreFaults (plan_contents it.plan.now) (fault_list it.faults.now) }
+        ensures { IfOk result (λ found. IfSome found (λ outcome.
+            IsTried (bytes_of it.texts.now) (plan_contents it.plan.now) (fault_list it.faults.now) edits.now outcome)) }
     {
         if !self.pay() {
             return Ok(None);
         }
-        match plan_with(alloc, self.texts, edits)? {
-            Some(edited) => outcome_of(alloc, plan, faults, &edited),
+        match plan_with(alloc, it.texts, edits)? {
+            Some(edited) => outcome_of(alloc, it.plan, it.faults, &edited),
             None => Ok(None),
         }
     }
+}
 
-    /// The lines that such edits change.
-    pub fn lines(&self, alloc: Global, edits: &[Edit]) -> Result<Vec<ChangedLine>, AllocError> {
-        let edited = edited_texts(alloc, self.texts, edits)?;
-        changed_lines(alloc, self.texts, edited.as_slice())
-    }
+/// The lines of these texts that such edits change.
+///
+/// # Errors
+///
+/// Where an allocation fails.
+pub fn lines_changed(
+    alloc: Global,
+    texts: &[Vec<u8>],
+    edits: &[Edit],
+) -> Result<Vec<ChangedLine>, AllocError> {
+    let edited = edited_texts(alloc, texts, edits)?;
+    changed_lines(alloc, texts, edited.as_slice())
 }
 
 // What the plan with these faults comes to, edited so.
@@ -102,6 +126,8 @@ fn outcome_of(
     edited: &Plan,
 ) -> Result<Option<Outcome>, AllocError>
     requires { AreFaults (plan_contents plan.now) (fault_list before.now) }
+    ensures { IfOk result (λ found. IfSome found (λ outcome.
+        TriedOn (plan_contents plan.now) (fault_list before.now) (plan_contents edited.now) outcome)) }
 {
     let after = faults(alloc, edited)?;
     let unsafe_pairs = after.len();
@@ -117,19 +143,55 @@ fn outcome_of(
 }
 
 // The plan that the texts give with these edits.
-fn plan_with(alloc: Global, texts: &[Vec<u8>], edits: &[Edit]) -> Result<Option<Plan>, AllocError> {
+fn plan_with(alloc: Global, texts: &[Vec<u8>], edits: &[Edit]) -> Result<Option<Plan>, AllocError>
+    ensures { IfOk result (λ found. IfSome found (λ plan.
+        GiveThePlan (edited_texts (bytes_of texts.now) edits.now) (plan_contents plan))) }
+{
     let edited = edited_texts(alloc, texts, edits)?;
     plan_given_by(alloc, edited.as_slice())
 }
 
-fn plan_given_by(alloc: Global, texts: &[Vec<u8>]) -> Result<Option<Plan>, AllocError> {
+fn plan_given_by(alloc: Global, texts: &[Vec<u8>]) -> Result<Option<Plan>, AllocError>
+    ensures { IfOk result (λ found. IfSome found (λ plan. GiveThePlan (bytes_of texts.now) (plan_contents plan))) }
+{
     let mut readers = Vec::with_capacity(alloc, texts.len())?;
     for text in texts {
         readers.push(Watched::new(text.as_slice()))?;
     }
     match find_among(alloc, readers.as_mut_slice()) {
-        Ok(given) => Ok(Some(given.plan)),
+        Ok(given) => Ok(read_from(given, texts)),
         Err(halted) if matches!(halted.error, RunError::NoMemory) => Err(AllocError),
         Err(_) => Ok(None),
+    }
+}
+
+// The plan that these texts give, where they are what was read.
+fn read_from(given: GivenPlan, texts: &[Vec<u8>]) -> Option<Plan>
+    requires { GiveThePlan (bytes_of given.provenance.texts.items) (plan_contents given.plan) }
+    ensures { IfSome result (λ plan. GiveThePlan (bytes_of texts.now) (plan_contents plan)) }
+{
+    let GivenPlan { plan, provenance } = given;
+    if are_read(&provenance, texts) {
+        Some(plan)
+    } else {
+        None
+    }
+}
+
+fn are_read(provenance: &Provenance, texts: &[Vec<u8>]) -> bool
+    ensures { IsTrue result → bytes_of provenance.now.texts.items ≡ bytes_of texts.now }
+{
+    are_same(provenance.texts.as_slice(), texts)
+}
+
+fn are_same(texts: &[Vec<u8>], others: &[Vec<u8>]) -> bool
+    ensures { IsTrue result → bytes_of texts.now ≡ bytes_of others.now }
+{
+    match (texts, others) {
+        ([], []) => true,
+        ([text, texts @ ..], [other, others @ ..]) => {
+            text.as_slice() == other.as_slice() && are_same(texts, others)
+        }
+        _ => false,
     }
 }

@@ -2,6 +2,7 @@
 
 ghost use Rattle.std.specs.Prelude.{◌≡◌, length};
 ghost use Rattle.plan_core.specs.PlanContents.{plan_contents};
+ghost use Rattle.remedies.specs.Numbers.{group_numbers};
 ghost use Rattle.verdicts.specs.Faults.{AreFaults, fault_list};
 
 use crate::apart::both_of;
@@ -164,7 +165,9 @@ impl Grouped {
     }
 
     /// For each unsafe pair the number of its group.
-    pub fn numbers(&self) -> &[usize] {
+    pub fn numbers(&self) -> &[usize]
+        ensures { result.now ≡ group_numbers self.now }
+    {
         self.groups.numbers()
     }
 

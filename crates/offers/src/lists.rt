@@ -1,0 +1,167 @@
+// Offers that go together: the list that mends as many groups as possible.
+
+ghost use Rattle.std.specs.Prelude.{IfOk};
+ghost use Rattle.given_plans.specs.Sources.{bytes_of};
+ghost use Rattle.offers.specs.Offered.{IsTogether};
+ghost use Rattle.plan_core.specs.PlanContents.{plan_contents};
+ghost use Rattle.verdicts.specs.Faults.{AreFaults, fault_list};
+
+use crate::found::Offer;
+use crate::mended::mended_by;
+use crate::proposals::Change;
+use crate::tries::{Outcome, Tries, Unedited};
+use edits::{Edit, joined};
+use remedies::Grouped;
+use std::alloc::{AllocError, Global};
+
+/// Offers that mend as many groups as possible.
+pub struct Together {
+    /// Their places among all.
+    pub places: Vec<usize>,
+    /// What comes of all of them. None where there are none.
+    pub outcome: Option<Outcome>,
+    /// Those of all of them, in the order of the texts.
+    pub edits: Vec<Edit>,
+}
+
+// Written out, so that one call lets it go.
+impl Drop for Together {
+    fn drop(self) {
+        let Self {
+            places: _,
+            outcome: _,
+            edits: _,
+        } = self;
+    }
+}
+
+/// Offers that go together: each time one more, as far as it mends a further group.
+///
+/// # Errors
+///
+/// Where an allocation fails.
+pub fn together_of(
+    alloc: Global,
+    it: Unedited<'_>,
+    groups: &Grouped,
+    offers: &[Offer],
+    tries: &mut Tries,
+) -> Result<Together, AllocError>
+    requires { AreFaults (plan_contents it.plan.now) (fault_list it.faults.now) }
+    ensures { IfOk result (λ list. IsTogether (bytes_of it.texts.now) (plan_contents it.plan.now)
+        (fault_list it.faults.now) list) }
+{
+    let mut list = Together {
+        places: Vec::new(alloc),
+        outcome: None,
+        edits: Vec::new(alloc),
+    };
+    let mut open = vec![in alloc; true; groups.len()]?;
+    let mut unused = vec![in alloc; true; offers.len()]?;
+    for _ in 0..offers.len() {
+        let Some(best) = best_of(groups, offers, unused.as_slice(), open.as_slice()) else {
+            return Ok(list);
+        };
+        if let (Some(offer), Some(is_unused)) = (offers.get(best), unused.get_mut(best)) {
+            *is_unused = false;
+            list = list.with(alloc, it, groups, tries, (best, offer), open.as_mut_slice())?;
+        }
+    }
+    Ok(list)
+}
+
+impl Together {
+    // With one more, where it can be had with these and mends what it mends alone.
+    fn with(
+        self,
+        alloc: Global,
+        it: Unedited<'_>,
+        groups: &Grouped,
+        tries: &mut Tries,
+        further: (usize, &Offer),
+        open: &mut [bool],
+    ) -> Result<Together, AllocError>
+        requires faults { AreFaults (plan_contents it.plan.now) (fault_list it.faults.now) }
+        requires before { IsTogether (bytes_of it.texts.now) (plan_contents it.plan.now)
+            (fault_list it.faults.now) self }
+        ensures { IfOk result (λ list. IsTogether (bytes_of it.texts.now) (plan_contents it.plan.now)
+            (fault_list it.faults.now) list) }
+    {
+        let (place, offer) = further;
+        let own = offer.proposal.edits.as_slice();
+        let Some(edits) = joined(alloc, self.edits.as_slice(), own)? else {
+            return Ok(self);
+        };
+        let Some(outcome) = tries.outcome(alloc, it, edits.as_slice())? else {
+            return Ok(self);
+        };
+        let mended = mended_by(alloc, groups, outcome.left.as_slice())?;
+        if outcome.pairs == 0 || !are_mended(mended.as_slice(), open, offer) {
+            return Ok(self);
+        }
+        close(open, offer);
+        let Together { mut places, .. } = self;
+        places.push(place)?;
+        Ok(Together {
+            places,
+            outcome: Some(outcome),
+            edits,
+        })
+    }
+}
+
+// Of the offers that mend open groups the one with the least price, of several the one that mends the most pairs of open groups, and of
+// these the first.
+fn best_of(groups: &Grouped, offers: &[Offer], unused: &[bool], open: &[bool]) -> Option<usize> {
+    let mut best = None;
+    let mut least = u64::MAX;
+    let mut most = 0usize;
+    for (place, (offer, is_unused)) in offers.iter().zip(unused.iter()).enumerate() {
+        let price = price_of(offer);
+        let gain = gain_of(groups, offer, open);
+        if *is_unused && 0 < gain && (price < least || price == least && most < gain) {
+            least = price;
+            most = gain;
+            best = Some(place);
+        }
+    }
+    best
+}
+
+// How many pairs an offer leaves out. One that warns comes after all others.
+fn price_of(offer: &Offer) -> u64 {
+    match offer.proposal.change {
+        Change::Pointer => u64::MAX,
+        _ => u64::from(offer.outcome.price),
+    }
+}
+
+// How many pairs the open groups have that an offer mends.
+fn gain_of(groups: &Grouped, offer: &Offer, open: &[bool]) -> usize {
+    let mut gain = 0usize;
+    for g in offer.groups.as_slice() {
+        if let (Some(true), Some(group)) = (open.get(*g), groups.group(*g)) {
+            gain = gain.saturating_add(group.pairs);
+        }
+    }
+    gain
+}
+
+fn close(open: &mut [bool], offer: &Offer) {
+    for g in offer.groups.as_slice() {
+        if let Some(is_open) = open.get_mut(*g) {
+            *is_open = false;
+        }
+    }
+}
+
+// Whether all groups are mended that are not open, and those that the offer mends.
+fn are_mended(mended: &[usize], open: &[bool], offer: &Offer) -> bool {
+    for (g, is_open) in open.iter().enumerate() {
+        let is_wanted = !*is_open || offer.groups.contains(&g);
+        if is_wanted && !mended.contains(&g) {
+            return false;
+        }
+    }
+    true
+}
