@@ -9,7 +9,7 @@ use certificate::Fault;
 use growing_text::Text;
 use lint::Oddity;
 use object_lines::{ObjectLines, all_at};
-use offers::{Offers, Reasons};
+use offers::{Offers, Reasons, SHOWN};
 use plan_core::Plan;
 use plan_findings::{Detail, unsent_in};
 use plan_words::PlanWords;
@@ -35,8 +35,48 @@ pub fn write_check<O: Output>(
     detail: Detail,
     out: &mut O,
 ) -> Result<(), RunError> {
+    let told = told_of(alloc, checked, words, texts, reasons, SHOWN)?;
+    let mut lines = ObjectLines::new(alloc);
+    if detail.pairs {
+        told.write_pairs(&mut lines, out)?;
+    }
+    told.write_groups(&mut lines, detail.groups as usize, out)?;
+    add_oddities(&mut lines, words, odd);
+    add_plan(&mut lines, checked, words, reasons, detail.groups as usize);
+    lines.write_rest(out)
+}
+
+/// Writes an object for each group of the unsafe pairs of a plan that was checked, with all its offers, and one for the plan. The words are
+/// those of the plan, and the texts give it. Of a safe plan there are no reasons.
+///
+/// # Errors
+///
+/// `Write` where the writer failed or took no bytes, and `NoMemory`. A part of the objects may have been written.
+pub fn write_offers<O: Output>(
+    alloc: Global,
+    checked: &Checked,
+    words: PlanWords<'_>,
+    texts: &[Vec<u8>],
+    reasons: Option<&Reasons>,
+    out: &mut O,
+) -> Result<(), RunError> {
+    let told = told_of(alloc, checked, words, texts, reasons, usize::MAX)?;
+    let mut lines = ObjectLines::new(alloc);
+    told.write_groups(&mut lines, usize::MAX, out)?;
+    add_plan(&mut lines, checked, words, reasons, usize::MAX);
+    lines.write_rest(out)
+}
+
+fn told_of<'a>(
+    alloc: Global,
+    checked: &'a Checked,
+    words: PlanWords<'a>,
+    texts: &'a [Vec<u8>],
+    reasons: Option<&'a Reasons>,
+    shown: usize,
+) -> Result<Told<'a>, AllocError> {
     let places = all_at(alloc, words)?;
-    let told = Told {
+    Ok(Told {
         checked,
         words,
         texts,
@@ -46,15 +86,8 @@ pub fn write_check<O: Output>(
             Some(Reasons::Unsafe(groups, offers)) => Some((groups, offers)),
             _ => None,
         },
-    };
-    let mut lines = ObjectLines::new(alloc);
-    if detail.pairs {
-        told.write_pairs(&mut lines, out)?;
-    }
-    told.write_groups(&mut lines, detail.groups as usize, out)?;
-    add_oddities(&mut lines, words, odd);
-    add_plan(&mut lines, checked, words, reasons, detail.groups as usize);
-    lines.write_rest(out)
+        shown,
+    })
 }
 
 // What pairs and groups are told of.
@@ -67,6 +100,8 @@ struct Told<'a> {
     // where the message of each participant stands, if briefs mean the plan
     places: Option<Vec<String>>,
     groups: Option<(&'a Grouped, &'a Offers)>,
+    // how many offers of a group
+    shown: usize,
 }
 
 impl Told<'_> {
@@ -101,7 +136,7 @@ impl Told<'_> {
                 add_group(lines, groups, g, group);
                 self.add_example(lines, group.example, g < most);
                 if g < most {
-                    add_offers(lines, self.words, self.texts, offers, g);
+                    add_offers(lines, self.words, self.texts, offers, g, self.shown);
                 }
                 lines.end();
             }

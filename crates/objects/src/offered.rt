@@ -3,28 +3,29 @@
 use edits::Edit;
 use growing_text::Text;
 use object_lines::ObjectLines;
-use offers::{Offer, Offers, SHOWN, Together};
+use offers::{Offer, Offers, Together};
 use plan_words::PlanWords;
 use std::alloc::{AllocError, Global};
 use std::str;
 
-/// Adds the field with what is offered for the group with this number: the first offers, and how many more there are.
+/// Adds the field with what is offered for the group with this number: so many offers, and how many more there are.
 pub(crate) fn add_offers(
     lines: &mut ObjectLines,
     words: PlanWords<'_>,
     texts: &[Vec<u8>],
     offers: &Offers,
     g: usize,
+    shown: usize,
 ) {
     let all = offers.of(g);
     lines.open("explain");
     lines.open_list("offers");
-    for offer in all.iter().take(SHOWN) {
+    for offer in all.iter().take(shown) {
         add_offer(lines, words, texts, offer);
     }
     lines.close_list();
-    if SHOWN < all.len() {
-        lines.number("more", all.len().saturating_sub(SHOWN) as u64);
+    if shown < all.len() {
+        lines.number("more", all.len().saturating_sub(shown) as u64);
     }
     lines.close();
 }

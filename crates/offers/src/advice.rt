@@ -53,6 +53,24 @@ pub fn advice_for_group(
     Ok(advice)
 }
 
+/// All that is offered to mend the group with this number.
+///
+/// # Errors
+///
+/// Where an allocation fails.
+pub fn whole_advice_for_group(
+    alloc: Global,
+    words: PlanWords<'_>,
+    offers: &Offers,
+    g: usize,
+) -> Result<Vec<Advice>, AllocError> {
+    let mut advice = Vec::new(alloc);
+    for offer in offers.of(g) {
+        advice.push(advice_of(alloc, words, offer)?)?;
+    }
+    Ok(advice)
+}
+
 /// What is offered to mend all groups, and what a check then says.
 ///
 /// # Errors

@@ -83,6 +83,13 @@ impl Drop for Together {
     }
 }
 
+impl Together {
+    /// The edits of all of them.
+    pub fn edits(&self) -> &[Edit] {
+        self.edits.as_slice()
+    }
+}
+
 impl Offers {
     /// Those for the group with this number.
     pub fn of(&self, g: usize) -> &[Offer] {

@@ -15,7 +15,7 @@ mod reasons;
 mod sides;
 mod tries;
 
-pub use advice::{Advice, SHOWN, advice_for_all, advice_for_group};
+pub use advice::{Advice, SHOWN, advice_for_all, advice_for_group, whole_advice_for_group};
 pub use found::{Offer, Offers, Together, offers_of};
 pub use proposals::{Change, Edited, Proposal};
 pub use reasons::{Reasons, reasons_of};

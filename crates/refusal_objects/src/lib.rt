@@ -25,6 +25,18 @@ pub enum Detail<'a> {
     Dump(&'a Wrong),
 }
 
+/// Of what a refusal speaks that has a word of its own.
+#[derive(Clone, Copy)]
+pub enum Subject<'a> {
+    Nothing,
+    /// The controller of this name.
+    Controller(&'a str),
+    /// The offers of these numbers, as the command line has them.
+    Offers(&'a str),
+    /// An edited text, which is refused so.
+    Edited(PlanError),
+}
+
 /// Where a plan or a brief is refused.
 #[derive(Clone, Copy)]
 pub struct TextDetail<'a> {
@@ -54,6 +66,8 @@ struct Refusal<'a> {
     file: Option<&'a str>,
     label: Option<&'a str>,
     controller: Option<&'a str>,
+    // as the command line has them
+    offers: Option<&'a str>,
     signal: Option<&'static str>,
     // of a token: how many bytes stand before it, and in its line and one, and what could stand there
     byte: Option<u64>,
@@ -199,7 +213,7 @@ fn opened_word(opened: Opened) -> &'static str {
     }
 }
 
-/// The object of a refusal of this code, which speaks of this controller.
+/// The object of a refusal of this code, which speaks of this.
 ///
 /// # Errors
 ///
@@ -207,14 +221,29 @@ fn opened_word(opened: Opened) -> &'static str {
 pub fn word_object(
     alloc: Global,
     code: &'static str,
-    controller: Option<&str>,
+    subject: Subject<'_>,
     reason: &str,
 ) -> Result<String, AllocError> {
-    let refusal = Refusal {
-        controller,
-        ..coded(code)
-    };
-    object_of(alloc, reason, refusal)
+    let refusal = coded(code);
+    object_of(
+        alloc,
+        reason,
+        match subject {
+            Subject::Nothing => refusal,
+            Subject::Controller(name) => Refusal {
+                controller: Some(name),
+                ..refusal
+            },
+            Subject::Offers(numbers) => Refusal {
+                offers: Some(numbers),
+                ..refusal
+            },
+            Subject::Edited(error) => Refusal {
+                line: of_text(error).line,
+                ..refusal
+            },
+        },
+    )
 }
 
 fn object_of(alloc: Global, reason: &str, refusal: Refusal<'_>) -> Result<String, AllocError> {
@@ -225,6 +254,7 @@ fn object_of(alloc: Global, reason: &str, refusal: Refusal<'_>) -> Result<String
     lines.field_if("file", &refusal.file);
     lines.field_if("label", &refusal.label);
     lines.field_if("controller", &refusal.controller);
+    lines.field_if("offers", &refusal.offers);
     lines.word_if("signal", refusal.signal);
     lines.number_if("byte", refusal.byte);
     lines.number_if("column", refusal.column);
@@ -312,6 +342,7 @@ fn coded(code: &'static str) -> Refusal<'static> {
         file: None,
         label: None,
         controller: None,
+        offers: None,
         signal: None,
         byte: None,
         column: None,

@@ -4,7 +4,9 @@ use command_words::Format;
 use growing_text::{Text, push_shown, shown, visible};
 use hints::Hints;
 use plan_words::called;
-use refusal_objects::{Detail, TextDetail, code_of, hint_objects, refusal_object, word_object};
+use refusal_objects::{
+    Detail, Subject, TextDetail, code_of, hint_objects, refusal_object, word_object,
+};
 use run_parts::RunError;
 use run_values::Extras;
 use std::alloc::{AllocError, Global};
@@ -110,26 +112,33 @@ pub(crate) fn say_objects<R: Eprint>(rt: &R, objects: Result<String, AllocError>
     }
 }
 
-/// Writes the line of a refusal that is none of the libraries: this word, and the controller of which it speaks.
+/// Writes the line of a refusal that is none of the libraries: this word, and of what it speaks.
 pub(crate) fn refused_by_word<R: Eprint + AllocGlobal>(
     rt: &R,
     word: &'static str,
-    controller: Option<&str>,
+    subject: Subject<'_>,
     reason: &str,
     format: Format,
 ) {
     match format {
-        Format::Objects => say_refusal(rt, word_object(rt.alloc(), word, controller, reason)),
+        Format::Objects => say_refusal(rt, word_object(rt.alloc(), word, subject, reason)),
         Format::Messages => {
             let _ = eprintln!(rt; "twire: error: {reason}");
         }
-        Format::Lines => {
-            let _ = match visible(rt.alloc(), controller.unwrap_or("")) {
-                Ok(name) if controller.is_some() => eprintln!(rt; "refused {word} {name}"),
-                _ => eprintln!(rt; "refused {word}"),
-            };
-        }
+        Format::Lines => say_refused_word(rt, word, subject),
     }
+}
+
+fn say_refused_word<R: Eprint + AllocGlobal>(rt: &R, word: &'static str, subject: Subject<'_>) {
+    let _ = match subject {
+        Subject::Controller(name) => match visible(rt.alloc(), name) {
+            Ok(name) => eprintln!(rt; "refused {word} {name}"),
+            Err(_) => eprintln!(rt; "refused {word}"),
+        },
+        Subject::Offers(numbers) => eprintln!(rt; "refused {word} {numbers}"),
+        Subject::Edited(error) => eprintln!(rt; "refused {word} {error}"),
+        Subject::Nothing => eprintln!(rt; "refused {word}"),
+    };
 }
 
 /// Writes hints. Where there is no memory for them, or standard error takes nothing, there are none.

@@ -1,7 +1,7 @@
 // The report of a check, explained.
 
 use crate::faults::below_unsafe;
-use crate::group_lines::{above_rest, of_group, of_rest};
+use crate::group_lines::{above_rest, of_group, of_rest, offers_for};
 use crate::plans::below_safe;
 use crate::reports::{BLOCK, write_block};
 use crate::unchecked::below_checked;
@@ -42,6 +42,31 @@ pub fn explain_check<O: Output>(
     if let Some(Reasons::Unsafe(groups, offers)) = reasons {
         let groups = (groups, offers);
         write_groups(alloc, words, faults, groups, detail.groups, &mut text, out)?;
+    }
+    push_end(alloc, &mut text, checked, words, reasons, paint);
+    write_block(text, out)
+}
+
+/// Writes what is offered to mend each group of the unsafe pairs of a check: all of it, group by group, and then the last lines of its
+/// report. Of a safe plan there are no reasons, and the last line alone is written.
+///
+/// # Errors
+///
+/// `Write` where the writer failed or took no bytes, and `NoMemory`. A part of the lines may have been written.
+pub fn explain_offers<O: Output>(
+    alloc: Global,
+    checked: &Checked,
+    words: PlanWords<'_>,
+    reasons: Option<&Reasons>,
+    paint: Paint,
+    out: &mut O,
+) -> Result<(), RunError> {
+    let mut text = Text::new(alloc);
+    if let Some(Reasons::Unsafe(groups, offers)) = reasons {
+        for g in 0..groups.len() {
+            text.push_made(offers_for(alloc, words, (groups, offers), g));
+            write_full(alloc, &mut text, out)?;
+        }
     }
     push_end(alloc, &mut text, checked, words, reasons, paint);
     write_block(text, out)
