@@ -224,12 +224,11 @@ impl<'a> Request<'a> {
         match self {
             Request::Mend {
                 plan,
-                mend:
-                    Mend {
-                        taking: Taking::These(_),
-                        workers,
-                        in_place,
-                    },
+                mend: Mend {
+                    taking: Taking::These(_),
+                    workers,
+                    in_place,
+                },
                 output,
             } => Request::Mend {
                 plan,

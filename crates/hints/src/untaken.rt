@@ -84,9 +84,7 @@ pub fn on_untaken(
     let mut lines = Lines::new(alloc);
     match untaken {
         Untaken::Safe(OfferAt { group, number }) => {
-            lines.say(format_args!(
-                "there is no offer {group}.{number}: the plan is safe"
-            ));
+            lines.say(format_args!("there is no offer {group}.{number}: the plan is safe"));
         }
         Untaken::NoGroup(OfferAt { group, number }, groups) => {
             let ending = ending_of(*groups);
@@ -109,9 +107,7 @@ pub fn on_untaken(
             ));
         }
         Untaken::NoPlan(error, file) => {
-            lines.part(format_args!(
-                "the edited texts give no plan: {error} of "
-            ));
+            lines.part(format_args!("the edited texts give no plan: {error} of "));
             push_file(alloc, &mut lines, files, *file);
             lines.end();
         }
@@ -182,9 +178,7 @@ pub fn on_mended(
         ));
     }
     if kept_apart != 0 {
-        lines.part(format_args!(
-            "; pairs that 'never' leaves unchecked: {kept_apart}"
-        ));
+        lines.part(format_args!("; pairs that 'never' leaves unchecked: {kept_apart}"));
     }
     lines.end();
     lines.finish()

@@ -37,7 +37,7 @@ pub record OfGivenPlan {D : Type 0} (reader : Reader D) (IsSuch : Contents → T
   pub holds : IsSuch plan
 
 -- the texts give a plan of which this is the status
-record pub GiveJudged (texts : List (List ℕ)) (status : Status) : Type 0 where
+pub record GiveJudged (texts : List (List ℕ)) (status : Status) : Type 0 where
   pub plan : Contents
   pub given : GiveThePlan texts plan
   pub judged : Judges status plan

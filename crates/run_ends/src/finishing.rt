@@ -65,11 +65,13 @@ fn finish_whole<R: Files + Print + Eprint + Clock + AllocGlobal>(
             };
             finish_report(rt, read, out, status, said, errand)
         }
-        Err(Unwritten {
-            error,
-            reason,
-            file,
-        }) => {
+        Err(
+            Unwritten {
+                error,
+                reason,
+                file,
+            },
+        ) => {
             tell(rt, Halt::Run(error), read, file, reason, errand);
             2
         }

@@ -29,12 +29,11 @@ pub fn run_over<
     match errand.request {
         Request::Check { look, .. } => check(rt, texts, out, look, extras),
         Request::Mend {
-            mend:
-                Mend {
-                    taking: Taking::Nothing,
-                    workers,
-                    ..
-                },
+            mend: Mend {
+                taking: Taking::Nothing,
+                workers,
+                ..
+            },
             ..
         } => list_offers(rt, texts, out, workers, extras),
         Request::Mend { mend, .. } => take_offers(rt, texts, out, mend, extras),
