@@ -127,7 +127,7 @@ pub fn take_offers<R: Eprint + Clock + AllocGlobal + Threads + Sync, I: Input, O
     extras: Extras,
 ) -> Result<Ended, Halt>
     ensures mended { IfOk result (λ it. IsSomeAnd it.mended (λ mended.
-        GiveJudged (bytes_of mended.texts.items) it.status)) }
+        GiveJudged (bytes_of mended.provenance.texts.items) it.status)) }
 {
     let alloc = rt.alloc();
     let gate = Comparing::new(rt, extras.watcher);
@@ -180,18 +180,14 @@ fn joined_of(
     groups: usize,
     numbers: &[OfferNumber],
 ) -> Result<Vec<Edit>, Halt> {
-    let mut taken = Vec::with_capacity(alloc, numbers.len())?;
-    for number in numbers {
-        taken.push(offer_at(offers, groups, *number)?)?;
-    }
     let mut edits = Vec::new(alloc);
-    for (k, offer) in taken.iter().enumerate() {
-        let more = offer.proposal.edits.as_slice();
-        match joined(alloc, edits.as_slice(), more)? {
+    for (k, number) in numbers.iter().enumerate() {
+        let offer = offer_at(offers, groups, *number)?;
+        match joined(alloc, edits.as_slice(), offer.proposal.edits.as_slice())? {
             Some(both) => edits = both,
             None => {
-                let before = taken.get(..k).unwrap_or(&[]);
-                return Err(Halt::Untaken(overlap_of(alloc, before, offer)?));
+                let before = numbers.get(..k).unwrap_or(&[]);
+                return Err(Halt::Untaken(overlap_of(alloc, offers, before, offer)?));
             }
         }
     }
@@ -219,17 +215,24 @@ fn at(number: OfferNumber) -> OfferAt {
     }
 }
 
-// An offer changes words that one of these changes too.
-fn overlap_of(alloc: Global, before: &[&Offer], offer: &Offer) -> Result<Untaken, AllocError> {
-    let mut other = offer;
+// An offer changes words that one of these before it changes otherwise.
+fn overlap_of(
+    alloc: Global,
+    offers: &Offers,
+    before: &[OfferNumber],
+    offer: &Offer,
+) -> Result<Untaken, AllocError> {
     let edits = offer.proposal.edits.as_slice();
-    for earlier in before {
-        if joined(alloc, earlier.proposal.edits.as_slice(), edits)?.is_none() {
-            other = earlier;
-            break;
+    for number in before {
+        for other in offers.of(number.group as usize) {
+            if other.number == number.number as usize
+                && joined(alloc, other.proposal.edits.as_slice(), edits)?.is_none()
+            {
+                return Ok(Untaken::Overlap(at(*number), number_of(offer)));
+            }
         }
     }
-    Ok(Untaken::Overlap(number_of(other), number_of(offer)))
+    Ok(Untaken::Overlap(number_of(offer), number_of(offer)))
 }
 
 fn number_of(offer: &Offer) -> OfferAt {
@@ -281,15 +284,19 @@ fn checked_again<R: AllocGlobal + Threads + Sync, G: Gate + Sync>(
     ensures faults { IfOk result (λ it.
         AreFaults (plan_contents it.checked.plan) (fault_list it.checked.faults)) }
 {
-    let alloc = rt.alloc();
+    let mut readers = readers_of(rt.alloc(), texts)?;
+    match find_checked(rt, rt.alloc(), readers.as_mut_slice(), workers, gate) {
+        Ok(found) => Ok(found),
+        Err(halted) => Err(unread(halted)),
+    }
+}
+
+fn readers_of(alloc: Global, texts: &[Vec<u8>]) -> Result<Vec<Watched<&[u8]>>, AllocError> {
     let mut readers = Vec::with_capacity(alloc, texts.len())?;
     for text in texts {
         readers.push(Watched::new(text.as_slice()))?;
     }
-    match find_checked(rt, alloc, readers.as_mut_slice(), workers, gate) {
-        Ok(found) => Ok(found),
-        Err(halted) => Err(unread(halted)),
-    }
+    Ok(readers)
 }
 
 // The edited texts give no plan.
@@ -320,18 +327,17 @@ fn write_text<O: Output>(
 fn ended_with<I: Input>(found: GivenCheck, plans: &Sources<'_, I>, changed: Vec<u32>) -> Ended
     requires given { GiveThePlan (bytes_of found.provenance.texts.items) (plan_contents found.checked.plan) }
     requires faults { AreFaults (plan_contents found.checked.plan) (fault_list found.checked.faults) }
-    ensures { IsSomeAnd result.mended (λ mended. GiveJudged (bytes_of mended.texts.items) result.status) }
+    ensures { IsSomeAnd result.mended (λ mended. GiveJudged (bytes_of mended.provenance.texts.items) result.status) }
 {
     let status = status_in(&found);
     let then = then_of(&found, plans);
     let GivenCheck { provenance, .. } = found;
-    let Provenance { texts, .. } = provenance;
     Ended {
         status,
         findings: Findings::Nothing,
         wave: None,
         mended: Some(Mended {
-            texts,
+            provenance,
             changed,
             then,
         }),

@@ -207,7 +207,8 @@ where
         let path = errand.named().at(number).path;
         let sheet = Sheet::new(rt, Form::InPlace(path), ids, errand.extras.watcher);
         sheets.push((path, Watched::new(sheet)))?;
-        if let (Some((_, sheet)), Some(text)) = (sheets.last_mut(), mended.texts.get(number)) {
+        let text = mended.provenance.texts.get(number);
+        if let (Some((_, sheet)), Some(text)) = (sheets.last_mut(), text) {
             write_lines(sheet, text.as_slice(), Status::Good)?;
         }
     }

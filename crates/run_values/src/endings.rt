@@ -31,8 +31,8 @@ pub struct Ended {
 /// Texts with edits that mend the plan which they give.
 #[derive(Drop)]
 pub struct Mended {
-    /// All of them, in the order of the files, as they are then.
-    pub texts: Vec<Vec<u8>>,
+    /// What the plan was read from then: all texts, in the order of the files.
+    pub provenance: Provenance,
     /// The numbers of those that are others than they were, from 0 on.
     pub changed: Vec<u32>,
     pub then: Then,
