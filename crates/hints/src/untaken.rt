@@ -170,15 +170,16 @@ pub fn on_mended(
         unsafe_pairs,
         kept_apart,
     } = then;
+    lines.part("check then says '");
     if unsafe_pairs == 0 {
-        lines.part(format_args!("'twire check' now says 'safe: {pairs} pairs'"));
+        lines.part(format_args!("safe: {pairs} pairs'"));
     } else {
-        lines.part(format_args!(
-            "'twire check' now says 'unsafe: {unsafe_pairs} of {pairs} pairs'"
-        ));
+        lines.part(format_args!("unsafe: {unsafe_pairs} of {pairs} pairs'"));
     }
-    if kept_apart != 0 {
-        lines.part(format_args!("; pairs that 'never' leaves unchecked: {kept_apart}"));
+    match kept_apart {
+        0 => {}
+        1 => lines.part(" (1 pair is not checked)"),
+        _ => lines.part(format_args!(" ({kept_apart} pairs are not checked)")),
     }
     lines.end();
     lines.finish()

@@ -33,8 +33,10 @@ pub enum Subject<'a> {
     Controller(&'a str),
     /// The offers of these numbers, as the command line has them.
     Offers(&'a str),
-    /// An edited text, which is refused so.
-    Edited(PlanError),
+    /// These files.
+    Files(&'a [&'a str]),
+    /// An edited text, which is refused so, and its file where several give the plan.
+    Edited(PlanError, Option<&'a str>),
 }
 
 /// Where a plan or a brief is refused.
@@ -68,6 +70,7 @@ struct Refusal<'a> {
     controller: Option<&'a str>,
     // as the command line has them
     offers: Option<&'a str>,
+    files: Option<&'a [&'a str]>,
     signal: Option<&'static str>,
     // of a token: how many bytes stand before it, and in its line and one, and what could stand there
     byte: Option<u64>,
@@ -238,8 +241,13 @@ pub fn word_object(
                 offers: Some(numbers),
                 ..refusal
             },
-            Subject::Edited(error) => Refusal {
+            Subject::Files(files) => Refusal {
+                files: Some(files),
+                ..refusal
+            },
+            Subject::Edited(error, file) => Refusal {
                 line: of_text(error).line,
+                file,
                 ..refusal
             },
         },
@@ -255,6 +263,7 @@ fn object_of(alloc: Global, reason: &str, refusal: Refusal<'_>) -> Result<String
     lines.field_if("label", &refusal.label);
     lines.field_if("controller", &refusal.controller);
     lines.field_if("offers", &refusal.offers);
+    lines.field_if("files", &refusal.files);
     lines.word_if("signal", refusal.signal);
     lines.number_if("byte", refusal.byte);
     lines.number_if("column", refusal.column);
@@ -343,6 +352,7 @@ fn coded(code: &'static str) -> Refusal<'static> {
         label: None,
         controller: None,
         offers: None,
+        files: None,
         signal: None,
         byte: None,
         column: None,

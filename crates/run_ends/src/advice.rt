@@ -284,11 +284,7 @@ fn tell<'x, R: Eprint + AllocGlobal>(
             let controller = Subject::Controller(drive_of(errand, *number).controller);
             return refused_by_word(rt, "drives", controller, reason, format);
         }
-        Halt::Untaken(untaken) => {
-            let offers = made(alloc, untaken.offers(alloc));
-            let subject = subject_of(untaken, offers.as_str());
-            return refused_by_word(rt, untaken.word(), subject, reason, format);
-        }
+        Halt::Untaken(untaken) => return tell_untaken(rt, untaken, reason, errand),
         Halt::Text(error, source) if format == Format::Messages => {
             return say_message(rt, text_message(alloc, of_text(*error, source, errand)));
         }
@@ -318,13 +314,39 @@ fn tell<'x, R: Eprint + AllocGlobal>(
     refused(rt, halt.error(), detail, reason, format);
 }
 
-// Of what the refusal of offers speaks: of these, or of a text.
-fn subject_of<'o>(untaken: &Untaken, offers: &'o str) -> Subject<'o> {
-    match untaken {
-        Untaken::NoPlan(error, _) => Subject::Edited(*error),
-        _ if offers.is_empty() => Subject::Nothing,
-        _ => Subject::Offers(offers),
+// The same of offers that are not taken.
+fn tell_untaken<R: Eprint + AllocGlobal>(
+    rt: &R,
+    untaken: &Untaken,
+    reason: &str,
+    errand: Errand<'_>,
+) {
+    let offers = made(rt.alloc(), untaken.offers(rt.alloc()));
+    let files = match files_of(rt.alloc(), untaken, errand) {
+        Ok(files) => files,
+        Err(_) => Vec::new(rt.alloc()),
+    };
+    let subject = match untaken {
+        Untaken::NoPlan(error, file) => Subject::Edited(*error, errand.named().path(*file)),
+        Untaken::Several(_) => Subject::Files(files.as_slice()),
+        _ => Subject::Offers(offers.as_str()),
+    };
+    refused_by_word(rt, untaken.word(), subject, reason, errand.extras.format);
+}
+
+// The files that change, where these are told.
+fn files_of<'a>(
+    alloc: Global,
+    untaken: &Untaken,
+    errand: Errand<'a>,
+) -> Result<Vec<&'a str>, AllocError> {
+    let mut files = Vec::new(alloc);
+    if let Untaken::Several(changed) = untaken {
+        for number in changed.iter() {
+            files.push(errand.named().files().of(*number).unwrap_or(""))?;
+        }
     }
+    Ok(files)
 }
 
 // The reason of a refusal that is not what hints say first. The message of a text has its own words.

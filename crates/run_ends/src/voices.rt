@@ -3,6 +3,7 @@
 use command_words::Format;
 use growing_text::{Text, push_shown, shown, visible};
 use hints::Hints;
+use plan_text::PlanError;
 use plan_words::called;
 use refusal_objects::{
     Detail, Subject, TextDetail, code_of, hint_objects, refusal_object, word_object,
@@ -130,15 +131,40 @@ pub(crate) fn refused_by_word<R: Eprint + AllocGlobal>(
 }
 
 fn say_refused_word<R: Eprint + AllocGlobal>(rt: &R, word: &'static str, subject: Subject<'_>) {
-    let _ = match subject {
-        Subject::Controller(name) => match visible(rt.alloc(), name) {
-            Ok(name) => eprintln!(rt; "refused {word} {name}"),
-            Err(_) => eprintln!(rt; "refused {word}"),
-        },
-        Subject::Offers(numbers) => eprintln!(rt; "refused {word} {numbers}"),
-        Subject::Edited(error) => eprintln!(rt; "refused {word} {error}"),
-        Subject::Nothing => eprintln!(rt; "refused {word}"),
+    let said = match subject {
+        Subject::Controller(name) => visible(rt.alloc(), name),
+        Subject::Offers(numbers) => String::from_str(rt.alloc(), numbers),
+        Subject::Files(files) => listed(rt.alloc(), files),
+        Subject::Edited(error, file) => edited_words(rt.alloc(), error, file),
+        Subject::Nothing => Ok(String::new(rt.alloc())),
     };
+    let _ = match said {
+        Ok(words) if !words.is_empty() => eprintln!(rt; "refused {word} {words}"),
+        _ => eprintln!(rt; "refused {word}"),
+    };
+}
+
+// Names of files, as far as a terminal shows them.
+fn listed(alloc: Global, files: &[&str]) -> Result<String, AllocError> {
+    let mut text = Text::new(alloc);
+    for (k, file) in files.iter().enumerate() {
+        if k != 0 {
+            text.push(", ");
+        }
+        push_shown(&mut text, file);
+    }
+    text.finish()
+}
+
+// What is refused in an edited text, and its file.
+fn edited_words(alloc: Global, error: PlanError, file: Option<&str>) -> Result<String, AllocError> {
+    let mut text = Text::new(alloc);
+    text.push_made(format!(in alloc; "{error}"));
+    if let Some(file) = file {
+        text.push(" of ");
+        push_shown(&mut text, file);
+    }
+    text.finish()
 }
 
 /// Writes hints. Where there is no memory for them, or standard error takes nothing, there are none.
