@@ -17,4 +17,4 @@ mod plans;
 mod reports;
 mod unchecked;
 
-pub use reports::{explain_answer, explain_check, explain_rehearsal};
+pub use reports::{explain_answer, explain_check, explain_offers, explain_rehearsal};

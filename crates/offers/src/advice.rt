@@ -25,11 +25,34 @@ pub struct Advice {
     pub lines: Vec<String>,
 }
 
+/// Which offers are shown.
+#[derive(Clone, Copy)]
+pub enum Shown {
+    /// The first four of each of the first so many groups, which are explained, and all of the list for all.
+    Explained(usize),
+    /// All.
+    All,
+}
+
+impl Shown {
+    /// Whether the group with this number is explained.
+    pub fn explains(self, g: usize) -> bool {
+        match self {
+            Shown::Explained(groups) => g < groups,
+            Shown::All => true,
+        }
+    }
+}
+
 impl Offers {
-    /// Whether an offer is shown where so many groups are explained: the first four of each of these are, and all of the list for
-    /// all.
-    pub fn shows(&self, offer: &Offer, explained: usize) -> bool {
-        offer.group < explained && offer.number <= SHOWN || self.lists(offer)
+    /// Whether an offer is shown where these are.
+    pub fn shows(&self, offer: &Offer, shown: Shown) -> bool {
+        match shown {
+            Shown::Explained(groups) => {
+                offer.group < groups && offer.number <= SHOWN || self.lists(offer)
+            }
+            Shown::All => true,
+        }
     }
 
     // Whether an offer is one of the list for all.
@@ -45,8 +68,7 @@ impl Offers {
     }
 }
 
-/// What is offered to mend the group with this number, which is explained: the first offers, those of the list for all, and how many
-/// more there are.
+/// What is offered to mend the group with this number, which is explained: the offers that are shown, and how many more there are.
 ///
 /// # Errors
 ///
@@ -56,11 +78,12 @@ pub fn advice_for_group(
     words: PlanWords<'_>,
     offers: &Offers,
     g: usize,
+    shown: Shown,
 ) -> Result<Vec<Advice>, AllocError> {
     let mut advice = Vec::new(alloc);
     let all = offers.of(g);
     for offer in all {
-        if offers.shows(offer, usize::MAX) {
+        if offers.shows(offer, shown) {
             advice.push(advice_of(alloc, words, offer)?)?;
         }
     }
@@ -77,8 +100,8 @@ pub fn advice_for_group(
     Ok(advice)
 }
 
-/// What is offered to mend all groups, and what a check then says. So many groups are explained, and the offers of the list for all that
-/// are for others follow.
+/// What is offered to mend all groups, and what a check then says. The offers of the list for all follow that are for groups which are
+/// not explained.
 ///
 /// # Errors
 ///
@@ -87,7 +110,7 @@ pub fn advice_for_all(
     alloc: Global,
     words: PlanWords<'_>,
     offers: &Offers,
-    explained: usize,
+    shown: Shown,
 ) -> Result<Vec<Advice>, AllocError> {
     let mut advice = Vec::new(alloc);
     if offers.together.places.is_empty() {
@@ -100,7 +123,7 @@ pub fn advice_for_all(
     }
     for place in offers.together.places.iter() {
         match offers.all.get(*place) {
-            Some(offer) if explained <= offer.group => {
+            Some(offer) if !shown.explains(offer.group) => {
                 advice.push(advice_of(alloc, words, offer)?)?;
             }
             _ => {}

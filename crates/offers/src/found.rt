@@ -236,10 +236,10 @@ fn push_offer(
     ensures { OnOk result (All (IsOffer (bytes_of it.texts.now) (plan_contents it.plan.now)
         (fault_list it.faults.now) (group_numbers groups.now)) all.new.items) }
 {
-    match offer_of(alloc, it, groups, tries, numbers, proposal)? {
-        Some(offer) => all.push(offer),
-        None => Ok(()),
+    if let Some(offer) = offer_of(alloc, it, groups, tries, numbers, proposal)? {
+        all.push(offer)?;
     }
+    Ok(())
 }
 
 // The number that a proposal for the last group would have. None where those before it leave no room for it.

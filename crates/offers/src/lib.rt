@@ -19,7 +19,7 @@ mod reasons;
 mod sides;
 mod tries;
 
-pub use advice::{Advice, advice_for_all, advice_for_group};
+pub use advice::{Advice, Shown, advice_for_all, advice_for_group};
 pub use found::{Offer, Offers, offers_of};
 pub use lists::Together;
 pub use proposals::{Change, Edited, Proposal};
