@@ -100,9 +100,7 @@ impl Told<'_> {
             if let Some(group) = groups.group(g) {
                 add_group(lines, groups, g, group);
                 self.add_example(lines, group.example, g < most);
-                if g < most {
-                    add_offers(lines, self.words, self.texts, offers, g);
-                }
+                add_offers(lines, self.words, self.texts, offers, g, most);
                 lines.end();
             }
             lines.write_block(out)?;

@@ -30,7 +30,8 @@ pub(crate) fn all_offered(
     offers: Option<&Offers>,
 ) -> Result<Vec<Offered>, AllocError> {
     match offers {
-        Some(offers) => texts_of(alloc, advice_for_all(alloc, words, offers)?),
+        // (the page explains all groups)
+        Some(offers) => texts_of(alloc, advice_for_all(alloc, words, offers, usize::MAX)?),
         None => Ok(Vec::new(alloc)),
     }
 }

@@ -1,5 +1,6 @@
 // The report of a check, explained.
 
+use crate::commands::command_for_all;
 use crate::faults::below_unsafe;
 use crate::group_lines::{above_rest, of_group, of_rest};
 use crate::plans::below_safe;
@@ -43,7 +44,8 @@ pub fn explain_check<O: Output>(
         let groups = (groups, offers);
         write_groups(alloc, words, faults, groups, detail.groups, &mut text, out)?;
     }
-    push_end(alloc, &mut text, checked, words, reasons, paint);
+    let explained = detail.groups as usize;
+    push_end(alloc, &mut text, checked, words, reasons, explained, paint);
     write_block(text, out)
 }
 
@@ -96,13 +98,14 @@ fn write_full<O: Output>(alloc: Global, text: &mut Text, out: &mut O) -> Result<
     Ok(())
 }
 
-// The last line, and below it the reasons and what was not checked.
+// The last line, and below it the reasons, where so many groups are explained, and what was not checked.
 fn push_end(
     alloc: Global,
     text: &mut Text,
     checked: &Checked,
     words: PlanWords<'_>,
     reasons: Option<&Reasons>,
+    explained: usize,
     paint: Paint,
 ) {
     let Checked { plan, faults } = checked;
@@ -111,16 +114,28 @@ fn push_end(
     paint.push_verdict(text, last_line(alloc, plan, faults.len()), word, is_safe);
     match reasons {
         Some(Reasons::Safe(safety)) => text.push_made(below_safe(alloc, safety)),
-        Some(Reasons::Unsafe(_, offers)) => text.push_made(offered(alloc, words, offers)),
+        Some(Reasons::Unsafe(_, offers)) => {
+            text.push_made(offered(alloc, words, offers, explained));
+        }
         None => return,
     }
     text.push_made(below_checked(alloc, words));
 }
 
-// What is offered to mend all unsafe pairs.
-fn offered(alloc: Global, words: PlanWords<'_>, offers: &Offers) -> Result<String, AllocError> {
-    let advice = advice_for_all(alloc, words, offers)?;
-    below_unsafe(alloc, advice.as_slice())
+// What is offered to mend all unsafe pairs, where so many groups are explained, and the command that makes these edits.
+fn offered(
+    alloc: Global,
+    words: PlanWords<'_>,
+    offers: &Offers,
+    explained: usize,
+) -> Result<String, AllocError> {
+    let advice = advice_for_all(alloc, words, offers, explained)?;
+    let command = if offers.together.places.is_empty() {
+        None
+    } else {
+        command_for_all(alloc, words.files())?
+    };
+    below_unsafe(alloc, advice.as_slice(), command)
 }
 
 // The line of an unsafe pair.
