@@ -142,11 +142,12 @@ fn offers_in(
 {
     let mut tries = Tries::new(it);
     let all = all_offers(alloc, it, groups, search, &mut tries)?;
+    tries.renew();
     let together = together_of(alloc, it, groups, all.as_slice(), &mut tries)?;
     Ok(Offers {
         all,
         together,
-        is_cut: tries.are_spent(),
+        is_cut: tries.are_cut(),
     })
 }
 

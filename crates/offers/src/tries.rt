@@ -15,8 +15,8 @@ use run_parts::{RunError, Watched};
 use std::alloc::{AllocError, Global};
 use verdicts::{Faults, faults};
 
-// How many steps all tries have together.
-const STEPS: u64 = 1_048_576;
+// How many steps the tries of all groups have, and then those of the list besides.
+const STEPS: u64 = 524_288;
 
 /// A plan, its faults, and the texts that give it.
 #[derive(Clone, Copy)]
@@ -44,6 +44,8 @@ pub struct Tries {
     cost: u64,
     steps: u64,
     is_spent: bool,
+    // whether the steps were spent before there were more
+    is_cut: bool,
 }
 
 impl Tries {
@@ -57,12 +59,25 @@ impl Tries {
             cost,
             steps: STEPS,
             is_spent: false,
+            is_cut: false,
         }
     }
 
-    /// Whether the steps did not suffice for a try.
+    /// As many steps more.
+    pub fn renew(&mut self) {
+        self.is_cut = self.are_cut();
+        self.is_spent = false;
+        self.steps = self.steps.saturating_add(STEPS);
+    }
+
+    /// Whether the steps do not suffice for a try.
     pub fn are_spent(&self) -> bool {
         self.is_spent
+    }
+
+    /// Whether they ever did not.
+    pub fn are_cut(&self) -> bool {
+        self.is_cut || self.is_spent
     }
 
     fn pay(&mut self) -> bool {
