@@ -50,9 +50,9 @@ pub struct Tries {
 
 impl Tries {
     /// None yet, over this plan.
-    pub fn new(it: Unedited<'_>) -> Tries {
-        let mut cost = u64::from(it.plan.pair_count());
-        for text in it.texts {
+    pub fn new(was: Unedited<'_>) -> Tries {
+        let mut cost = u64::from(was.plan.pair_count());
+        for text in was.texts {
             cost = cost.saturating_add(text.len() as u64);
         }
         Tries {
@@ -102,18 +102,18 @@ impl Tries {
     pub fn outcome(
         &mut self,
         alloc: Global,
-        it: Unedited<'_>,
+        was: Unedited<'_>,
         edits: &[Edit],
     ) -> Result<Option<Outcome>, AllocError>
-        requires { AreFaults (plan_contents it.plan.now) (fault_list it.faults.now) }
+        requires { AreFaults (plan_contents was.plan.now) (fault_list was.faults.now) }
         ensures { IfOk result (λ found. IfSome found (λ outcome.
-            IsTried (bytes_of it.texts.now) (plan_contents it.plan.now) (fault_list it.faults.now) edits.now outcome)) }
+            IsTried (bytes_of was.entry.texts.now) (plan_contents was.entry.plan.now) (fault_list was.entry.faults.now) edits.now outcome)) }
     {
         if !self.pay() {
             return Ok(None);
         }
-        match plan_with(alloc, it.texts, edits)? {
-            Some(edited) => outcome_of(alloc, it.plan, it.faults, &edited),
+        match plan_with(alloc, was.texts, edits)? {
+            Some(edited) => outcome_of(alloc, was.plan, was.faults, &edited),
             None => Ok(None),
         }
     }
@@ -205,8 +205,14 @@ fn are_same(texts: &[Vec<u8>], others: &[Vec<u8>]) -> bool
     match (texts, others) {
         ([], []) => true,
         ([text, texts @ ..], [other, others @ ..]) => {
-            text.as_slice() == other.as_slice() && are_same(texts, others)
+            is_same(text.as_slice(), other.as_slice()) && are_same(texts, others)
         }
         _ => false,
     }
+}
+
+fn is_same(text: &[u8], other: &[u8]) -> bool
+    ensures { IsTrue result → text.now ≡ other.now }
+{
+    text == other
 }
