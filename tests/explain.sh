@@ -1401,13 +1401,12 @@ told "the longest that clash, by check" "    group 0, pair 0:
 $meets
     $right/$other: 1 pair,
     lengths differ
-    0.1 let bit 7 of data byte 1 be 0 in '$one' and 1 in '$other':
-    board.brief:2, board.brief:3
+    0.1 let bit 7 of data byte 1 be 0 in '$one' and
+    1 in '$other': board.brief:2, board.brief:3
     message $one write 0x48 0b0xxxxxxx any*254 ;
     message $other write 0x48 0b1xxxxxxx any*253 ;
-    0.2 let
-    '$other' send 1 byte
-    more, as many as the other side: board.brief:3
+    0.2 let '$other' send 1 byte more, as many as the
+    other side: board.brief:3
     message $other write 0x48 any*254 any ;
     to mend all pairs: 0.1; then check says 'safe: 1 pairs'
     to make these edits: twire mend board.brief --all --in-place" check board.brief
