@@ -32,8 +32,12 @@ awk "$alike" out | sed -e '/^    0\.5 /,/^unsafe/{/^unsafe/!d}' >found
 sed -i '/^    and 2 more offers$/d' told
 same_file "the first four as check says them" told found
 
-# The words of all groups are those of check, where it shows all offers.
+# The words of all groups are those of check, where it shows all offers. (A plan of thousands of pairs takes a trial build long.)
+plans=()
 for plan in "$examples"/*.plan "$examples"/*.brief; do
+    [[ $plan == */server_board.* ]] || plans+=("$plan")
+done
+for plan in "${plans[@]}"; do
     cp "$plan" .
     plan=${plan##*/}
     "$twire" check "$plan" --summary --most 1000 | awk "$alike" | sed '/^    .*decided\|^    .*alike\|^    no pair/d' >told
@@ -110,8 +114,7 @@ expect "both groups" 0 "$(sed '2s/write 0010000/read 0010000 1/; 4s/write 001000
 expect "the list of two groups" 0 "$(sed '2s/write 0010000/read 0010000 1/; 4s/write 0010001/read 0010001 1/' two.plan)" "" mend two.plan --all
 
 # What the last lines say is what check says of the texts with the list.
-for plan in "$examples"/*.plan "$examples"/*.brief six.brief two.plan; do
-    cp "$plan" mended 2>/dev/null
+for plan in "${plans[@]}" six.brief two.plan; do
     "$twire" mend "$plan" --all >mended
     status=$?
     said=$("$twire" mend "$plan" | sed -n "s/.*check says '\(.*\)'.*/\1/p")
