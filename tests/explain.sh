@@ -31,9 +31,6 @@ want 1 "pair 0 main/write_output service/probe_10: data against stop after 00100
     0.1 let 'probe_10' read one byte, in place of a header alone:
     stop_meets_data.plan:23
     read 0010000 1 stop else stop ;
-    0.2 let 'probe_10' send 1 byte more, as many as the other side:
-    stop_meets_data.plan:23
-    write 0010000 xxxxxxxx stop else stop else stop ;
 unsafe: 1 of 2 pairs
     to mend all pairs: 0.1; then check says 'safe: 2 pairs'
     to make these edits: twire mend stop_meets_data.plan --all --in-place" ""
@@ -78,7 +75,7 @@ pair 2 !al !second: claim against claim after 10010001
     a/get × !al: 1 pair, an interrupt has the same header
     0.1 give the interrupt 'al' an address that nothing else has: p.plan:4
     (mends groups 0, 2: 2 of 3 unsafe pairs)
-    interrupt al 0001000 ;
+    interrupt al 0001001 ;
     group 1, pair 1:
     bus      S 48 Rd
     a/get    S 48 Rd          next: a target's bit
@@ -88,7 +85,7 @@ pair 2 !al !second: claim against claim after 10010001
     a/get × !second: 1 pair, an interrupt has the same header
     1.1 give the interrupt 'second' an address that nothing else has: p.plan:5
     (mends groups 1, 2: 2 of 3 unsafe pairs)
-    interrupt second 0001001 ;
+    interrupt second 0001010 ;
     group 2, pair 2:
     bus      S 48 Rd
     !al      S 48 Rd (waits)  next: a wait for the answer
@@ -98,10 +95,10 @@ pair 2 !al !second: claim against claim after 10010001
     !al × !second: 1 pair, an interrupt has the same header
     2.1 give the interrupt 'al' an address that nothing else has: p.plan:4
     (mends groups 0, 2: 2 of 3 unsafe pairs)
-    interrupt al 0001000 ;
+    interrupt al 0001001 ;
     2.2 give the interrupt 'second' an address that nothing else has: p.plan:5
     (mends groups 1, 2: 2 of 3 unsafe pairs)
-    interrupt second 0001001 ;
+    interrupt second 0001010 ;
 unsafe: 3 of 3 pairs
     to mend all pairs: 0.1, 1.1; then check says 'safe: 3 pairs'
     to make these edits: twire mend p.plan --all --in-place" ""
@@ -137,9 +134,7 @@ one="    group 0, 2 pairs, such as pair 0:
     a/w × b/p, a/w × c/p: 2 pairs, lengths differ
     0.1 let 'p' read one byte, in place of a header alone: p.plan:3
     message p read 1001000 1 stop else stop ;
-    0.2 let 'p' send 1 byte more, as many as the other side: p.plan:3
-    message p write 1001000 xxxxxxxx stop else stop else stop ;
-    0.3 keep the two sides apart by a lock outside the bus: 2 of 3 pairs are
+    0.2 keep the two sides apart by a lock outside the bus: 2 of 3 pairs are
     then not checked, more than half: p.plan:7, p.plan:8
     never a b ;
     never a c ;
@@ -192,7 +187,7 @@ unsafe: 6 of 18 pairs
     groups 0, 1: 5 of 6 unsafe pairs)
     message p read 1001000 1 stop else stop ;
     2.1 give the interrupt 'al' an address that nothing else has: p.plan:9
-    interrupt al 0001000 ;
+    interrupt al 0001001 ;
     to make these edits: twire mend p.plan --all --in-place" ""
 run "several pairs of two controllers, beside one with an interrupt" check --explain --most 0 p.plan
 want 1 "$six
@@ -205,10 +200,7 @@ want 1 "$six
     0.1 let 'p' read one byte, in place of a header alone: p.plan:4 (mends
     groups 0, 1: 5 of 6 unsafe pairs)
     message p read 1001000 1 stop else stop ;
-    0.2 let 'p' send 1 byte more, as many as the other side: p.plan:4 (mends
-    groups 0, 1: 5 of 6 unsafe pairs)
-    message p write 1001000 xxxxxxxx stop else stop else stop ;
-    0.3 keep the two sides apart by a lock outside the bus: 12 of 18 pairs are
+    0.2 keep the two sides apart by a lock outside the bus: 12 of 18 pairs are
     then not checked, more than half: p.plan:10, p.plan:11, p.plan:12 (mends
     groups 0, 1: 5 of 6 unsafe pairs)
     never a b ;
@@ -223,10 +215,7 @@ want 1 "$six
     1.1 let 'p' read one byte, in place of a header alone: p.plan:4 (mends
     groups 0, 1: 5 of 6 unsafe pairs)
     message p read 1001000 1 stop else stop ;
-    1.2 let 'p' send 1 byte more, as many as the other side: p.plan:4 (mends
-    groups 0, 1: 5 of 6 unsafe pairs)
-    message p write 1001000 xxxxxxxx stop else stop else stop ;
-    1.3 keep the two sides apart by a lock outside the bus: 8 of 18 pairs are
+    1.2 keep the two sides apart by a lock outside the bus: 8 of 18 pairs are
     then not checked: p.plan:10, p.plan:11
     never a b ;
     never a c ;
@@ -235,7 +224,7 @@ want 1 "$six
 unsafe: 6 of 18 pairs
     to mend all pairs: 0.1, 2.1; then check says 'safe: 18 pairs'
     2.1 give the interrupt 'al' an address that nothing else has: p.plan:9
-    interrupt al 0001000 ;
+    interrupt al 0001001 ;
     to make these edits: twire mend p.plan --all --in-place" ""
 run "the shortest wire first" check --explain --most 2 p.plan
 printf 'never b a ;\n' >>p.plan
@@ -253,7 +242,7 @@ unsafe: 4 of 14 pairs
     groups 0, 2: 3 of 4 unsafe pairs)
     message p read 1001000 1 stop else stop ;
     1.1 give the interrupt 'al' an address that nothing else has: p.plan:9
-    interrupt al 0001000 ;
+    interrupt al 0001001 ;
     to make these edits: twire mend p.plan --all --in-place
     not checked: 4 of 18 pairs, which 'never' keeps apart" ""
 run "a never that the plan has is not named" check --explain --most 0 p.plan
@@ -264,7 +253,7 @@ want 1 "pair 3 b/q !al: answer against claim after 00100001
 unsafe: 1 of 6 pairs
     to mend all pairs: 0.1; then check says 'safe: 6 pairs'
     0.1 give the interrupt 'al' an address that nothing else has: p.plan:9
-    interrupt al 0001000 ;
+    interrupt al 0001001 ;
     to make these edits: twire mend p.plan --all --in-place
     not checked: 12 of 18 pairs, which 'never' keeps apart" ""
 run "with these items the pair with the interrupt is left" check --explain --most 0 p.plan
@@ -391,9 +380,7 @@ plan 'plan 1' "message w1 write 1010000$(any 2)$(tails 3)" "message w2 write 101
 mends "three groups, each with edits of its own" "\
     0.1 let 'probe' read one byte, in place of a header alone: p.plan:5
     message probe read 1010001 1 stop else stop ;
-    0.2 let 'probe' send 1 byte more, as many as the other side: p.plan:5
-    message probe write 1010001 xxxxxxxx stop else stop else stop ;
-    0.3 keep the two sides apart by a lock outside the bus: 4 of 8 pairs are
+    0.2 keep the two sides apart by a lock outside the bus: 4 of 8 pairs are
     then not checked: p.plan:1, p.plan:10 (mends groups 0, 1: 2 of 3 unsafe
     pairs)
     plan 2
@@ -498,9 +485,7 @@ echo 'controller c far ;' >>p.plan
 mends "no edit of messages mends each pair" "\
     0.1 let 'probe' read one byte, in place of a header alone: p.plan:3
     message probe read 1010001 1 stop else stop ;
-    0.2 let 'probe' send 1 byte more, as many as the other side: p.plan:3
-    message probe write 1010001 xxxxxxxx stop else stop else stop ;
-    0.3 keep the two sides apart by a lock outside the bus: 6 of 11 pairs are
+    0.2 keep the two sides apart by a lock outside the bus: 6 of 11 pairs are
     then not checked, more than half: p.plan:1, p.plan:10 (mends groups 0, 1: 2
     of 2 unsafe pairs)
     plan 2
@@ -511,7 +496,7 @@ mends "no edit of messages mends each pair" "\
     plan 2
     never a b ;
 unsafe: 2 of 11 pairs
-    to mend all pairs: 0.1, 0.3; then check says 'safe: 5 pairs' (6 are not
+    to mend all pairs: 0.1, 0.2; then check says 'safe: 5 pairs' (6 are not
     checked)
     to make these edits: twire mend p.plan --all --in-place"
 sed 's/^plan 1/plan 2/' p.plan >q.plan
@@ -833,7 +818,7 @@ pair 6 bmc_set/set pch/get: data against restart after 10010000l00000001l
     not checked: board.brief:9
     never bmc/set pch/get ;
 unsafe: 3 of 7 pairs
-    to mend all pairs: 1.1, 0.1; then check says 'safe: 5 pairs' (2 are not
+    to mend all pairs: 1.2, 0.1; then check says 'safe: 4 pairs' (3 are not
     checked)
     to make these edits: twire mend board.brief --all --in-place
     not checked: 2 of 9 pairs, which 'never' keeps apart" ""
@@ -1136,7 +1121,7 @@ pair 2 !al !second: claim against claim after 10010001
     a/get × !al: 1 pair, an interrupt has the same header
     0.1 give the interrupt 'al' an address that nothing else has: board.brief:6
     (mends groups 0, 2: 2 of 3 unsafe pairs)
-    interrupt al 0x08 ; interrupt second sensor ;
+    interrupt al 0x09 ; interrupt second sensor ;
     group 1, pair 1:
     bus      S 48 Rd
     a/get    S 48 Rd          next: a target's bit
@@ -1147,7 +1132,7 @@ pair 2 !al !second: claim against claim after 10010001
     a/get × !second: 1 pair, an interrupt has the same header
     1.1 give the interrupt 'second' an address that nothing else has:
     board.brief:6 (mends groups 1, 2: 2 of 3 unsafe pairs)
-    interrupt al sensor ; interrupt second 0x09 ;
+    interrupt al sensor ; interrupt second 0x0A ;
     group 2, pair 2:
     bus      S 48 Rd
     !al      S 48 Rd (waits)  next: a wait for the answer
@@ -1158,10 +1143,10 @@ pair 2 !al !second: claim against claim after 10010001
     !al × !second: 1 pair, an interrupt has the same header
     2.1 give the interrupt 'al' an address that nothing else has: board.brief:6
     (mends groups 0, 2: 2 of 3 unsafe pairs)
-    interrupt al 0x08 ; interrupt second sensor ;
+    interrupt al 0x09 ; interrupt second sensor ;
     2.2 give the interrupt 'second' an address that nothing else has:
     board.brief:6 (mends groups 1, 2: 2 of 3 unsafe pairs)
-    interrupt al sensor ; interrupt second 0x09 ;
+    interrupt al sensor ; interrupt second 0x0A ;
 unsafe: 3 of 3 pairs
     to mend all pairs: 0.1, 1.1; then check says 'safe: 3 pairs'
     to make these edits: twire mend board.brief --all --in-place" ""
