@@ -504,7 +504,7 @@ echo 'never a b ;' >>q.plan
 want 0 "safe: 5 pairs" ""
 run "the item that is offered, where the first line became 'plan 2'" check q.plan
 # What mends all pairs does not depend on how many groups are explained. Its offers that no group shows follow.
-last="to mend all pairs: 0.1, 0.3; then check says 'safe: 5 pairs' (6 are not
+last="to mend all pairs: 0.1, 0.2; then check says 'safe: 5 pairs' (6 are not
     checked)"
 made="    to make these edits: twire mend p.plan --all --in-place"
 want 1 "    $last
@@ -515,7 +515,7 @@ compare "the last lines with --most 1"
 want 1 "    $last
     0.1 let 'probe' read one byte, in place of a header alone: p.plan:3
     message probe read 1010001 1 stop else stop ;
-    0.3 keep the two sides apart by a lock outside the bus: 6 of 11 pairs are
+    0.2 keep the two sides apart by a lock outside the bus: 6 of 11 pairs are
     then not checked, more than half: p.plan:1, p.plan:10 (mends groups 0, 1: 2
     of 2 unsafe pairs)
     plan 2
