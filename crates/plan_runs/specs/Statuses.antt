@@ -1,6 +1,5 @@
 -- The status of a run over what gives a plan, whatever form its report has.
-use Rattle.std.specs.Prelude.{◌≡◌, ℕ, Bool, true, List, Option, None, Some, Contains, Vec}
-use Rattle.std.specs.declared.alloc.Global.{Global}
+use Rattle.std.specs.Prelude.{◌≡◌, ℕ, Bool, true, List, Option, None, Some}
 use Rattle.cert_check.specs.Accepts.{IsAnswer}
 use Rattle.cert_check.specs.declared.answers.Answer.{Answer}
 use Rattle.plan_findings.specs.Unchecked.{IsAllChecked}
@@ -8,9 +7,8 @@ use Rattle.given_plans.specs.Sources.{GiveThePlan, ReadsTexts}
 use Rattle.plan_core.specs.Contents.{Contents}
 use Rattle.plan_core.specs.Faults.{IsSafe}
 use Rattle.report.specs.Checks.{Judges}
-use Rattle.run_parts.specs.Devices.{Reader, Writer}
+use Rattle.run_parts.specs.Devices.{Reader}
 use Rattle.run_parts.specs.Runs.{ReadsText}
-use Rattle.run_parts.specs.Writing.{WritesAll}
 use Rattle.run_parts.specs.declared.runs.Status.{Status}
 use Rattle.run_parts.specs.declared.runs.Status.TheVariants.{Good, Bad, Refused}
 use Rattle.verifying.specs.Answers.{answer_status}
@@ -43,12 +41,6 @@ pub record GiveJudged (texts : List (List ℕ)) (status : Status) : Type 0 where
   pub plan : Contents
   pub given : GiveThePlan texts plan
   pub judged : Judges status plan
-
--- the writer took one of these texts, from its first byte to its last
-pub record WritesOne {D : Type 0} (writer : Writer D) (texts : List (Vec ℕ Global)) (before now : D) : Type 0 where
-  pub text : Vec ℕ Global
-  pub is_one : Contains texts text
-  pub written : WritesAll writer before text.items now
 
 -- it is this plan, and it is such
 abbrev pub IsOf : Contents → (Contents → Type 0) → Contents → Type 0

@@ -1,10 +1,10 @@
 // Runs over what is offered to mend a plan: they list it, or take offers. The texts with their edits are read and checked as those of
 // any plan, so that a status is that of what is written.
 
-ghost use Rattle.std.specs.Prelude.{◌≡◌, false, IfOk, IsSomeAnd};
+ghost use Rattle.std.specs.Prelude.{IfOk, IsSomeAnd};
 ghost use Rattle.given_plans.specs.Sources.{GiveThePlan, ReadsTexts, bytes_of};
 ghost use Rattle.plan_core.specs.PlanContents.{plan_contents};
-ghost use Rattle.plan_runs.specs.Statuses.{GiveJudged, OfGivenPlan, WritesOne};
+ghost use Rattle.plan_runs.specs.Statuses.{GiveJudged, OfGivenPlan};
 ghost use Rattle.report.specs.Checks.{Judges};
 ghost use Rattle.verdicts.specs.Faults.{AreFaults, fault_list};
 
@@ -128,8 +128,6 @@ pub fn take_offers<R: Eprint + Clock + AllocGlobal + Threads + Sync, I: Input, O
 ) -> Result<Ended, Halt>
     ensures mended { IfOk result (λ it. IsSomeAnd it.mended (λ mended.
         GiveJudged (bytes_of mended.provenance.texts.items) it.status)) }
-    ensures written { mend.entry.in_place ≡ false → IfOk result (λ it. IsSomeAnd it.mended (λ mended.
-        WritesOne O.writer mended.provenance.texts.items out.old out.new)) }
 {
     let alloc = rt.alloc();
     let gate = Comparing::new(rt, extras.watcher);
@@ -315,9 +313,7 @@ fn unread(halted: Halted) -> Halt {
 }
 
 // Writes the text with this number.
-fn write_text<O: Output>(texts: &[Vec<u8>], number: u32, out: &mut O) -> Result<Status, RunError>
-    ensures { IfOk result (λ it. WritesOne O.writer texts.now out.old out.new) }
-{
+fn write_text<O: Output>(texts: &[Vec<u8>], number: u32, out: &mut O) -> Result<Status, RunError> {
     let number = number as usize;
     if texts.len() <= number {
         return Err(RunError::Read);
@@ -328,8 +324,7 @@ fn write_text<O: Output>(texts: &[Vec<u8>], number: u32, out: &mut O) -> Result<
 fn ended_with<I: Input>(found: GivenCheck, plans: &Sources<'_, I>, changed: Vec<u32>) -> Ended
     requires given { GiveThePlan (bytes_of found.provenance.texts.items) (plan_contents found.checked.plan) }
     requires faults { AreFaults (plan_contents found.checked.plan) (fault_list found.checked.faults) }
-    ensures judged { IsSomeAnd result.mended (λ mended. GiveJudged (bytes_of mended.provenance.texts.items) result.status) }
-    ensures texts { IsSomeAnd result.mended (λ mended. mended.provenance ≡ found.provenance) }
+    ensures { IsSomeAnd result.mended (λ mended. GiveJudged (bytes_of mended.provenance.texts.items) result.status) }
 {
     let status = status_in(&found);
     let then = then_of(&found, plans);
