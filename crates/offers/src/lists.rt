@@ -1,8 +1,9 @@
 // Offers that go together: the list that mends as many groups as possible.
 
-ghost use Rattle.std.specs.Prelude.{IfOk};
+ghost use Rattle.std.specs.Prelude.{IfOk, IfSome, OnOk};
 ghost use Rattle.given_plans.specs.Sources.{bytes_of};
 ghost use Rattle.offers.specs.Offered.{IsTogether};
+ghost use Rattle.offers.specs.Tried.{IsTried};
 ghost use Rattle.plan_core.specs.PlanContents.{plan_contents};
 ghost use Rattle.verdicts.specs.Faults.{AreFaults, fault_list};
 
@@ -64,7 +65,7 @@ pub fn together_of(
         };
         if let (Some(offer), Some(is_unused)) = (offers.get(best), unused.get_mut(best)) {
             *is_unused = false;
-            list = list.with(
+            list.take(
                 alloc,
                 was,
                 groups,
@@ -77,42 +78,77 @@ pub fn together_of(
     Ok(list)
 }
 
+// Edits of several offers, and what comes of them.
+#[derive(Drop)]
+struct TriedList {
+    edits: Vec<Edit>,
+    outcome: Outcome,
+}
+
 impl Together {
     // With one more, where it can be had with these and mends what it mends alone.
-    fn with(
-        self,
+    fn take(
+        &mut self,
         alloc: Global,
         was: Unedited<'_>,
         groups: &Grouped,
         tries: &mut Tries,
         further: (usize, &Offer),
         open: &mut [bool],
-    ) -> Result<Together, AllocError>
+    ) -> Result<(), AllocError>
         requires faults { AreFaults (plan_contents was.plan.now) (fault_list was.faults.now) }
         requires before { IsTogether (bytes_of was.texts.now) (plan_contents was.plan.now)
-            (fault_list was.faults.now) self }
-        ensures { IfOk result (λ list. IsTogether (bytes_of was.entry.texts.now) (plan_contents was.entry.plan.now)
-            (fault_list was.entry.faults.now) list) }
+            (fault_list was.faults.now) self.old }
+        ensures { OnOk result (IsTogether (bytes_of was.entry.texts.now) (plan_contents was.entry.plan.now)
+            (fault_list was.entry.faults.now) self.new) }
     {
         let (place, offer) = further;
         let own = offer.proposal.edits.as_slice();
-        let Some(edits) = joined(alloc, self.edits.as_slice(), own)? else {
-            return Ok(self);
-        };
-        let Some(outcome) = tries.outcome(alloc, was, edits.as_slice())? else {
-            return Ok(self);
-        };
-        let mended = mended_by(alloc, groups, outcome.left.as_slice())?;
-        if outcome.pairs == 0 || !are_mended(mended.as_slice(), open, offer) {
-            return Ok(self);
+        let tried = tried_with(alloc, was, tries, self.edits.as_slice(), own)?;
+        if let Some(tried) = tried {
+            if mends_all(alloc, groups, &tried.outcome, open, offer)? {
+                close(open, offer);
+                self.places.push(place)?;
+                let TriedList { edits, outcome } = tried;
+                self.edits = edits;
+                self.outcome = Some(outcome);
+            }
         }
-        close(open, offer);
-        let mut list = self;
-        list.places.push(place)?;
-        list.edits = edits;
-        list.outcome = Some(outcome);
-        Ok(list)
+        Ok(())
     }
+}
+
+// What comes of these edits and of further ones. None where they overlap, and where they cannot be offered.
+fn tried_with(
+    alloc: Global,
+    was: Unedited<'_>,
+    tries: &mut Tries,
+    edits: &[Edit],
+    own: &[Edit],
+) -> Result<Option<TriedList>, AllocError>
+    requires { AreFaults (plan_contents was.plan.now) (fault_list was.faults.now) }
+    ensures { IfOk result (λ found. IfSome found (λ tried. IsTried (bytes_of was.entry.texts.now)
+        (plan_contents was.entry.plan.now) (fault_list was.entry.faults.now) tried.edits.items tried.outcome)) }
+{
+    let Some(edits) = joined(alloc, edits, own)? else {
+        return Ok(None);
+    };
+    match tries.outcome(alloc, was, edits.as_slice())? {
+        Some(outcome) => Ok(Some(TriedList { edits, outcome })),
+        None => Ok(None),
+    }
+}
+
+// Whether there is something to check then, and no pair is left of what is not open, or of what the offer mends.
+fn mends_all(
+    alloc: Global,
+    groups: &Grouped,
+    outcome: &Outcome,
+    open: &[bool],
+    offer: &Offer,
+) -> Result<bool, AllocError> {
+    let mended = mended_by(alloc, groups, outcome.left.as_slice())?;
+    Ok(outcome.pairs != 0 && are_mended(mended.as_slice(), open, offer))
 }
 
 // Of the offers that mend open groups the one with the least price, of several the one that mends the most pairs of open groups, and of
