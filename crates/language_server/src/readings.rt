@@ -42,7 +42,8 @@ impl Reading {
         }
     }
 
-    fn spans(&self) -> &Spans {
+    /// The names that were read.
+    pub(crate) fn spans(&self) -> &Spans {
         match self {
             Reading::Plan(given) => &given.provenance.spans,
             Reading::Refused(spans) => spans,
