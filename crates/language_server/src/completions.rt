@@ -14,6 +14,7 @@ use plan_text::places::Further;
 use run_values::{Halt, RefusedSource};
 use serde::Serialize;
 use std::alloc::{AllocError, Global};
+use std::mem;
 
 // A word that stands nowhere. The reader says what it would have taken in its place.
 const NOTHING: &[u8] = b" ?";
@@ -332,9 +333,9 @@ impl<'n, 'a> List<'n, 'a> {
         self.before = ",";
     }
 
-    fn finish(self) -> Result<String, AllocError> {
-        let List { alloc, text, .. } = self;
-        let mut list = Text::new(alloc);
+    fn finish(mut self) -> Result<String, AllocError> {
+        let text = mem::replace(&mut self.text, Text::new(self.alloc));
+        let mut list = Text::new(self.alloc);
         list.push("[");
         list.push_made(text.finish());
         list.push("]");
