@@ -147,7 +147,7 @@ fn nevers_in(found: &[Value], sources: &[Source]) -> HashMap<usize, Vec<Edit>> {
     nevers
 }
 
-// Whether they put `never` items at the end of the last text, and else nothing: a `plan 1` becomes a `plan 2`.
+// Whether they put `never` items at the end of the last text, each on a line, and else nothing: a `plan 1` becomes a `plan 2`.
 fn add_nevers(edits: &[Edit], sources: &[Source]) -> bool {
     let Some((made, (old, before))) = edited(sources, edits).zip(sources.split_last()) else {
         return false;
@@ -166,6 +166,19 @@ fn add_nevers(edits: &[Edit], sources: &[Source]) -> bool {
         && first.iter().zip(&old_words).all(|(a, b)| a.is(b.text))
         && !more.is_empty()
         && more.chunks(4).all(is_never)
+        && are_lines(&old.text, &made[before.len()].text, more.len() / 4)
+}
+
+// Whether so many lines were put at the end of a text. They end as its last line feed does, and the last of them does if one ended
+// the text.
+fn are_lines(old: &str, made: &str, number: usize) -> bool {
+    let is_crlf = old.rfind('\n').is_some_and(|at| old[..at].ends_with('\r'));
+    let lines: Vec<&str> = made.get(old.len()..).unwrap_or("").split(if is_crlf { "\r\n" } else { "\n" }).collect();
+    let (empty, lines) = match old.ends_with('\n') {
+        true => lines.split_last().unwrap_or((&"", &[])),
+        false => lines.split_first().unwrap_or((&"", &[])),
+    };
+    empty.is_empty() && lines.len() == number && lines.iter().all(|line| !line.is_empty() && !line.contains(['\r', '\n']))
 }
 
 // Whether four others are shown, and one more there is than is due: `never` items that are not shown. Then so many are due.

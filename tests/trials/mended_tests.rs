@@ -138,9 +138,7 @@ fn edits_of_several_files_are_compared() {
         "brief 1\nmessage n write d 0x01 ;\ncontroller b n ;\n",
     ];
     let is_right = |file: &str| {
-        let read = [edit(file, (2, 11), "write d", "read d 1")];
-        let longer = [edit(file, (2, 18), "", " any")];
-        let all = [offer("0.1", "read", &[&read[0]]), offer("0.2", "length", &[&longer[0]])];
+        let all = [offer("0.1", "read", &[&edit(file, (2, 11), "write d", "read d 1")])];
         is_as_due(&briefs, &[&offers(&all, 0)], &list("\"0.1\"", (1, 0)))
     };
     assert!(is_right("brief2"));
@@ -155,10 +153,7 @@ fn edits_of_a_file_that_a_head_names_are_compared() {
         "brief 1\ndevice d 0x50 ;\nmessage m write d ;\n",
     ];
     let is_right = |file: &str| {
-        let all = [
-            offer("0.1", "read", &[&edit(file, (3, 11), "write d", "read d 1")]),
-            offer("0.2", "length", &[&edit(file, (3, 18), "", " any")]),
-        ];
+        let all = [offer("0.1", "read", &[&edit(file, (3, 11), "write d", "read d 1")])];
         is_as_due(&briefs, &[&offers(&all, 0)], &list("\"0.1\"", (1, 0)))
     };
     assert!(is_right("./brief2"));
@@ -211,10 +206,14 @@ fn never_items_are_tried_as_they_are_shown() {
     let end = |puts: &str| vec![edit("plan", (7, 1), "", puts)];
     // all four pairs of a and b, or the two of other messages
     assert!(is_right(&end("never a b ;\\n"), 4, (4, 0)));
-    assert!(is_right(&end("never b a ;"), 4, (4, 0)));
+    assert!(is_right(&end("never b a ;\\n"), 4, (4, 0)));
     assert!(is_right(&end("never a/page_1 b/page_2 ;\\nnever a/page_2 b/page_1 ;\\n"), 2, (6, 0)));
     // the price
     assert!(!is_right(&end("never a b ;\\n"), 2, (4, 0)));
+    // the line feed
+    assert!(!is_right(&end("never a b ;"), 4, (4, 0)));
+    assert!(!is_right(&end("\\nnever a b ;\\n"), 4, (4, 0)));
+    assert!(!is_right(&end("never a b ;\\r\\n"), 4, (4, 0)));
     // what is left apart is another pair, or one pair is left
     assert!(!is_right(&end("never a c ;\\n"), 2, (6, 2)));
     assert!(!is_right(&end("never a/page_1 b/page_2 ;\\n"), 1, (7, 1)));
@@ -223,6 +222,28 @@ fn never_items_are_tried_as_they_are_shown() {
     assert!(!is_right(&end("never a b ; device d 0x51 ;\\n"), 4, (4, 0)));
     assert!(!is_right(&[edit("plan", (6, 1), "", "never a b ;\\n")], 4, (4, 0)));
     assert!(!is_right(&[edit("plan", (2, 30), "1", "2"), edit("plan", (7, 1), "", "never a b ;\\n")], 4, (4, 0)));
+}
+
+// Lines end as the last one of the text that is ended.
+#[test]
+fn lines_of_never_items_end_as_those_of_their_text() {
+    let is_right = |text: &str, at: (usize, usize), puts: &str| {
+        let edits = [edit("plan", at, "", puts)];
+        is_as_due(&[text], &[&never(&edits, 2, 4)], &list("\"0.1\"", (4, 0)))
+    };
+    let text = FAMILY.replace('\n', "\r\n");
+    assert!(is_right(&text, (7, 1), "never a b ;\\r\\n"));
+    assert!(!is_right(&text, (7, 1), "never a b ;\\n"));
+    // the last line is not ended
+    assert!(is_right(text.trim_end(), (6, 19), "\\r\\nnever a b ;"));
+    assert!(!is_right(text.trim_end(), (6, 19), "\\nnever a b ;"));
+    assert!(!is_right(text.trim_end(), (6, 19), "\\r\\nnever a b ;\\r\\n"));
+    assert!(is_right(FAMILY.trim_end(), (6, 19), "\\nnever a b ;"));
+    // no line is
+    assert!(is_right(&FAMILY.replace('\n', " "), (1, FAMILY.len() + 1), "\\nnever a b ;"));
+    // lines end otherwise before
+    let mixed = FAMILY.replacen('\n', "\r\n", 5);
+    assert!(is_right(&mixed, (7, 1), "never a b ;\\n") && !is_right(&mixed, (7, 1), "never a b ;\\r\\n"));
 }
 
 #[test]
@@ -240,7 +261,7 @@ controller c m ;
     };
     let items = "never a b ;\\nnever b c ;\\n";
     assert!(is_right(&[edit("plan", (1, 6), "1", "2"), edit("plan", (7, 1), "", items)]));
-    assert!(is_right(&[edit("plan", (1, 1), "plan 1", "plan 2"), edit("plan", (6, 17), "", &format!("\\n{items}"))]));
+    assert!(is_right(&[edit("plan", (1, 1), "plan 1", "plan 2"), edit("plan", (6, 17), "", "\\nnever a b ;\\nnever b c ;")]));
     // a `plan 1` has no `never`
     assert!(!is_right(&[edit("plan", (7, 1), "", items)]));
 }

@@ -47,7 +47,7 @@ pub fn try_mendings(crew: &mut Crew, score: &mut Score, lot: Lot) -> io::Result<
 /// A check of the next one that is made up and unsafe.
 pub fn next_unsafe(dice: &mut Dice) -> Asked {
     loop {
-        let briefs = match dice.index(6) {
+        let mut briefs = match dice.index(6) {
             0 => vec![generated::plan(dice).into_bytes()],
             1 => vec![named_apart(made_up(dice).into_bytes())],
             2 => made_up_board(dice).briefs.into_iter().map(named_apart).collect(),
@@ -58,6 +58,12 @@ pub fn next_unsafe(dice: &mut Dice) -> Asked {
             }
             _ => vec![related(dice).concat().into_bytes()],
         };
+        if dice.index(8) == 0 {
+            briefs.iter_mut().for_each(|text| *text = with_carriage_returns(text));
+        }
+        if let (0, Some(last)) = (dice.index(8), briefs.last_mut()) {
+            last.truncate(last.trim_ascii_end().len());
+        }
         let asked = Asked::of_briefs(Command::Check { workers: 1 }, briefs);
         if said_plainly(&asked).status == 1 {
             return asked;
@@ -113,6 +119,11 @@ pub fn related(dice: &mut Dice) -> [String; 2] {
             dice.pick(&["t", "t", "s t"], "")
         ),
     ]
+}
+
+fn with_carriage_returns(text: &[u8]) -> Vec<u8> {
+    let lines: Vec<&[u8]> = text.split(|byte| *byte == b'\n').collect();
+    lines.join(b"\r\n".as_slice())
 }
 
 /// The messages m0, m1 and so on, by names that make them no family.

@@ -11,6 +11,12 @@ pub enum Request<'a> {
         plan: &'a str,
         look: Look<'a>,
     },
+    /// What mends an unsafe plan, or its texts with edits of them.
+    Mend {
+        plan: &'a str,
+        mend: Mend<'a>,
+        output: Option<&'a str>,
+    },
     /// Whether a certificate is right for a plan.
     Verify {
         plan: &'a str,
@@ -80,6 +86,33 @@ pub struct Look<'a> {
     pub apart: Option<u32>,
     pub wave: Option<&'a str>,
     pub pair: Option<u32>,
+}
+
+/// How a plan is mended: checked by so many workers, and with which offers. Where they are written in place, all files that change get
+/// their texts.
+#[derive(Clone, Copy)]
+pub struct Mend<'a> {
+    pub workers: u32,
+    pub taking: Taking<'a>,
+    pub in_place: bool,
+}
+
+/// Which offers are taken.
+#[derive(Clone, Copy)]
+pub enum Taking<'a> {
+    /// None: all are listed.
+    Nothing,
+    /// Those that mend most together.
+    All,
+    /// Those with these numbers.
+    These(&'a [OfferNumber]),
+}
+
+/// The number of an offer, as `0.2`: that of its group, and its own there.
+#[derive(Clone, Copy, PartialEq, Eq)]
+pub struct OfferNumber {
+    pub group: u32,
+    pub number: u32,
 }
 
 /// A capture that is asked for.
@@ -182,6 +215,30 @@ impl<'a> Request<'a> {
                     output,
                 }
             }
+            _ => self,
+        }
+    }
+
+    /// The same with the offers of these numbers, where such are taken.
+    pub fn with_taken(self, numbers: &'a [OfferNumber]) -> Request<'a> {
+        match self {
+            Request::Mend {
+                plan,
+                mend: Mend {
+                    taking: Taking::These(_),
+                    workers,
+                    in_place,
+                },
+                output,
+            } => Request::Mend {
+                plan,
+                mend: Mend {
+                    workers,
+                    taking: Taking::These(numbers),
+                    in_place,
+                },
+                output,
+            },
             _ => self,
         }
     }

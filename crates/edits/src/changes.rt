@@ -134,11 +134,19 @@ impl MessageText<'_> {
     /// A header alone becomes a read of one byte.
     pub fn read_one(&self, alloc: Global, edits: &mut Edits) {
         match (self.tokens.first(), self.tokens.get(1)) {
-            (Some(direction), Some(address)) => {
+            (Some(direction), Some(address)) if self.is_one_header() => {
                 edits.add(direction.span, String::from_str(alloc, "read"));
                 edits.add(after(*address), String::from_str(alloc, " 1"));
             }
             _ => edits.refuse(),
+        }
+    }
+
+    // Whether nothing stands on the path behind the address of the first frame.
+    fn is_one_header(&self) -> bool {
+        match self.tokens.get(2) {
+            Some(token) => matches!(token.part, Part::Nack),
+            None => true,
         }
     }
 
@@ -246,25 +254,42 @@ fn repeated(alloc: Global, words: &str, times: u32) -> Result<String, AllocError
     text.finish()
 }
 
-/// The last of the texts has this `never` item at its end.
+/// The last of the texts has this `never` item at its end, on a line of its own. That ends as the last line of the text does which
+/// is ended.
 pub fn push_never(alloc: Global, edits: &mut Edits, texts: &[Vec<u8>], sides: (&str, &str)) {
     let Some(text) = texts.last() else {
         return edits.refuse();
     };
     let is_ended = text.last() == Some(&b'\n');
+    let end = line_end_of(text.as_slice());
     let (first, second) = sides;
     let mut item = Text::new(alloc);
-    item.push(if is_ended { "never " } else { "\nnever " });
+    item.push(if is_ended { "" } else { end });
+    item.push("never ");
     item.push(first);
     item.push(" ");
     item.push(second);
-    item.push(if is_ended { " ;\n" } else { " ;" });
+    item.push(" ;");
+    item.push(if is_ended { end } else { "" });
     let span = Span {
         file: u32::try_from(texts.len().saturating_sub(1)).unwrap_or(u32::MAX),
         start: text.len(),
         end: text.len(),
     };
     edits.add(span, item.finish());
+}
+
+// What ends the last line that is ended.
+fn line_end_of(text: &[u8]) -> &'static str {
+    let mut before = None;
+    let mut end = "\n";
+    for byte in text {
+        if *byte == b'\n' {
+            end = if before == Some(b'\r') { "\r\n" } else { "\n" };
+        }
+        before = Some(*byte);
+    }
+    end
 }
 
 /// The plan text, which is the first of these texts, is one of the second version.

@@ -31,8 +31,7 @@ impl Edit {
 pub struct EditedItem {
     /// The name that it gives.
     pub name: String,
-    /// The counts, or the values of the byte or the address, that it no longer sends, as its text would have them. Nothing for other
-    /// edits.
+    /// The counts, or the values of the byte or the address, that it no longer sends, in words. Nothing for other edits.
     pub gone: String,
 }
 

@@ -70,15 +70,23 @@ fn tell_open(alloc: Global, lines: &mut Lines, label: &str, side: &Side) {
     say_all(lines, &said);
 }
 
-/// The lines of what is offered.
+/// The lines of what is offered, and of the command that makes these edits.
 ///
 /// # Errors
 ///
 /// Where an allocation fails.
-pub(crate) fn below_unsafe(alloc: Global, advice: &[Advice]) -> Result<String, AllocError> {
+pub(crate) fn below_unsafe(
+    alloc: Global,
+    advice: &[Advice],
+    command: Option<String>,
+) -> Result<String, AllocError> {
     let mut lines = Lines::new(alloc);
     for one in advice {
         tell_advice(&mut lines, one);
+    }
+    if let Some(command) = &command {
+        let command = [Part::Name(command.as_str())];
+        say(&mut lines, "to make these edits: {}", &command);
     }
     lines.finish()
 }

@@ -9,7 +9,7 @@ use certificate::Fault;
 use growing_text::Text;
 use lint::Oddity;
 use object_lines::{ObjectLines, all_at};
-use offers::{Offers, Reasons};
+use offers::{Offers, Reasons, Shown};
 use plan_core::Plan;
 use plan_findings::{Detail, unsent_in};
 use plan_words::PlanWords;
@@ -35,8 +35,47 @@ pub fn write_check<O: Output>(
     detail: Detail,
     out: &mut O,
 ) -> Result<(), RunError> {
+    let told = told_of(alloc, checked, words, texts, reasons)?;
+    let mut lines = ObjectLines::new(alloc);
+    if detail.pairs {
+        told.write_pairs(&mut lines, out)?;
+    }
+    told.write_groups(&mut lines, Shown::Explained(detail.groups as usize), out)?;
+    add_oddities(&mut lines, words, odd);
+    add_plan(&mut lines, checked, words, reasons, detail.groups as usize);
+    lines.write_rest(out)
+}
+
+/// Writes an object for each group of the unsafe pairs of a plan that was checked, with all its offers, and one for the plan. The words are
+/// those of the plan, and the texts give it. Of a safe plan there are no reasons.
+///
+/// # Errors
+///
+/// `Write` where the writer failed or took no bytes, and `NoMemory`. A part of the objects may have been written.
+pub fn write_offers<O: Output>(
+    alloc: Global,
+    checked: &Checked,
+    words: PlanWords<'_>,
+    texts: &[Vec<u8>],
+    reasons: Option<&Reasons>,
+    out: &mut O,
+) -> Result<(), RunError> {
+    let told = told_of(alloc, checked, words, texts, reasons)?;
+    let mut lines = ObjectLines::new(alloc);
+    told.write_groups(&mut lines, Shown::All, out)?;
+    add_plan(&mut lines, checked, words, reasons, usize::MAX);
+    lines.write_rest(out)
+}
+
+fn told_of<'a>(
+    alloc: Global,
+    checked: &'a Checked,
+    words: PlanWords<'a>,
+    texts: &'a [Vec<u8>],
+    reasons: Option<&'a Reasons>,
+) -> Result<Told<'a>, AllocError> {
     let places = all_at(alloc, words)?;
-    let told = Told {
+    Ok(Told {
         checked,
         words,
         texts,
@@ -46,15 +85,7 @@ pub fn write_check<O: Output>(
             Some(Reasons::Unsafe(groups, offers)) => Some((groups, offers)),
             _ => None,
         },
-    };
-    let mut lines = ObjectLines::new(alloc);
-    if detail.pairs {
-        told.write_pairs(&mut lines, out)?;
-    }
-    told.write_groups(&mut lines, detail.groups as usize, out)?;
-    add_oddities(&mut lines, words, odd);
-    add_plan(&mut lines, checked, words, reasons, detail.groups as usize);
-    lines.write_rest(out)
+    })
 }
 
 // What pairs and groups are told of.
@@ -86,11 +117,11 @@ impl Told<'_> {
         Ok(())
     }
 
-    // All groups, of which so many are explained.
+    // All groups, with what is shown of them.
     fn write_groups<O: Output>(
         &self,
         lines: &mut ObjectLines,
-        most: usize,
+        shown: Shown,
         out: &mut O,
     ) -> Result<(), RunError> {
         let Some((groups, offers)) = self.groups else {
@@ -99,10 +130,8 @@ impl Told<'_> {
         for g in 0..groups.len() {
             if let Some(group) = groups.group(g) {
                 add_group(lines, groups, g, group);
-                self.add_example(lines, group.example, g < most);
-                if g < most {
-                    add_offers(lines, self.words, self.texts, offers, g);
-                }
+                self.add_example(lines, group.example, shown.explains(g));
+                add_offers(lines, self.words, self.texts, offers, g, shown);
                 lines.end();
             }
             lines.write_block(out)?;

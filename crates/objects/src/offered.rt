@@ -3,28 +3,39 @@
 use edits::Edit;
 use growing_text::Text;
 use object_lines::ObjectLines;
-use offers::{Offer, Offers, SHOWN, Together};
+use offers::{Offer, Offers, Shown, Together};
 use plan_words::PlanWords;
 use std::alloc::{AllocError, Global};
 use std::str;
 
-/// Adds the field with what is offered for the group with this number: the first offers, and how many more there are.
+/// Adds the field with what is offered for the group with this number: the offers that are shown, and how many more there are. A group
+/// that is not explained has the field where an offer is shown.
 pub(crate) fn add_offers(
     lines: &mut ObjectLines,
     words: PlanWords<'_>,
     texts: &[Vec<u8>],
     offers: &Offers,
     g: usize,
+    shown: Shown,
 ) {
     let all = offers.of(g);
+    let count = all
+        .iter()
+        .filter(|offer| offers.shows(offer, shown))
+        .count();
+    if !shown.explains(g) && count == 0 {
+        return;
+    }
     lines.open("explain");
     lines.open_list("offers");
-    for offer in all.iter().take(SHOWN) {
-        add_offer(lines, words, texts, offer);
+    for offer in all {
+        if offers.shows(offer, shown) {
+            add_offer(lines, words, texts, offer);
+        }
     }
     lines.close_list();
-    if SHOWN < all.len() {
-        lines.number("more", all.len().saturating_sub(SHOWN) as u64);
+    if count < all.len() {
+        lines.number("more", all.len().saturating_sub(count) as u64);
     }
     lines.close();
 }

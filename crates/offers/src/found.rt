@@ -29,6 +29,9 @@ const LOWEST: u8 = 0x08;
 
 const HIGHEST: u8 = 0x77;
 
+// Those that SMBus has for itself: of the host, of the alert response, and the default one of devices.
+const OF_SMBUS: [u8; 3] = [0x08, 0x0C, 0x61];
+
 /// An edit that mends a group.
 pub struct Offer {
     /// The number of the group.
@@ -233,10 +236,10 @@ fn push_offer(
     ensures { OnOk result (All (IsOffer (bytes_of it.texts.now) (plan_contents it.plan.now)
         (fault_list it.faults.now) (group_numbers groups.now)) all.new.items) }
 {
-    match offer_of(alloc, it, groups, tries, numbers, proposal)? {
-        Some(offer) => all.push(offer),
-        None => Ok(()),
+    if let Some(offer) = offer_of(alloc, it, groups, tries, numbers, proposal)? {
+        all.push(offer)?;
     }
+    Ok(())
 }
 
 // The number that a proposal for the last group would have. None where those before it leave no room for it.
@@ -253,12 +256,13 @@ fn number_of(all: &[Offer], g: usize, proposal: &Proposal) -> Option<usize> {
     Some(number)
 }
 
-// Of counts those of one frame are offered, and of each other kind one for a side.
+// For a side one of each kind is offered, and of counts those of one frame.
 fn excludes(found: &Proposal, other: &Proposal) -> bool {
-    match (found.change, other.change) {
+    let is_more = match (found.change, other.change) {
         (Change::Count { frame }, Change::Count { frame: later }) => frame != later,
-        (one, two) => one.kind() == two.kind() && found.edited == other.edited,
-    }
+        (one, two) => one.kind() == two.kind(),
+    };
+    is_more && found.edited == other.edited
 }
 
 fn offer_of(
@@ -400,7 +404,8 @@ fn pairs_at(
     Ok(pairs)
 }
 
-// The addresses that no header of a message can have, and no interrupt has, from the lowest on: as many as there are interrupts.
+// The addresses that no header of a message can have, and neither an interrupt nor SMBus has, from the lowest on: as many as there
+// are interrupts.
 fn free_addresses(alloc: Global, plan: &Plan) -> Result<Vec<u8>, AllocError> {
     let interrupts = plan.interrupts() as usize;
     let mut free = Vec::new(alloc);
@@ -413,6 +418,9 @@ fn free_addresses(alloc: Global, plan: &Plan) -> Result<Vec<u8>, AllocError> {
 }
 
 fn is_free(plan: &Plan, address: u8) -> bool {
+    if OF_SMBUS.contains(&address) {
+        return false;
+    }
     for k in 0..plan.interrupts() {
         if plan.interrupt_address(k) == address {
             return false;

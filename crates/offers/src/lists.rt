@@ -100,13 +100,11 @@ impl Together {
             return Ok(self);
         }
         close(open, offer);
-        let Together { mut places, .. } = self;
-        places.push(place)?;
-        Ok(Together {
-            places,
-            outcome: Some(outcome),
-            edits,
-        })
+        let mut list = self;
+        list.places.push(place)?;
+        list.edits = edits;
+        list.outcome = Some(outcome);
+        Ok(list)
     }
 }
 

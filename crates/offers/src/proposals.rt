@@ -1,8 +1,9 @@
 // What may be edited to mend a group, in the order in which it is tried.
 
+use crate::gone::{bytes_in, values_in};
 use crate::paths::{Sent, Step, header_of, known_address, step_at};
 use crate::sides::{BothSides, SideItem, common_at};
-use edits::{Bits, Edit, EditedItem, Edits, Place, spelled_bits, spelled_count};
+use edits::{Bits, Edit, EditedItem, Edits, Place};
 use message_tree::Count;
 use std::alloc::{AllocError, Global};
 
@@ -10,11 +11,21 @@ use std::alloc::{AllocError, Global};
 #[derive(Clone, Copy)]
 pub enum Change {
     /// The counts of the reads in this frame are narrowed.
-    Count { frame: u32 },
+    Count {
+        frame: u32,
+    },
     /// This bit, as data sheets count it, has this value.
-    Known { place: Place, bit: u32, value: bool },
-    /// This bit is 0 on the first side, and 1 on the second.
-    Bit { place: Place, bit: u32 },
+    Known {
+        place: Place,
+        bit: u32,
+        value: bool,
+    },
+    /// This bit is 0 on the first side, of which so many items are, and 1 on the second.
+    Bit {
+        place: Place,
+        bit: u32,
+        firsts: usize,
+    },
     /// A header alone becomes a read of one byte.
     Read,
     /// The write before a read is left out.
@@ -22,7 +33,9 @@ pub enum Change {
     /// Interrupts have other addresses.
     Address,
     /// So many bytes more are sent.
-    Length { bytes: u32 },
+    Length {
+        bytes: u32,
+    },
     /// `never` items keep the pairs apart.
     Never,
 }
@@ -131,12 +144,13 @@ fn push_counts(
     found: &mut Vec<Proposal>,
     sought: Sought<'_, '_>,
 ) -> Result<(), AllocError> {
-    let (first, second) = sought.facing(Edited::Both);
-    for frame in 0..=sought.frame {
-        if let (Some(firsts), Some(seconds)) = (counts_of(first, frame), counts_of(second, frame)) {
-            if firsts.meets(&seconds) {
-                push_narrowed(alloc, found, frame, Edited::First, (first, seconds))?;
-                push_narrowed(alloc, found, frame, Edited::Second, (second, firsts))?;
+    for edited in [Edited::First, Edited::Second] {
+        let (side, other) = sought.facing(edited);
+        for frame in 0..=sought.frame {
+            if let (Some(own), Some(theirs)) = (counts_of(side, frame), counts_of(other, frame)) {
+                if own.meets(&theirs) {
+                    push_narrowed(alloc, found, frame, edited, (side, theirs))?;
+                }
             }
         }
     }
@@ -223,7 +237,7 @@ fn spelled_gone(alloc: Global, counts: Count, kept: Count) -> Result<String, All
     } else {
         Count::between(counts.least(), kept.least().saturating_sub(1))
     };
-    spelled_count(alloc, gone.unwrap_or(counts))
+    bytes_in(alloc, gone.unwrap_or(counts))
 }
 
 // ---- bits
@@ -268,7 +282,8 @@ fn push_bits_at(
             fix(alloc, &mut made, side, place, (mask, value));
             let change = if edited == Edited::Both {
                 fix(alloc, &mut made, other, place, (mask, true));
-                Change::Bit { place, bit }
+                let firsts = side.len();
+                Change::Bit { place, bit, firsts }
             } else {
                 Change::Known { place, bit, value }
             };
@@ -285,7 +300,7 @@ fn fix(alloc: Global, made: &mut Edits, side: &[SideItem<'_>], place: Place, bit
     for item in side {
         match bits_at(item, place) {
             Some(bits) => {
-                let gone = spelled_bits(alloc, bits.with(mask, !value), item.text.is_plan());
+                let gone = values_in(alloc, bits.with(mask, !value), item.text.is_plan());
                 item.text.fix(alloc, made, place, bits.with(mask, value));
                 made.name(alloc, item.name.as_str(), gone);
             }
@@ -390,10 +405,11 @@ fn begins_so(path: &[Step]) -> bool {
     }
 }
 
-// How many data bytes the one message of the other side has more at its end than that of this side, where all else is of one shape.
+// How many data bytes the one message of the other side has more at its end than that of this side, which ends with one, where all
+// else is of one shape. (What is put behind a header alone would write a register, or run a command.)
 fn bytes_more(sides: Facing<'_, '_>) -> Option<u32> {
     let (own, other) = (only_path(sides.0)?, only_path(sides.1)?);
-    if matches!(own.last()?.sent, Sent::Read(_)) || !is_shorter(own, other) {
+    if own.last()?.sent != Sent::Data || !is_shorter(own, other) {
         return None;
     }
     u32::try_from(other.len().checked_sub(own.len())?).ok()

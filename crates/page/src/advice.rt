@@ -1,6 +1,6 @@
 // What is offered to mend unsafe pairs, as the page has it: in the words of a report.
 
-use offers::{Advice, Offers, advice_for_all, advice_for_group};
+use offers::{Advice, Offers, Shown, advice_for_all, advice_for_group};
 use plan_words::PlanWords;
 use serde::Serialize;
 use std::alloc::{AllocError, Global};
@@ -23,6 +23,9 @@ impl Offered {
     }
 }
 
+// The page explains all groups.
+const EXPLAINED: Shown = Shown::Explained(usize::MAX);
+
 /// What is offered to mend all unsafe pairs of a plan: nothing of a safe one.
 pub(crate) fn all_offered(
     alloc: Global,
@@ -30,7 +33,7 @@ pub(crate) fn all_offered(
     offers: Option<&Offers>,
 ) -> Result<Vec<Offered>, AllocError> {
     match offers {
-        Some(offers) => texts_of(alloc, advice_for_all(alloc, words, offers)?),
+        Some(offers) => texts_of(alloc, advice_for_all(alloc, words, offers, EXPLAINED)?),
         None => Ok(Vec::new(alloc)),
     }
 }
@@ -43,7 +46,7 @@ pub(crate) fn offered_for(
     g: usize,
 ) -> Result<Vec<Offered>, AllocError> {
     match offers {
-        Some(offers) => texts_of(alloc, advice_for_group(alloc, words, offers, g)?),
+        Some(offers) => texts_of(alloc, advice_for_group(alloc, words, offers, g, EXPLAINED)?),
         None => Ok(Vec::new(alloc)),
     }
 }

@@ -73,6 +73,7 @@ pub fn write_page_with<R: AllocGlobal + Threads + Sync, I: Input, J: Input, O: O
         status: worse(status_of(checked.faults.is_safe()), seen),
         findings: Findings::Recording(Recorded::Other, rises, None),
         wave: None,
+        mended: None,
     })
 }
 

@@ -6,6 +6,7 @@ use Rattle.plan_findings.specs.Unchecked.{IsAllChecked}
 use Rattle.given_plans.specs.Sources.{GiveThePlan, ReadsTexts}
 use Rattle.plan_core.specs.Contents.{Contents}
 use Rattle.plan_core.specs.Faults.{IsSafe}
+use Rattle.report.specs.Checks.{Judges}
 use Rattle.run_parts.specs.Devices.{Reader}
 use Rattle.run_parts.specs.Runs.{ReadsText}
 use Rattle.run_parts.specs.declared.runs.Status.{Status}
@@ -34,6 +35,12 @@ pub record OfGivenPlan {D : Type 0} (reader : Reader D) (IsSuch : Contents → T
   pub plan : Contents
   pub given : GiveThePlan texts plan
   pub holds : IsSuch plan
+
+-- the texts give a plan of which this is the status
+pub record GiveJudged (texts : List (List ℕ)) (status : Status) : Type 0 where
+  pub plan : Contents
+  pub given : GiveThePlan texts plan
+  pub judged : Judges status plan
 
 -- it is this plan, and it is such
 abbrev pub IsOf : Contents → (Contents → Type 0) → Contents → Type 0

@@ -76,6 +76,7 @@ pub fn check<R: Eprint + Clock + AllocGlobal + Threads + Sync, I: Input, O: Outp
         status,
         findings,
         wave,
+        mended: None,
     })
 }
 
@@ -226,7 +227,7 @@ fn check_in_form<R: AllocGlobal + Threads + Sync, I: Input, O: Output, G: Gate +
 }
 
 // The status of a run over this plan.
-fn status_in(found: &GivenCheck) -> Status
+pub(crate) fn status_in(found: &GivenCheck) -> Status
     requires { AreFaults (plan_contents found.now.checked.plan) (fault_list found.now.checked.faults) }
     ensures { Judges result (plan_contents found.now.checked.plan) }
 {
@@ -417,6 +418,7 @@ fn verify_exactly<I: Input, J: Input, O: Output>(
             status,
             findings: Findings::Answered(found.answered, found.provenance),
             wave: None,
+            mended: None,
         }),
         Err(halted) => Err(plans.halt(halted)),
     }
@@ -455,6 +457,7 @@ fn verify_in_form<I: Input, J: Input, O: Output>(
                 status,
                 findings: Findings::Answered(found.answered, found.provenance),
                 wave: None,
+                mended: None,
             })
         }
         Err(halted) => Err(plans.halt(halted)),
@@ -522,6 +525,7 @@ fn explain_kept<I: Input, O: Output>(
         status,
         findings: Findings::Answered(found.answered, found.provenance),
         wave: None,
+        mended: None,
     })
 }
 
@@ -580,6 +584,7 @@ fn order_exactly<R: AllocGlobal + Threads + Sync, I: Input, O: Output>(
             status,
             findings: Findings::Nothing,
             wave: None,
+            mended: None,
         }),
         Err(halted) => Err(plans.halt(halted)),
     }
@@ -605,6 +610,7 @@ fn order_in_form<R: AllocGlobal + Threads + Sync, I: Input, O: Output>(
                 status,
                 findings: Findings::Nothing,
                 wave: None,
+                mended: None,
             })
         }
         Err(halted) => Err(plans.halt(halted)),

@@ -233,7 +233,7 @@ pub fn grouped_of(
     let parties = parties_of(alloc, words, families.as_slice())?;
     let meets = meets_of(alloc, plan, faults, &groups, parties.as_slice())?;
     let starts = starts_of(alloc, meets.as_slice())?;
-    let families = all_called(alloc, plan, families.as_slice())?;
+    let families = all_called(alloc, words, families.as_slice())?;
     Ok(Grouped {
         groups,
         labels,
@@ -274,10 +274,14 @@ fn ranked_of(
     Ranked::of(alloc, &groups)
 }
 
-fn all_called(alloc: Global, plan: &Plan, families: &[Family]) -> Result<Vec<String>, AllocError> {
+fn all_called(
+    alloc: Global,
+    words: PlanWords<'_>,
+    families: &[Family],
+) -> Result<Vec<String>, AllocError> {
     let mut called = Vec::with_capacity(alloc, families.len())?;
-    for m in 0..plan.messages() {
-        called.push(called_of(alloc, plan, families, m)?)?;
+    for m in 0..words.plan().messages() {
+        called.push(called_of(alloc, words, families, m)?)?;
     }
     Ok(called)
 }

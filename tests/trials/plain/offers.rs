@@ -201,8 +201,9 @@ impl<'a> Trials<'a> {
         tried.faults.is_subset(&self.faults)
     }
 
-    // What the texts give with these edits. Nothing where that is no plan, or no steps are left.
+    // What the texts give with these edits. Nothing where that is no plan, or no steps are left. Edits that overlap are not tried.
     fn tried(&mut self, edits: &[Edit]) -> Option<Tried> {
+        let edited = edited(self.sources, edits)?;
         let bytes: usize = self.sources.iter().map(|one| one.text.len()).sum();
         let steps = self.pairs + bytes;
         self.is_cut |= self.left < steps;
@@ -210,7 +211,7 @@ impl<'a> Trials<'a> {
             return None;
         }
         self.left -= steps;
-        let text = plan_of(&edited(self.sources, edits)?)?;
+        let text = plan_of(&edited)?;
         let items = plans::items_of(&text).ok()?;
         let plan = Participants::of(&items);
         let pairs = plan.pairs();
@@ -501,7 +502,8 @@ impl<'a> Sides<'a> {
         self.edits(side, |_, item| item.without_pointer()).filter(|_| are_same)
     }
 
-    // Of the addresses that no header can have, and no interrupt has, that of each interrupt: by its place in the plan.
+    // Of the addresses that no header can have, and neither an interrupt nor SMBus has, that of each interrupt: by its place in the
+    // plan.
     fn address(&self, side: usize, plan: &plans::Items) -> Option<Vec<Edit>> {
         if !self.has_interrupt(side) {
             return None;
@@ -510,7 +512,8 @@ impl<'a> Sides<'a> {
         let headers: Vec<&str> =
             senders.flat_map(|it| &it.parts).filter(|part| part.is_header()).map(|part| part.bits()).collect();
         let fits = |bits: &str, header: &str| header.chars().zip(bits.chars()).all(|(a, b)| a == 'x' || a == b);
-        let all = (0x08..=0x77).map(|address| format!("{address:07b}"));
+        let all = (0x08..=0x77).filter(|address| ![0x08, 0x0C, 0x61].contains(address));
+        let all = all.map(|address| format!("{address:07b}"));
         let free: Vec<String> = all.filter(|bits| !headers.iter().any(|header| fits(bits, header))).collect();
         self.edits(side, |_, item| {
             let place = plan.interrupts.iter().position(|one| one.name == item.name())?;
@@ -518,7 +521,7 @@ impl<'a> Sides<'a> {
         })
     }
 
-    // The shorter one of two messages that differ in length alone, with as many bytes more.
+    // The shorter one of two messages that differ in length alone, which ends with a data byte, with as many bytes more.
     fn longer(&self) -> Option<Vec<Edit>> {
         let ([one], [other]) = (self.sides[0].as_slice(), self.sides[1].as_slice()) else {
             return None;
@@ -528,8 +531,9 @@ impl<'a> Sides<'a> {
         let (other_last, other_before) = other.path.split_last()?;
         let shapes = |path: &[Sent]| path.iter().map(Sent::shape).collect::<Vec<_>>();
         let are_writes = !self.has_interrupt(0) && !self.has_interrupt(1) && last.count.or(other_last.count).is_none();
-        let have_tails = [one, other].iter().any(|member| self.items[member.item].has_tails());
-        if !is_alone(one) || !is_alone(other) || !are_writes || have_tails || shapes(before) != shapes(other_before) {
+        // (the first byte of a frame is its header)
+        let has_data = last.bytes.len().min(other_last.bytes.len()) > 1;
+        if !is_alone(one) || !is_alone(other) || !are_writes || !has_data || shapes(before) != shapes(other_before) {
             return None;
         }
         let (side, more) = match last.bytes.len().abs_diff(other_last.bytes.len()) {

@@ -149,6 +149,21 @@ fn counts_are_narrowed_in_the_first_frame_that_mends() {
     );
 }
 
+// Each side by itself: in frame 1 only n can be narrowed, and in frame 2 only m.
+#[test]
+fn each_side_has_its_first_frame() {
+    assert_two(
+        "write 0x50 0x01 read 0x50 1..2 read 0x50 1..3 read 0x50 1",
+        "write 0x50 0x01 read 0x50 1..3 read 0x50 1..2",
+        &[
+            "count 0: message m write 0x50 0x01 read 0x50 1..2 read 0x50 3 read 0x50 1 ;",
+            "count 0: message n write 0x50 0x01 read 0x50 3 read 0x50 1..2 ;",
+            "pointer 0: message m read 0x50 1..2 read 0x50 1..3 read 0x50 1 ;",
+            "pointer 0: message n read 0x50 1..3 read 0x50 1..2 ;",
+        ],
+    );
+}
+
 // ---- known bits
 
 #[test]
@@ -182,7 +197,6 @@ fn an_open_bit_gets_the_other_value() {
         &[
             "known 0: message m write 0b100000x ;",
             "read 0: message m read 0b10x000x 1 ;",
-            "length 0: message m write 0b10x000x any ;",
         ],
     );
 }
@@ -407,27 +421,19 @@ fn messages_of_a_group_are_changed_together() {
 
 #[test]
 fn a_header_alone_is_read() {
-    assert_two(
-        "write 0x50",
-        "write 0x50 0x01",
-        &["read 0: message m read 0x50 1 ;", "length 0: message m write 0x50 any ;"],
-    );
-    assert_two(
-        "write 0x50 0x01",
-        "write 0x50 else stop",
-        &["read 0: message n read 0x50 1 else stop ;", "length 0: message n write 0x50 any else stop ;"],
-    );
+    assert_two("write 0x50", "write 0x50 0x01", &["read 0: message m read 0x50 1 ;"]);
+    assert_two("write 0x50 0x01", "write 0x50 else stop", &["read 0: message n read 0x50 1 else stop ;"]);
     let plan = "plan 1 message m write 1001000 00000001 stop else stop else stop ;
         message n write 1001000 stop else stop ; controller a m ; controller b n ;";
     assert_offers(
         &[plan],
-        &[&[
-            "read 0: message n read 1001000 1 stop else stop ;",
-            "length 0: message n write 1001000 xxxxxxxx stop else stop else stop ;",
-        ]],
+        &[&["read 0: message n read 1001000 1 stop else stop ;"]],
     );
     // it is none with a byte, or before another frame
     assert_two("write 0x50 write 0x51", "write 0x50 0x01", &[]);
+    // nor where its item may have bytes
+    let brief = "brief 1 message m write 0x50 0x01*0..1 ; message n write 0x50 0x01 ; controller a m_0 ; controller b n ;";
+    assert_offers(&[brief], &[&[]]);
 }
 
 // A read of one byte would meet one that goes on after a byte. That pair was safe.
@@ -435,11 +441,11 @@ fn a_header_alone_is_read() {
 fn no_offer_makes_a_safe_pair_unsafe() {
     let brief = "brief 1 message m write 0x50 ; message n write 0x50 0x01 ; message r read 0x50 1 write 0x50 0x02 ;
         controller a m ; controller b n ; controller c r ;";
-    assert_offers(&[brief], &[&["length 0: message m write 0x50 any ;"]]);
+    assert_offers(&[brief], &[&[]]);
     // an interrupt has that header
     let brief = "brief 1 message m write 0x50 ; message n write 0x50 0x01 ; interrupt al 0x50 ;
         controller a m ; controller b n ;";
-    assert_offers(&[brief], &[&["length 0: message m write 0x50 any ;"]]);
+    assert_offers(&[brief], &[&[]]);
     // without its pointer m would repeat START where r sends STOP
     let brief =
         "brief 1 message m write 0x50 0x01 read 0x50 2 write 0x51 ; message n write 0x50 0x01 ; message r read 0x50 2 ;
@@ -479,14 +485,22 @@ fn a_pointer_is_left_out() {
 #[test]
 fn an_interrupt_gets_an_address_that_nothing_has() {
     let brief = "brief 1 device s 0x48 ; message m read 0b100100x 1 ; controller a m ; interrupt al s ;";
-    assert_offers(&[brief], &[&["known 0: message m read 0x49 1 ;", "address 0: interrupt al 0x08 ;"]]);
+    assert_offers(&[brief], &[&["known 0: message m read 0x49 1 ;", "address 0: interrupt al 0x09 ;"]]);
     // headers of all frames count, also after an `else`, and those of messages that nobody sends; the first free address is for
     // the first interrupt
     let brief = "brief 1 message m read 0x48 1 write 0x08 else (read 0b000101x 1) ; message spare read 0x09 1 ;
         controller a m ; interrupt t 0x0C ; interrupt al 0x48 ;";
     assert_offers(&[brief], &[&["address 0: interrupt al 0x0E ;"]]);
     let plan = "plan 1 message m read 1001000 1 stop else stop ; controller a m ; interrupt al 1001000 ;";
-    assert_offers(&[plan], &[&["address 0: interrupt al 0001000 ;"]]);
+    assert_offers(&[plan], &[&["address 0: interrupt al 0001001 ;"]]);
+    // SMBus has 0x08, 0x0C and 0x61 for itself
+    let brief = "brief 1 message m read 0x48 1 ; message n write 0x09 ; message o write 0b000101x ;
+        controller a m ; interrupt al 0x48 ;";
+    assert_offers(&[brief], &[&["address 0: interrupt al 0x0D ;"]]);
+    let brief = "brief 1 message m read 0x48 1 ; message n write 0b00xxxxx ; message o write 0b010xxxx ;
+        message p write 0b011xxxx ; message q write 0b10xxxxx ; message r write 0x60 ;
+        controller a m ; interrupt al 0x48 ;";
+    assert_offers(&[brief], &[&["address 0: interrupt al 0x62 ;"]]);
     // the last one that there is, and none
     let most = |last: &str| {
         format!(
@@ -508,7 +522,6 @@ fn the_shorter_of_two_gets_more_bytes() {
         &[
             "pointer 0: message m read 0x50 2 write 0x51 ;",
             "pointer 0: message n read 0x50 2 write 0x51 0x01 0x02 ;",
-            "length 0: message m write 0x50 0x01 read 0x50 2 write 0x51 any*2 ;",
         ],
     );
     assert_two(
@@ -516,6 +529,21 @@ fn the_shorter_of_two_gets_more_bytes() {
         "read 0x50 2 write 0x51 0x01",
         &["count 0: message m read 0x50 1 write 0x51 ;"],
     );
+    assert_two(
+        "write 0x50 0x01 0x02 read 0x50 2 write 0x51 0x03 0x04",
+        "write 0x50 0x01 0x02 read 0x50 2 write 0x51 0x03",
+        &[
+            "pointer 0: message m read 0x50 2 write 0x51 0x03 0x04 ;",
+            "pointer 0: message n read 0x50 2 write 0x51 0x03 ;",
+            "length 0: message n write 0x50 0x01 0x02 read 0x50 2 write 0x51 0x03 any ;",
+        ],
+    );
+    // none is put behind a header alone
+    assert_two("read 0x50 1 write 0x51", "read 0x50 1 write 0x51 0x01", &[]);
+    let plan = "plan 1 message m read 1010000 1 again write 1010001 stop else stop else stop ;
+        message n read 1010000 1 again write 1010001 00000001 stop else stop else stop else stop ;
+        controller a m ; controller b n ;";
+    assert_offers(&[plan], &[&[]]);
     // an `else`, and a message that one item makes with others
     assert_two("write 0x50 0x01 else (read 0x51 1)", "write 0x50 0x01 0x02", &[]);
     let brief =
@@ -553,7 +581,7 @@ fn an_item_on_both_sides_is_not_changed() {
 #[test]
 fn sides_are_those_of_the_kinds_that_meet() {
     let brief = "brief 1 message w write 0x50 0x01 ; message p write 0x50 ; controller a p w ; controller b p w ;";
-    assert_offers(&[brief], &[&["read 0: message p read 0x50 1 ;", "length 0: message p write 0x50 any ;"]]);
+    assert_offers(&[brief], &[&["read 0: message p read 0x50 1 ;"]]);
     // the example is that of a/p and b/w, a STOP against a data bit: the side of the STOP comes first
     let brief =
         "brief 1 message w write 0b101000x 0x00 ; message p write 0b10100x0 ; controller a p w ; controller b p w ;";
@@ -563,7 +591,6 @@ fn sides_are_those_of_the_kinds_that_meet() {
             "known 0: message p write 0x52 ;",
             "known 0: message w write 0x51 0x00 ;",
             "read 0: message p read 0b10100x0 1 ;",
-            "length 0: message p write 0b10100x0 any ;",
         ]],
     );
 }
@@ -708,12 +735,34 @@ fn interrupts_get_different_addresses() {
     assert_offers(
         &[plan],
         &[
-            &["address 0,2: interrupt al 0001000 ;"],
-            &["address 1,2: interrupt second 0001001 ;"],
-            &["address 0,2: interrupt al 0001000 ;", "address 1,2: interrupt second 0001001 ;"],
+            &["address 0,2: interrupt al 0001001 ;"],
+            &["address 1,2: interrupt second 0001010 ;"],
+            &["address 0,2: interrupt al 0001001 ;", "address 1,2: interrupt second 0001010 ;"],
         ],
     );
     assert_eq!(list_of(plan), (vec![(0, 0), (1, 0)], (3, 0)));
+}
+
+// Edits that overlap are not tried: the first of the list, which takes all that is left, is followed by none.
+#[test]
+fn edits_that_overlap_take_no_step() {
+    let text = "brief 1 message m write 0x50 any else stop ; message n write 0x50 0x00 0x00 else (read 0x51 1) ;
+        message o write 0x50 0x80*2 0x00 else (read 0x51 1) ; controller a m ; controller b n ; controller c o ;";
+    assert_offers(
+        &[text],
+        &[
+            &["known 0: message m write 0x50 0b1xxxxxxx else stop ;"],
+            &["known 1: message m write 0x50 0b0xxxxxxx else stop ;"],
+        ],
+    );
+    let steps = 3 + text.len();
+    let tries = |number: usize| {
+        let found = mending_within(number * steps, &sources(&[text]), &HashMap::new());
+        (found.list, found.is_cut)
+    };
+    assert_eq!(tries(100), (vec![(0, 0)], false));
+    let needed = (1..100).find(|number| !tries(*number).1);
+    assert_eq!(needed, Some(5));
 }
 
 // There are two tries of the group, and one of the list. Each takes a step for the pair, and one for each byte.

@@ -415,9 +415,9 @@ impl<'a> Item<'a> {
     /// The last frame has so many bytes more.
     pub fn lengthened(&self, more: usize) -> Option<Vec<Edit>> {
         let frame = self.frames.last().filter(|frame| !frame.is_read && !self.has_tails)?;
-        let last = frame.bytes.last().map_or(frame.word + 1, |byte| byte.last);
-        let is_check = frame.bytes.last().is_some_and(|byte| byte.form == Form::Derived && byte.first == byte.last);
-        if is_check && ["pec", "sum"].contains(&self.words[last].text) {
+        let byte = frame.bytes.last()?;
+        let last = byte.last;
+        if byte.form == Form::Derived && ["pec", "sum"].contains(&self.words[last].text) {
             return None;
         }
         if self.language != Language::Plan {
@@ -426,10 +426,5 @@ impl<'a> Item<'a> {
         }
         // (in a plan the STOP follows)
         Some(vec![self.put_after(last, " xxxxxxxx".repeat(more)), self.put_after(last + 1, " else stop".repeat(more))])
-    }
-
-    /// Whether frames follow where there is no acknowledge.
-    pub fn has_tails(&self) -> bool {
-        self.has_tails
     }
 }
