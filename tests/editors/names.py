@@ -13,8 +13,8 @@ device psu1 0x58 ;
 device psu2 0x59 ;
 group psus psu1 psu2 ;
 byte status 0x79 ;
-message page 1..3
-    write eeprom any any*0..7 ;
+message page
+    write eeprom any any*1..3 ;
 message get
     write psus status read psus 2 ;
 message probe write eeprom ;
