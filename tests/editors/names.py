@@ -124,6 +124,18 @@ want('what may be folded', [[1, 2, 'comment'], [8, 9, 'region'], [10, 11, 'regio
      sorted([one['startLine'], one['endLine'], one['kind']]
             for one in server.result('textDocument/foldingRange', document(FIRST))))
 
+# ---- what is shown beside it
+
+hints = server.result('textDocument/inlayHint', document(FIRST, range={'start': {'line': 8, 'character': 0},
+                                                                       'end': {'line': 15, 'character': 0}}))
+want('addresses, bits and ranges', [[9, 16, '0x50'], [11, 21, '0x79'], [12, 26, '0x50'], [14, 19, '1..3']],
+     [[one['position']['line'], one['position']['character'], one['label']] for one in hints])
+lenses = server.result('textDocument/codeLens', document(FIRST))
+want('pairs of messages and of controllers', [8, 10, 12, 13, 14], [one['range']['start']['line'] for one in lenses])
+# bmc sends page_1, page_2, get_psu1; pch page_1 to page_3, get_psu2, probe; page_1 of bmc and probe of pch never meet
+want('how many pairs of the controllers', ['14', '14'],
+     [one['command']['title'].split(' pairs')[0].split(' of ')[-1] for one in lenses[3:]])
+
 # ---- what may be written
 
 

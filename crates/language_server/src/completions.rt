@@ -5,6 +5,7 @@ use crate::checking::{names_after_first, texts_of};
 use crate::formatting::Edit;
 use crate::plans::{Given, Part};
 use crate::positions::{Lines, Range, Units};
+use crate::readings;
 use crate::symbols::names_in;
 use brief_text::slips_in;
 use growing_text::Text;
@@ -61,10 +62,7 @@ pub(crate) fn completions_at(
     let Some(wanted) = wanted_at(alloc, cut.as_slice(), file, start)? else {
         return String::from_str(alloc, "[]");
     };
-    let mut names = NamedTexts::new(alloc, &wanted.spans)?;
-    for part in cut.as_slice() {
-        names.add(part.text.as_slice())?;
-    }
+    let names = readings::names_in(alloc, &wanted.spans, cut.as_slice())?;
     let lines = Lines::of(alloc, text, units)?;
     let mut list = List {
         alloc,

@@ -2,7 +2,7 @@
 
 use crate::answers::{Answers, json};
 use crate::boards::is_second_version;
-use crate::changes::{changed_text, position_in};
+use crate::changes::{changed_text, position_in, range_in};
 use crate::checking::wrong_with;
 use crate::documents::{Document, Documents};
 use crate::formatting::{edit_of, laid_out};
@@ -60,7 +60,8 @@ const CAPABILITIES: &str =
 \"hoverProvider\":true,\"definitionProvider\":true,\"referencesProvider\":true,\
 \"documentHighlightProvider\":true,\"renameProvider\":{\"prepareProvider\":true},\
 \"completionProvider\":{\"triggerCharacters\":[\"/\"]},\"documentSymbolProvider\":true,\
-\"foldingRangeProvider\":true,\"documentFormattingProvider\":true},\
+\"foldingRangeProvider\":true,\"codeLensProvider\":{},\"inlayHintProvider\":true,\
+\"documentFormattingProvider\":true},\
 \"serverInfo\":{\"name\":\"twire\"}}";
 
 const NULL: &str = "null";
@@ -577,6 +578,8 @@ fn question_of<'a>(method: &str, params: Option<&'a Value>) -> Option<Option<Que
         "textDocument/completion" => Some(Question::Completions),
         "textDocument/documentSymbol" => Some(Question::Symbols),
         "textDocument/foldingRange" => Some(Question::Folds),
+        "textDocument/codeLens" => Some(Question::Lenses),
+        "textDocument/inlayHint" => inlays_asked(params),
         _ => return None,
     })
 }
@@ -591,13 +594,19 @@ fn rename_in(params: Option<&Value>) -> Option<Question<'_>> {
     Some(Question::Rename(text_in(params?, "newName")?))
 }
 
+fn inlays_asked(params: Option<&Value>) -> Option<Question<'_>> {
+    let (_, until) = range_in(params?.get("range")?)?;
+    Some(Question::Inlays { until })
+}
+
 // The place that is asked of. A question of a whole document has none.
 fn asked_in<'a>(question: Question<'_>, params: Option<&'a Value>) -> Option<Asked<'a>> {
     let position = match question {
-        Question::Symbols | Question::Folds => Position {
+        Question::Symbols | Question::Folds | Question::Lenses => Position {
             line: 0,
             character: 0,
         },
+        Question::Inlays { .. } => range_in(params?.get("range")?)?.0,
         _ => position_in(params?.get("position")?)?,
     };
     Some(Asked {

@@ -8,7 +8,7 @@
 //! `uris` their files, and `plans` says which texts give a plan, `boards` with the files that heads name. `checking` finds what
 //! is wrong with them, and `publishing` writes it. `questions` answers what is asked of a place: `readings` has the names of texts
 //! as they were read, `hovers` what is said of them, `references` where they stand, `renaming` whether another one may,
-//! `completions` what may be written, and `symbols` what stands in a document; `frame_rows` has the frames of a message in bytes,
+//! `completions` what may be written, `symbols` what stands in a document, `inlays` and `lenses` what is shown beside it; `frame_rows` has the frames of a message in bytes,
 //! `winners` who wins. `positions` counts as the protocol does.
 #![tactic(auto)]
 
@@ -23,6 +23,8 @@ mod frame_rows;
 mod frames;
 mod handling;
 mod hovers;
+mod inlays;
+mod lenses;
 mod plans;
 mod positions;
 mod publishing;

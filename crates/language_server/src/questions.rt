@@ -1,17 +1,20 @@
 // What is asked of a place of a document, and the answers.
 
 use crate::answers::json;
-use crate::checking::{Texts, names_after_first, texts_of};
+use crate::checking::{Texts, checked, names_after_first, texts_of};
 use crate::completions::completions_at;
 use crate::documents::Document;
 use crate::hovers::hover_of;
+use crate::inlays::inlays_in;
+use crate::lenses::lenses_of;
 use crate::plans::Given;
-use crate::positions::{Lines, Units};
+use crate::positions::{Lines, Position, Units};
 use crate::publishing::{location_of, marks_of};
-use crate::readings::{Reading, Word};
+use crate::readings::{Reading, Word, names_in};
 use crate::references::{highlights_of, locations_of, renaming_of, uses_of};
 use crate::renaming::{Renamed, renamed_to};
 use crate::symbols::{folds_in, symbols_in};
+use given_plans::GivenPlan;
 use growing_text::Text;
 use origins::{NameAt, NamedTexts, Span};
 use std::alloc::{AllocError, Global};
@@ -38,6 +41,10 @@ pub(crate) enum Question<'a> {
     Symbols,
     /// What of the document may be folded.
     Folds,
+    /// What is shown between its words, up to this place.
+    Inlays { until: Position },
+    /// What stands above its controllers and messages.
+    Lenses,
 }
 
 /// What is answered.
@@ -94,8 +101,9 @@ fn told_of_names<R: AllocGlobal + Threads + Sync>(
     let reading = Reading::of(alloc, &mut texts, parts)?;
     match question {
         Question::Hover => hover_at(rt, given, &texts, reading, document, offset),
-        Question::Symbols | Question::Folds => {
-            told_of_document(alloc, question, given, &reading, document, units)
+        Question::Lenses => lenses_on(rt, given, &texts, reading, document, units),
+        Question::Symbols | Question::Folds | Question::Inlays { .. } => {
+            told_of_document(alloc, question, given, &reading, document, offset, units)
         }
         _ => told_of_name(rt, question, given, &reading, document, offset, units),
     }
@@ -138,6 +146,7 @@ fn told_of_document(
     given: &Given,
     reading: &Reading,
     document: &Document,
+    offset: usize,
     units: Units,
 ) -> Result<Told, AllocError> {
     let Some(file) = given.number_of(document.uri.as_str()) else {
@@ -149,8 +158,51 @@ fn told_of_document(
     let spans = reading.spans();
     Ok(Told::Answer(match question {
         Question::Symbols => symbols_in(alloc, spans, &names, file, &lines)?,
+        Question::Inlays { until } => {
+            let part = Span {
+                file,
+                start: offset,
+                end: lines.offset(until),
+            };
+            inlays_in(alloc, &names, part, &lines)?
+        }
         _ => folds_in(alloc, spans, text, file, &lines)?,
     }))
+}
+
+// Nothing, where the texts give no plan.
+fn lenses_on<R: AllocGlobal + Threads + Sync>(
+    rt: &R,
+    given: &Given,
+    texts: &Texts<'_>,
+    reading: Reading,
+    document: &Document,
+    units: Units,
+) -> Result<Told, AllocError> {
+    let alloc = rt.alloc();
+    match (reading, given.number_of(document.uri.as_str())) {
+        (Reading::Plan(plan), Some(file)) => {
+            let lines = Lines::of(alloc, document.text.as_bytes(), units)?;
+            Ok(Told::Answer(lenses_in(rt, given, texts, plan, file, &lines)?))
+        }
+        _ => nothing(alloc),
+    }
+}
+
+fn lenses_in<R: AllocGlobal + Threads + Sync>(
+    rt: &R,
+    given: &Given,
+    texts: &Texts<'_>,
+    plan: GivenPlan,
+    file: u32,
+    lines: &Lines<'_>,
+) -> Result<String, AllocError> {
+    let alloc = rt.alloc();
+    let GivenPlan { plan, provenance } = plan;
+    let checked = checked(rt, alloc, plan)?;
+    let words = texts.words(&checked.plan, &provenance);
+    let names = names_in(alloc, &provenance.spans, given.parts.as_slice())?;
+    lenses_of(alloc, &checked, words, &names, file, lines)
 }
 
 // ---- a name
