@@ -60,8 +60,8 @@ class Frames {
     }
 }
 
-// A connection to a server. `noted(method, params)` is called for what the server tells, and `broken(error)` once where what it
-// writes cannot be read.
+// A connection to a server. `noted(method, params)` is called for what the server tells, and `broken(error)` where what it
+// writes cannot be read. Then it is to be closed.
 class Connection {
     constructor(input, output, { noted, broken }) {
         this.output = output;
@@ -75,8 +75,8 @@ class Connection {
         output.on('error', () => {}); // (the process has ended, which is told of by itself)
     }
 
-    // The answer. It is null where the token is cancelled before, and then the server is told so. An error of the server is thrown
-    // with its message.
+    // The answer. It is null where the token is cancelled before, and then the server is told so. An error of the server is
+    // thrown with its message.
     request(method, params, token) {
         if (this.closed) {
             return Promise.reject(new Error(this.closed));

@@ -31,8 +31,9 @@ function changesOf({ document, contentChanges }, kind) {
 
 // Tells of all that are open, and of what happens to them from now on, as far as the server wants it. What is given is to be
 // disposed of at the end.
-function followDocuments(server, { openClose, change, save }) {
+function followDocuments(server, wanted) {
     const { workspace } = vscode;
+    const { openClose, change, save } = typeof wanted === 'number' ? { openClose: true, change: wanted } : wanted || {};
     const tell = (method, document, more, changes) => isOurs(document) && server.notify(`textDocument/${method}`,
         { textDocument: { uri: document.uri.toString(), ...more }, ...changes });
     const opened = document => {

@@ -69,8 +69,8 @@ class Session {
                 return;
             }
             this.connection.notify('initialized', {});
-            this.kept.push(...registerFeatures(this, capabilities), ...followFiles(this));
-            this.kept.push(...followDocuments(this, capabilities.textDocumentSync || {}));
+            this.kept.push(...registerFeatures(this, capabilities), ...followFiles(this),
+                ...followDocuments(this, capabilities.textDocumentSync));
         } catch (error) {
             this.abandon(error.message);
         }

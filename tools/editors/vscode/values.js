@@ -1,5 +1,5 @@
-// What the protocol writes as JSON, as VS Code has it, and places as the protocol writes them. Kinds are numbered from 1 on there,
-// and from 0 on here.
+// What the protocol writes as JSON, as VS Code has it, and places as the protocol writes them. Kinds are numbered from 1 on
+// there, and from 0 on here.
 'use strict';
 
 const vscode = require('vscode');
@@ -78,5 +78,6 @@ function hint({ position, label, paddingLeft }) {
 }
 
 module.exports = {
-    writtenPosition, writtenRange, range, location, diagnostic, hover, highlight, edit, workspaceEdit, completion, symbol, fold, lens, hint,
+    writtenPosition, writtenRange, range, location, diagnostic, hover, highlight, edit, workspaceEdit, completion, symbol,
+    fold, lens, hint,
 };
