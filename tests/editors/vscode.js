@@ -328,9 +328,10 @@ async function restarts(document) {
     const started = children.length;
     want('one server', 1, started);
     const [before] = children;
-    await stub.state.commands['twire.restart']();
-    want('the server that is restarted ends well', 0, status(before));
+    const again = stub.state.commands['twire.restart']();
     replaced(document, 'set ;', 'sat ;');
+    await again;
+    want('the server that is restarted ends well', 0, status(before));
     await becomes('the next one knows the documents', [['P8', 0, 4, 15, 4, 18]], () => shown(document));
     children[started].kill('SIGKILL');
     await until(() => children.length === started + 2);

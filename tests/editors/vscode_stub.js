@@ -1,6 +1,5 @@
 // What the extension of tools/editors uses of VS Code's API, for node: values, documents that are edited, and what was
-// registered. It is as strict as VS Code: a channel that is disposed of takes nothing, and a symbol's selection stands in its
-// range.
+// registered. It is as strict as VS Code: what is disposed of takes nothing, and a symbol's selection stands in its range.
 'use strict';
 
 const { fileURLToPath, pathToFileURL } = require('url');
@@ -203,7 +202,12 @@ const languages = {
         const lists = new Map();
         state.collections.add(lists);
         return {
-            set: (uri, list) => lists.set(uri.toString(), list),
+            set(uri, list) {
+                if (!state.collections.has(lists)) {
+                    throw new Error('illegal state - object is disposed');
+                }
+                lists.set(uri.toString(), list);
+            },
             dispose: () => state.collections.delete(lists),
         };
     },

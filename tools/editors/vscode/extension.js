@@ -4,7 +4,7 @@
 const vscode = require('vscode');
 const { Session } = require('./session');
 
-// After so many ends within this time it is left to the user.
+// After this many ends within this time the user decides.
 const MOST_ENDS = 4;
 const MILLISECONDS = 3 * 60 * 1000;
 
@@ -20,7 +20,7 @@ class Keeper {
         this.done = Promise.resolve();
     }
 
-    // By wish of the user: what was before is forgotten.
+    // Where the user wants it: how often servers ended is forgotten.
     restart() {
         this.ends = [];
         return this.startAgain();

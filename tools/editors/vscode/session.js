@@ -8,9 +8,10 @@ const { followDocuments, followFiles } = require('./documents');
 const { registerFeatures } = require('./features');
 const values = require('./values');
 
-// So long a server that is asked to end may take.
+// How long a server may take to end when it is asked to.
 const MILLISECONDS_TO_END = 2000;
 
+// What is understood here.
 const CLIENT = {
     general: { positionEncodings: ['utf-16'] },
     textDocument: {
@@ -39,7 +40,7 @@ function greeting() {
     return { processId: process.pid, clientInfo: { name: 'VS Code' }, rootUri, capabilities: CLIENT };
 }
 
-// `ended(reason, isMissing)` is called where the process ends without being asked to. It is missing where it never began.
+// `ended(reason, isMissing)` is called where the process ends without being asked to. It is missing where it could not begin.
 class Session {
     constructor(output, ended) {
         this.output = output;
@@ -54,7 +55,7 @@ class Session {
             noted: (method, params) => this.noted(method, params),
             broken: error => this.abandon(error.message),
         });
-        this.child.stderr.on('data', bytes => output.append(bytes.toString()));
+        this.child.stderr.setEncoding('utf8').on('data', text => output.append(text));
         this.gone = new Promise(resolve => {
             this.child.on('error', error => this.child.pid === undefined && resolve(this.over(error.message, true)));
             this.child.on('close', (status, signal) => resolve(this.over(signal || `status ${status}`)));
@@ -79,6 +80,7 @@ class Session {
     // Asks the server to end, and waits for it.
     async stop() {
         this.isAsked = true;
+        this.release();
         const impatience = setTimeout(() => this.child.kill('SIGKILL'), MILLISECONDS_TO_END);
         await this.connection.request('shutdown').catch(() => {});
         this.connection.notify('exit');
@@ -115,10 +117,15 @@ class Session {
     // ---- what happens to it
 
     noted(method, params) {
-        if (method === 'textDocument/publishDiagnostics') {
+        if (method === 'textDocument/publishDiagnostics' && !this.isAsked) {
             this.diagnostics.set(vscode.Uri.parse(params.uri), params.diagnostics.map(values.diagnostic));
             this.told.fire();
         }
+    }
+
+    // Takes from the editor what it was given.
+    release() {
+        this.kept.splice(0).forEach(one => one.dispose());
     }
 
     // Ends a server that does not do what it should.
@@ -132,9 +139,10 @@ class Session {
             return;
         }
         this.isOver = true;
-        this.output.appendLine(`twire lsp ended: ${reason}`);
-        this.connection.close(reason);
-        this.kept.forEach(one => one.dispose());
+        const words = `twire lsp ended: ${reason}`;
+        this.output.appendLine(words);
+        this.connection.close(words);
+        this.release();
         if (!this.isAsked) {
             this.ended(reason, isMissing);
         }
