@@ -26,12 +26,14 @@ global.setTimeout = (run, milliseconds, ...more) => later(run, milliseconds === 
 const load = Module._load;
 Module._load = (name, ...more) => (name === 'vscode' ? stub.api : load(name, ...more));
 
-// The servers that were started, in their order.
+// The servers that were started, in their order, and the folders in which they were.
 const children = [];
+const folders = [];
 const { spawn } = childProcess;
-childProcess.spawn = (...call) => {
-    const child = spawn(...call);
+childProcess.spawn = (program, words, options) => {
+    const child = spawn(program, words, options);
     children.push(child);
+    folders.push(options.cwd);
     return child;
 };
 
@@ -326,9 +328,11 @@ async function board() {
 
 async function restarts(document) {
     const started = children.length;
-    want('one server', 1, started);
+    want('one server, in the folder of the project', [process.cwd()], folders);
     const [before] = children;
     const again = stub.state.commands['twire.restart']();
+    await pause(0);
+    want('it is asked no more', [0], [...new Set(Object.values(stub.state.providers).map(one => one.length))]);
     replaced(document, 'set ;', 'sat ;');
     await again;
     want('the server that is restarted ends well', 0, status(before));
@@ -376,6 +380,10 @@ async function otherServers(document) {
     source.cancel();
     want('a question that is cancelled', null, await hover);
     await becomes('which the server hears', '$/cancelRequest {"id":2}', toldBack);
+    replaced(document, 'bmc', 'b\u{1f321}');
+    const range = '{"start":{"line":4,"character":11},"end":{"line":4,"character":14}}';
+    await becomes('a server that wants ranges', true, () => toldBack().includes(`[{"range":${range},"text":"b\u{1f321}"}]`));
+    replaced(document, 'b\u{1f321}', 'bmc');
     const deaf = children[children.length - 1];
     patience = 100;
     stub.set('twire.arguments', ['few']);

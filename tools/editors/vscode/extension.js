@@ -43,9 +43,8 @@ class Keeper {
             return;
         }
         try {
-            const session = new Session(this.output, (reason, isMissing) => this.ended(session, reason, isMissing));
-            this.session = session;
-            session.begin();
+            this.session = new Session(this.output, (reason, isMissing) => this.ended(reason, isMissing));
+            this.session.begin();
         } catch (error) {
             this.tell(`twire cannot be started: ${error.message}`);
         }
@@ -59,10 +58,7 @@ class Keeper {
         }
     }
 
-    ended(session, reason, isMissing) {
-        if (session !== this.session) {
-            return;
-        }
+    ended(reason, isMissing) {
         this.session = null;
         const now = Date.now();
         this.ends = [...this.ends.filter(before => now - before < MILLISECONDS), now];
