@@ -437,22 +437,22 @@ lines two.brief "brief 1" "device eeprom 0x50 ;  device sensor 0x48 ;" "message 
 status=$?
 sed -n '/ × /,/ group \|^unsafe/p' report | grep '^    ' | grep -v ' group ' >out
 want 1 "    bmc/page_* × host/entry: 4 pairs, one goes on, one repeats START
-    0.1 let bit 7 of data byte 1 be 0 in one and 1 in the other: two.brief:3,
+    0.1 let bit 7 of data byte 1 be 0 in 'page' and 1 in 'entry': two.brief:3,
     two.brief:4
     message page write eeprom 0b0xxxxxxx any*1..4 ;
     message entry write eeprom 0b1xxxxxxx read eeprom 1 ;
-    0.2 leave out what entry writes before it reads, if the device keeps its
-    pointer (someone else may have moved it): two.brief:4
+    0.2 leave out what 'entry' writes before it reads, if the device keeps its
+    register pointer (others may have moved it): two.brief:4
     message entry read eeprom 1 ;
-    0.3 keep them apart by a lock outside the bus: 4 of 10 pairs are not checked
-    then: two.brief:9
+    0.3 keep the two sides apart by a lock outside the bus: 4 of 10 pairs are
+    then not checked: two.brief:9
     never bmc/page host/entry ;
     bmc/set × host/get: 1 pair, one goes on, one repeats START
-    1.1 leave out what get writes before it reads, if the device keeps its
-    pointer (someone else may have moved it): two.brief:6
+    1.1 leave out what 'get' writes before it reads, if the device keeps its
+    register pointer (others may have moved it): two.brief:6
     message get read sensor 2 ;
-    1.2 keep them apart by a lock outside the bus: 1 of 10 pairs are not checked
-    then: two.brief:9
+    1.2 keep the two sides apart by a lock outside the bus: 1 of 10 pairs is
+    then not checked: two.brief:9
     never bmc/set host/get ;" ""
 compare "what mends each of two groups of a brief"
 

@@ -24,16 +24,21 @@ same "a line for each group" "    group 0: a/few × b/many: 1 pair, one ends, on
 same "all offers, numbered from 1" "0.1 0.2 0.3 0.4 0.5 0.6" "$(sed -n 's/^    \([0-9]*\.[0-9]*\) .*/\1/p' out | xargs)"
 same "the lines of an offer as they would stand, with their comments" 1 \
     "$(grep -cxF '    message many write t any read t 21..30 ;   # in one go' out)"
-same "what check says, and then the list" "unsafe: 1 of 5 pairs
-    to mend all pairs: 0.1; then check says 'safe: 5 pairs'" "$(tail -n 2 out)"
+same "what check says, then the list, and the command that takes it" "unsafe: 1 of 5 pairs
+    to mend all pairs: 0.1; then check says 'safe: 5 pairs'
+    to make these edits: twire mend six.brief --all --in-place" "$(tail -n 3 out)"
 same "no line is wider than a terminal, but for one to be copied" "" "$(grep -v '^    message ' out | grep '.\{81,\}')"
 "$twire" check six.brief --explain | awk "$alike" >told
 awk "$alike" out | sed -e '/^    0\.5 /,/^unsafe/{/^unsafe/!d}' >found
 sed -i '/^    and 2 more offers$/d' told
 same_file "the first four as check says them" told found
 
-# The words of all groups are those of check, where it shows all offers.
+# The words of all groups are those of check, where it shows all offers. (A plan of thousands of pairs takes a trial build long.)
+plans=()
 for plan in "$examples"/*.plan "$examples"/*.brief; do
+    [[ $plan == */server_board.* ]] || plans+=("$plan")
+done
+for plan in "${plans[@]}"; do
     cp "$plan" .
     plan=${plan##*/}
     "$twire" check "$plan" --summary --most 1000 | awk "$alike" | sed '/^    .*decided\|^    .*alike\|^    no pair/d' >told
@@ -110,8 +115,7 @@ expect "both groups" 0 "$(sed '2s/write 0010000/read 0010000 1/; 4s/write 001000
 expect "the list of two groups" 0 "$(sed '2s/write 0010000/read 0010000 1/; 4s/write 0010001/read 0010001 1/' two.plan)" "" mend two.plan --all
 
 # What the last lines say is what check says of the texts with the list.
-for plan in "$examples"/*.plan "$examples"/*.brief six.brief two.plan; do
-    cp "$plan" mended 2>/dev/null
+for plan in "${plans[@]}" six.brief two.plan; do
     "$twire" mend "$plan" --all >mended
     status=$?
     said=$("$twire" mend "$plan" | sed -n "s/.*check says '\(.*\)'.*/\1/p")
@@ -243,21 +247,24 @@ expect "the same words" 2 "" "refused overlap 0.3,0.4
 hint: offers 0.3 and 0.4 change the same words: take one of them" mend six.brief --take 0.2,0.3,0.4 --hints always
 expect "the same words: an object" 2 "" '{"kind":"refusal","code":"overlap","offers":"0.4,0.3","reason":"offers 0.4 and 0.3 change the same words: take one of them"}' \
     mend six.brief --take 0.4,0.3 --format json
-cp "$examples/stop_meets_data.plan" stop.plan
-expect "edits that give no plan together" 2 "" "refused edited P3 line 23" mend stop.plan --take 0.1,0.2
-expect "edits that give no plan together: hints" 2 "" 'refused edited P3 line 23
-hint: the edited texts give no plan: P3 line 23 of "stop.plan"' mend stop.plan --take 0.1,0.2 --hints always
-expect "edits that give no plan together: an object" 2 "" '{"kind":"refusal","code":"edited","line":23,"reason":"the edited texts give no plan: P3 line 23 of \"stop.plan\""}' \
-    mend stop.plan --take 0.1,0.2 --format json
-expect "edits that give no plan together, in place" 2 "" "refused edited P3 line 23" mend stop.plan --take 0.1,0.2 --in-place
-same_file "edits that give no plan together: the file" "$examples/stop_meets_data.plan" stop.plan
-lines first.brief "brief 1" "message p write 0x10 ;" "controller a p ;"
-lines second.brief "brief 1" "message q write 0x10 any ;" "message r write 0x11 ;" "controller b q r ;"
-expect "edits that give no plan together, of several files" 2 "" "refused edited P3 line 2 of first.brief" \
-    mend second.brief --with first.brief --take 0.1,0.2
+# (as many bytes as each of two others, so that the message has 350)
+lines long.brief "brief 1" "message a write 0x10 any*100 ;" "message b write 0x10 any*200 ;" "message c write 0x10 any*250 ;" \
+    "controller x a ;" "controller y b ;" "controller z c ;"
+cp long.brief kept.brief
+expect "edits that give no plan together" 2 "" "refused edited P5 line 2" mend long.brief --take 0.2,1.2
+expect "edits that give no plan together: hints" 2 "" 'refused edited P5 line 2
+hint: the edited texts give no plan: P5 line 2 of "long.brief"' mend long.brief --take 0.2,1.2 --hints always
+expect "edits that give no plan together: an object" 2 "" '{"kind":"refusal","code":"edited","line":2,"reason":"the edited texts give no plan: P5 line 2 of \"long.brief\""}' \
+    mend long.brief --take 0.2,1.2 --format json
+expect "edits that give no plan together, in place" 2 "" "refused edited P5 line 2" mend long.brief --take 0.2,1.2 --in-place
+same_file "edits that give no plan together: the file" kept.brief long.brief
+lines first.brief "brief 1" "message a write 0x10 any*100 ;" "controller x a ;"
+lines second.brief "brief 1" "message b write 0x10 any*200 ;" "message c write 0x10 any*250 ;" "controller y b ;" "controller z c ;"
+expect "edits that give no plan together, of several files" 2 "" "refused edited P5 line 2 of first.brief" \
+    mend second.brief --with first.brief --take 0.2,1.2
 expect "edits that give no plan together, of several files: an object" 2 "" \
-    '{"kind":"refusal","code":"edited","line":2,"file":"first.brief","reason":"the edited texts give no plan: P3 line 2 of \"first.brief\""}' \
-    mend second.brief --with first.brief --take 0.1,0.2 --format json
+    '{"kind":"refusal","code":"edited","line":2,"file":"first.brief","reason":"the edited texts give no plan: P5 line 2 of \"first.brief\""}' \
+    mend second.brief --with first.brief --take 0.2,1.2 --format json
 expect "a plan that is refused" 2 "" "refused P3 line 2" mend --all - <<<$'brief 1\nmessage @ ;'
 expect "a file that is not there" 2 "" "refused read" mend none
 expect "no workers" 2 "" "refused workers" mend six.brief --workers 0

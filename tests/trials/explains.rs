@@ -36,15 +36,21 @@ fn two((first, last): (usize, usize)) -> Value {
     Value::Array(vec![Value::of(first), Value::of(last)])
 }
 
-/// Of a group of unsafe pairs: so many of its offers are shown.
-pub fn of_group(mended: &Mended, group: usize) -> Value {
+/// Of a group of unsafe pairs: of an explained one the first offers are shown, and of each those that the list names. None of
+/// another one of which it names none.
+pub fn of_group(mended: &Mended, group: usize, is_explained: bool) -> Option<Value> {
     let (_, offers) = &mended.mending.groups[group];
-    let shown = offers.iter().take(SHOWN).enumerate().map(|(k, offer)| of_offer(mended, (group, k), offer));
+    let is_shown = |k: &usize| is_explained && *k < SHOWN || mended.mending.list.contains(&(group, *k));
+    let shown: Vec<usize> = (0..offers.len()).filter(is_shown).collect();
+    let more = offers.len() - shown.len();
+    let is_said = is_explained || !shown.is_empty();
+    let shown = shown.into_iter().map(|k| of_offer(mended, (group, k), &offers[k]));
     let mut fields = vec![("offers", Value::Array(shown.collect()))];
-    fields.extend(offers.len().checked_sub(SHOWN + 1).map(|more| ("more", Value::of(more + 1))));
-    object(fields)
+    fields.extend((more != 0).then(|| ("more", Value::of(more))));
+    is_said.then(|| object(fields))
 }
 
+// How many offers of an explained group are shown, whatever the list names.
 const SHOWN: usize = 4;
 
 fn of_offer(mended: &Mended, place: (usize, usize), offer: &Offer) -> Value {

@@ -323,7 +323,6 @@ fn shapes_are_looked_at() {
     assert!(shown(&offers(&four, 3), &plan).is_ok());
     for wrong in [
         offers(&[right.clone()], 1),
-        offers(&[four.to_vec(), vec![number(5)]].concat(), 0),
         offers(&four, 1).replace("\"more\":1", "\"more\":0"),
         offers(&[number(2)], 0),
         offers(&[right.replace("\"0.1\"", "\"1.1\"")], 0),

@@ -345,30 +345,42 @@ fn group(fields: &mut Fields) -> Result<String, String> {
     only_if(is_part, "there is no such part of a frame")?;
     let mut example = Fields::of(fields.take("example")?)?;
     let (_, slots) = unsafe_pair(&mut example)?;
-    if let Some(mut explain) = example.explain()? {
+    let explain = example.explain()?;
+    let is_explained = explain.is_some();
+    if let Some(mut explain) = explain {
         explained_pair(&mut explain, slots)?;
         explain.end()?;
     }
     example.end()?;
     if let Some(mut explain) = fields.explain()? {
-        explained_group(&mut explain, &number)?;
+        explained_group(&mut explain, &number, is_explained)?;
         explain.end()?;
     }
     Ok(String::new())
 }
 
-// What is offered for it: four at most, and how many more there are.
-fn explained_group(explain: &mut Fields, group: &str) -> Result<(), String> {
+// What is offered for it, and how many more there are. Of an explained group the first four are shown, and of another one some.
+fn explained_group(explain: &mut Fields, group: &str, is_explained: bool) -> Result<(), String> {
     let offers = explain.maybe("offers", Value::into_items)?.unwrap_or_default();
-    let (count, numbers) = (offers.len(), 1..);
-    for (k, value) in numbers.zip(offers) {
+    let mut shown = Vec::new();
+    for value in offers {
         let mut fields = Fields::of(value)?;
-        only_if(fields.text("offer")? == format!("{group}.{k}"), "an offer has another number")?;
+        shown.push(offer_number(&fields.text("offer")?, group)?);
         offer(&mut fields, group)?;
         fields.end()?;
     }
-    let more = explain.maybe("more", Value::into_number)?;
-    only_if(count <= 4 && more.is_none_or(|more| count == 4 && more != "0"), "other offers are shown")
+    let more = explain.maybe("more", Value::into_number)?.map(count).transpose()?;
+    let all = shown.len() as u64 + more.unwrap_or(0);
+    let is_right = if is_explained { shown.iter().take(4).copied().eq(1..=all.min(4)) } else { !shown.is_empty() };
+    let is_in_order = shown.is_sorted_by(|a, b| a < b) && shown.iter().all(|number| (1..=all).contains(number));
+    only_if(is_right && is_in_order && more != Some(0), "other offers are shown")
+}
+
+fn offer_number(number: &str, group: &str) -> Result<u64, String> {
+    match number.split_once('.') {
+        Some((before, own)) if before == group => count(own.to_string()),
+        _ => Err(format!("an offer has another number: {number}")),
+    }
 }
 
 fn offer(fields: &mut Fields, group: &str) -> Result<(), String> {

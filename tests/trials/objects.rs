@@ -123,9 +123,8 @@ fn of_group(number: usize, group: &Group, faults: &[Fault], mended: Option<&Mend
         shown.push(("explain", explains::of_fault(example)));
     }
     fields.push(("example", object(shown)));
-    if number < MOST {
-        fields.extend(mended.map(|mended| ("explain", explains::of_group(mended, number))));
-    }
+    let explain = mended.and_then(|mended| explains::of_group(mended, number, number < MOST));
+    fields.extend(explain.map(|explain| ("explain", explain)));
     of_kind("group", fields)
 }
 

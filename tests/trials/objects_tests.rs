@@ -131,8 +131,13 @@ fn further_groups_are_not_explained() {
     );
     let found = check(&plan);
     assert_eq!(found.len(), 23);
-    let explained: Vec<bool> = found.iter().map(|object| object.contains("\"explain\":")).collect();
-    assert_eq!(explained, [&[false; 11][..], &[true; 10], &[false, true]].concat());
+    let explained: Vec<bool> = found.iter().map(|object| object.contains("\"explain\":{\"slot\":")).collect();
+    assert_eq!(explained, [&[false; 11][..], &[true; 10], &[false; 2]].concat());
+    // The list names the offer of the last one, which is there. (No bytes more are offered: the others would be unsafe then.)
+    let [(_, offers), (_, last)] = [&found[21], &found[22]].map(|object| object.split_once(",\"explain\":").unwrap());
+    assert!(offers.starts_with("{\"offers\":[{\"offer\":\"10.1\",\"kind\":\"read\","), "{offers}");
+    assert!(!offers.contains("10.2") && offers.ends_with("}]}]}}"), "{offers}");
+    assert!(last.contains(",\"10.1\"]"), "{last}");
     let last = "\"unsafe_pairs\":11,\"explain\":{\"explained\":10,\"groups\":11,";
     assert!(found[22].contains(last), "{}", found[22]);
 }

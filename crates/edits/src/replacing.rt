@@ -101,7 +101,7 @@ impl Edits {
 }
 
 fn sorted(mut edits: Vec<Edit>) -> Result<Vec<Edit>, AllocError> {
-    edits.sort_by_key(|edit| (edit.span.file, edit.span.start))?;
+    edits.sort_by_key(|edit| (edit.span.file, edit.span.start, edit.span.end))?;
     Ok(edits)
 }
 

@@ -1,5 +1,5 @@
 -- What explains the verdict on a plan.
-use Rattle.std.specs.Prelude.{ℕ, List, Unit}
+use Rattle.std.specs.Prelude.{ℕ, List}
 use Rattle.certificate.specs.declared.values.Fault.{Fault}
 use Rattle.offers.specs.Offered.{AreOffers}
 use Rattle.offers.specs.declared.reasons.Reasons.{Reasons}

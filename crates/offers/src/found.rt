@@ -113,7 +113,7 @@ pub fn offers_of(
     let given = Given::new(alloc, words, provenance)?;
     let keeping = keeping::groups_of(alloc, words)?;
     let free = free_addresses(alloc, plan)?;
-    let it = Unedited {
+    let was = Unedited {
         plan,
         faults,
         texts: provenance.texts.as_slice(),
@@ -126,40 +126,41 @@ pub fn offers_of(
         keeping: &keeping,
         free: free.as_slice(),
     };
-    offers_in(alloc, it, groups, search)
+    offers_in(alloc, was, groups, search)
 }
 
 // The same, with what is looked at to find them.
 fn offers_in(
     alloc: Global,
-    it: Unedited<'_>,
+    was: Unedited<'_>,
     groups: &Grouped,
     search: Search<'_, '_>,
 ) -> Result<Offers, AllocError>
-    requires { AreFaults (plan_contents it.plan.now) (fault_list it.faults.now) }
-    ensures { IfOk result (λ offers. AreOffers (bytes_of it.texts.now) (plan_contents it.plan.now)
-        (fault_list it.faults.now) (group_numbers groups.now) offers) }
+    requires { AreFaults (plan_contents was.plan.now) (fault_list was.faults.now) }
+    ensures { IfOk result (λ offers. AreOffers (bytes_of was.entry.texts.now) (plan_contents was.entry.plan.now)
+        (fault_list was.entry.faults.now) (group_numbers groups.now) offers) }
 {
-    let mut tries = Tries::new(it);
-    let all = all_offers(alloc, it, groups, search, &mut tries)?;
-    let together = together_of(alloc, it, groups, all.as_slice(), &mut tries)?;
+    let mut tries = Tries::new(was);
+    let all = all_offers(alloc, was, groups, search, &mut tries)?;
+    tries.renew();
+    let together = together_of(alloc, was, groups, all.as_slice(), &mut tries)?;
     Ok(Offers {
         all,
         together,
-        is_cut: tries.are_spent(),
+        is_cut: tries.are_cut(),
     })
 }
 
 fn all_offers(
     alloc: Global,
-    it: Unedited<'_>,
+    was: Unedited<'_>,
     groups: &Grouped,
     search: Search<'_, '_>,
     tries: &mut Tries,
 ) -> Result<Vec<Offer>, AllocError>
-    requires { AreFaults (plan_contents it.plan.now) (fault_list it.faults.now) }
-    ensures { IfOk result (λ offers. All (IsOffer (bytes_of it.texts.now) (plan_contents it.plan.now)
-        (fault_list it.faults.now) (group_numbers groups.now)) offers.items) }
+    requires { AreFaults (plan_contents was.plan.now) (fault_list was.faults.now) }
+    ensures { IfOk result (λ offers. All (IsOffer (bytes_of was.entry.texts.now) (plan_contents was.entry.plan.now)
+        (fault_list was.entry.faults.now) (group_numbers groups.now)) offers.items) }
 {
     let members = by_groups(alloc, groups)?;
     let mut all = Vec::new(alloc);
@@ -170,7 +171,7 @@ fn all_offers(
             rest = later;
             push_offers(
                 alloc,
-                it,
+                was,
                 groups,
                 search,
                 tries,
@@ -195,26 +196,26 @@ type Numbered<'m> = (usize, Group, &'m [(usize, usize)]);
 // Adds what is offered for a group.
 fn push_offers(
     alloc: Global,
-    it: Unedited<'_>,
+    was: Unedited<'_>,
     groups: &Grouped,
     search: Search<'_, '_>,
     tries: &mut Tries,
     all: &mut Vec<Offer>,
     group: Numbered<'_>,
 ) -> Result<(), AllocError>
-    requires faults { AreFaults (plan_contents it.plan.now) (fault_list it.faults.now) }
-    requires before { All (IsOffer (bytes_of it.texts.now) (plan_contents it.plan.now)
-        (fault_list it.faults.now) (group_numbers groups.now)) all.old.items }
-    ensures { OnOk result (All (IsOffer (bytes_of it.texts.now) (plan_contents it.plan.now)
-        (fault_list it.faults.now) (group_numbers groups.now)) all.new.items) }
+    requires faults { AreFaults (plan_contents was.plan.now) (fault_list was.faults.now) }
+    requires before { All (IsOffer (bytes_of was.texts.now) (plan_contents was.plan.now)
+        (fault_list was.faults.now) (group_numbers groups.now)) all.old.items }
+    ensures { OnOk result (All (IsOffer (bytes_of was.entry.texts.now) (plan_contents was.entry.plan.now)
+        (fault_list was.entry.faults.now) (group_numbers groups.now)) all.new.items) }
 {
     if tries.are_spent() {
         return Ok(());
     }
     let (g, _, _) = group;
-    for proposal in search.proposals(alloc, it.faults, group)? {
+    for proposal in search.proposals(alloc, was.faults, group)? {
         if let Some(number) = number_of(all.as_slice(), g, &proposal) {
-            push_offer(alloc, it, groups, tries, all, (g, number), proposal)?;
+            push_offer(alloc, was, groups, tries, all, (g, number), proposal)?;
         }
     }
     Ok(())
@@ -223,20 +224,20 @@ fn push_offers(
 // Adds the offer that a proposal is, where it mends the group.
 fn push_offer(
     alloc: Global,
-    it: Unedited<'_>,
+    was: Unedited<'_>,
     groups: &Grouped,
     tries: &mut Tries,
     all: &mut Vec<Offer>,
     numbers: (usize, usize),
     proposal: Proposal,
 ) -> Result<(), AllocError>
-    requires faults { AreFaults (plan_contents it.plan.now) (fault_list it.faults.now) }
-    requires before { All (IsOffer (bytes_of it.texts.now) (plan_contents it.plan.now)
-        (fault_list it.faults.now) (group_numbers groups.now)) all.old.items }
-    ensures { OnOk result (All (IsOffer (bytes_of it.texts.now) (plan_contents it.plan.now)
-        (fault_list it.faults.now) (group_numbers groups.now)) all.new.items) }
+    requires faults { AreFaults (plan_contents was.plan.now) (fault_list was.faults.now) }
+    requires before { All (IsOffer (bytes_of was.texts.now) (plan_contents was.plan.now)
+        (fault_list was.faults.now) (group_numbers groups.now)) all.old.items }
+    ensures { OnOk result (All (IsOffer (bytes_of was.entry.texts.now) (plan_contents was.entry.plan.now)
+        (fault_list was.entry.faults.now) (group_numbers groups.now)) all.new.items) }
 {
-    if let Some(offer) = offer_of(alloc, it, groups, tries, numbers, proposal)? {
+    if let Some(offer) = offer_of(alloc, was, groups, tries, numbers, proposal)? {
         all.push(offer)?;
     }
     Ok(())
@@ -267,25 +268,26 @@ fn excludes(found: &Proposal, other: &Proposal) -> bool {
 
 fn offer_of(
     alloc: Global,
-    it: Unedited<'_>,
+    was: Unedited<'_>,
     groups: &Grouped,
     tries: &mut Tries,
     numbers: (usize, usize),
     proposal: Proposal,
 ) -> Result<Option<Offer>, AllocError>
-    requires { AreFaults (plan_contents it.plan.now) (fault_list it.faults.now) }
-    ensures { IfOk result (λ found. IfSome found (λ offer. IsOffer (bytes_of it.texts.now) (plan_contents it.plan.now)
-        (fault_list it.faults.now) (group_numbers groups.now) offer)) }
+    requires { AreFaults (plan_contents was.plan.now) (fault_list was.faults.now) }
+    ensures { IfOk result (λ found. IfSome found (λ offer. IsOffer (bytes_of was.entry.texts.now) (plan_contents was.entry.plan.now)
+        (fault_list was.entry.faults.now) (group_numbers groups.now) offer)) }
 {
     let (group, number) = numbers;
-    let Some(outcome) = tries.outcome(alloc, it, proposal.edits.as_slice())? else {
+    let Some(outcome) = tries.outcome(alloc, was, proposal.edits.as_slice())? else {
         return Ok(None);
     };
     let mended = mended_by(alloc, groups, outcome.left.as_slice())?;
-    if !may_cost(proposal.change, outcome.price) || !mended.contains(&group) {
+    let pairs = (was.plan.pair_count(), outcome.pairs);
+    if !may_have(proposal.change, pairs) || !mended.contains(&group) {
         return Ok(None);
     }
-    let lines = lines_changed(alloc, it.texts, proposal.edits.as_slice())?;
+    let lines = lines_changed(alloc, was.texts, proposal.edits.as_slice())?;
     Ok(Some(Offer {
         group,
         number,
@@ -297,13 +299,13 @@ fn offer_of(
     }))
 }
 
-// Only items that keep pairs apart may leave some out.
-fn may_cost(change: Change, price: u32) -> bool
-    ensures { IsTrue result → KeepsPairs change price }
+// Only items that keep pairs apart may leave some out: before there were so many, and then so many.
+fn may_have(change: Change, pairs: (u32, u32)) -> bool
+    ensures { IsTrue result → KeepsPairs change pairs.0 pairs.1 }
 {
     match change {
         Change::Never => true,
-        _ => price == 0,
+        _ => pairs.0 == pairs.1,
     }
 }
 

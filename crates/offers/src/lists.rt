@@ -42,14 +42,14 @@ impl Drop for Together {
 /// Where an allocation fails.
 pub fn together_of(
     alloc: Global,
-    it: Unedited<'_>,
+    was: Unedited<'_>,
     groups: &Grouped,
     offers: &[Offer],
     tries: &mut Tries,
 ) -> Result<Together, AllocError>
-    requires { AreFaults (plan_contents it.plan.now) (fault_list it.faults.now) }
-    ensures { IfOk result (λ list. IsTogether (bytes_of it.texts.now) (plan_contents it.plan.now)
-        (fault_list it.faults.now) list) }
+    requires { AreFaults (plan_contents was.plan.now) (fault_list was.faults.now) }
+    ensures { IfOk result (λ list. IsTogether (bytes_of was.entry.texts.now) (plan_contents was.entry.plan.now)
+        (fault_list was.entry.faults.now) list) }
 {
     let mut list = Together {
         places: Vec::new(alloc),
@@ -64,7 +64,14 @@ pub fn together_of(
         };
         if let (Some(offer), Some(is_unused)) = (offers.get(best), unused.get_mut(best)) {
             *is_unused = false;
-            list = list.with(alloc, it, groups, tries, (best, offer), open.as_mut_slice())?;
+            list = list.with(
+                alloc,
+                was,
+                groups,
+                tries,
+                (best, offer),
+                open.as_mut_slice(),
+            )?;
         }
     }
     Ok(list)
@@ -75,24 +82,24 @@ impl Together {
     fn with(
         self,
         alloc: Global,
-        it: Unedited<'_>,
+        was: Unedited<'_>,
         groups: &Grouped,
         tries: &mut Tries,
         further: (usize, &Offer),
         open: &mut [bool],
     ) -> Result<Together, AllocError>
-        requires faults { AreFaults (plan_contents it.plan.now) (fault_list it.faults.now) }
-        requires before { IsTogether (bytes_of it.texts.now) (plan_contents it.plan.now)
-            (fault_list it.faults.now) self }
-        ensures { IfOk result (λ list. IsTogether (bytes_of it.texts.now) (plan_contents it.plan.now)
-            (fault_list it.faults.now) list) }
+        requires faults { AreFaults (plan_contents was.plan.now) (fault_list was.faults.now) }
+        requires before { IsTogether (bytes_of was.texts.now) (plan_contents was.plan.now)
+            (fault_list was.faults.now) self }
+        ensures { IfOk result (λ list. IsTogether (bytes_of was.entry.texts.now) (plan_contents was.entry.plan.now)
+            (fault_list was.entry.faults.now) list) }
     {
         let (place, offer) = further;
         let own = offer.proposal.edits.as_slice();
         let Some(edits) = joined(alloc, self.edits.as_slice(), own)? else {
             return Ok(self);
         };
-        let Some(outcome) = tries.outcome(alloc, it, edits.as_slice())? else {
+        let Some(outcome) = tries.outcome(alloc, was, edits.as_slice())? else {
             return Ok(self);
         };
         let mended = mended_by(alloc, groups, outcome.left.as_slice())?;

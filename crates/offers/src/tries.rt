@@ -15,8 +15,8 @@ use run_parts::{RunError, Watched};
 use std::alloc::{AllocError, Global};
 use verdicts::{Faults, faults};
 
-// How many steps all tries have together.
-const STEPS: u64 = 1_048_576;
+// How many steps the tries of all groups have, and then those of the list besides.
+const STEPS: u64 = 524_288;
 
 /// A plan, its faults, and the texts that give it.
 #[derive(Clone, Copy)]
@@ -44,25 +44,40 @@ pub struct Tries {
     cost: u64,
     steps: u64,
     is_spent: bool,
+    // whether the steps were spent before there were more
+    is_cut: bool,
 }
 
 impl Tries {
     /// None yet, over this plan.
-    pub fn new(it: Unedited<'_>) -> Tries {
-        let mut cost = u64::from(it.plan.pair_count());
-        for text in it.texts {
+    pub fn new(was: Unedited<'_>) -> Tries {
+        let mut cost = u64::from(was.plan.pair_count());
+        for text in was.texts {
             cost = cost.saturating_add(text.len() as u64);
         }
         Tries {
             cost,
             steps: STEPS,
             is_spent: false,
+            is_cut: false,
         }
     }
 
-    /// Whether the steps did not suffice for a try.
+    /// As many steps more.
+    pub fn renew(&mut self) {
+        self.is_cut = self.are_cut();
+        self.is_spent = false;
+        self.steps = self.steps.saturating_add(STEPS);
+    }
+
+    /// Whether the steps do not suffice for a try.
     pub fn are_spent(&self) -> bool {
         self.is_spent
+    }
+
+    /// Whether they ever did not.
+    pub fn are_cut(&self) -> bool {
+        self.is_cut || self.is_spent
     }
 
     fn pay(&mut self) -> bool {
@@ -87,18 +102,18 @@ impl Tries {
     pub fn outcome(
         &mut self,
         alloc: Global,
-        it: Unedited<'_>,
+        was: Unedited<'_>,
         edits: &[Edit],
     ) -> Result<Option<Outcome>, AllocError>
-        requires { AreFaults (plan_contents it.plan.now) (fault_list it.faults.now) }
+        requires { AreFaults (plan_contents was.plan.now) (fault_list was.faults.now) }
         ensures { IfOk result (λ found. IfSome found (λ outcome.
-            IsTried (bytes_of it.texts.now) (plan_contents it.plan.now) (fault_list it.faults.now) edits.now outcome)) }
+            IsTried (bytes_of was.entry.texts.now) (plan_contents was.entry.plan.now) (fault_list was.entry.faults.now) edits.now outcome)) }
     {
         if !self.pay() {
             return Ok(None);
         }
-        match plan_with(alloc, it.texts, edits)? {
-            Some(edited) => outcome_of(alloc, it.plan, it.faults, &edited),
+        match plan_with(alloc, was.texts, edits)? {
+            Some(edited) => outcome_of(alloc, was.plan, was.faults, &edited),
             None => Ok(None),
         }
     }
@@ -190,8 +205,14 @@ fn are_same(texts: &[Vec<u8>], others: &[Vec<u8>]) -> bool
     match (texts, others) {
         ([], []) => true,
         ([text, texts @ ..], [other, others @ ..]) => {
-            text.as_slice() == other.as_slice() && are_same(texts, others)
+            is_same(text.as_slice(), other.as_slice()) && are_same(texts, others)
         }
         _ => false,
     }
+}
+
+fn is_same(text: &[u8], other: &[u8]) -> bool
+    ensures { IsTrue result → text.now ≡ other.now }
+{
+    text == other
 }

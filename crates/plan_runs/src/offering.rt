@@ -141,7 +141,9 @@ pub fn take_offers<R: Eprint + Clock + AllocGlobal + Threads + Sync, I: Input, O
         Some(one_of(alloc, changed.as_slice())?)
     };
     let found = checked_again(rt, edited.as_slice(), mend.workers, &gate)?;
-    write_text(&found.provenance, written, out)?;
+    if let Some(number) = written {
+        write_text(found.provenance.texts.as_slice(), number, out)?;
+    }
     Ok(ended_with(found, plans, changed))
 }
 
@@ -310,18 +312,13 @@ fn unread(halted: Halted) -> Halt {
     }
 }
 
-// Writes the text with this number, where one is written.
-fn write_text<O: Output>(
-    provenance: &Provenance,
-    written: Option<u32>,
-    out: &mut O,
-) -> Result<(), RunError> {
-    if let Some(number) = written
-        && let Some(text) = provenance.texts.get(number as usize)
-    {
-        write_lines(out, text.as_slice(), Status::Good)?;
+// Writes the text with this number.
+fn write_text<O: Output>(texts: &[Vec<u8>], number: u32, out: &mut O) -> Result<Status, RunError> {
+    let number = number as usize;
+    if texts.len() <= number {
+        return Err(RunError::Read);
     }
-    Ok(())
+    write_lines(out, texts[number].as_slice(), Status::Good)
 }
 
 fn ended_with<I: Input>(found: GivenCheck, plans: &Sources<'_, I>, changed: Vec<u32>) -> Ended

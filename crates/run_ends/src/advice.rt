@@ -321,32 +321,39 @@ fn tell_untaken<R: Eprint + AllocGlobal>(
     reason: &str,
     errand: Errand<'_>,
 ) {
-    let offers = made(rt.alloc(), untaken.offers(rt.alloc()));
-    let files = match files_of(rt.alloc(), untaken, errand) {
-        Ok(files) => files,
-        Err(_) => Vec::new(rt.alloc()),
-    };
-    let subject = match untaken {
-        Untaken::NoPlan(error, file) => Subject::Edited(*error, errand.named().path(*file)),
-        Untaken::Several(_) => Subject::Files(files.as_slice()),
-        _ => Subject::Offers(offers.as_str()),
-    };
-    refused_by_word(rt, untaken.word(), subject, reason, errand.extras.format);
-}
-
-// The files that change, where these are told.
-fn files_of<'a>(
-    alloc: Global,
-    untaken: &Untaken,
-    errand: Errand<'a>,
-) -> Result<Vec<&'a str>, AllocError> {
-    let mut files = Vec::new(alloc);
-    if let Untaken::Several(changed) = untaken {
-        for number in changed.iter() {
-            files.push(errand.named().files().of(*number).unwrap_or(""))?;
+    let (word, format) = (untaken.word(), errand.extras.format);
+    match untaken {
+        Untaken::NoPlan(error, file) => {
+            let subject = Subject::Edited(*error, errand.named().path(*file));
+            refused_by_word(rt, word, subject, reason, format);
+        }
+        Untaken::Several(changed) => tell_several(rt, word, changed.as_slice(), reason, errand),
+        _ => {
+            let offers = made(rt.alloc(), untaken.offers(rt.alloc()));
+            refused_by_word(rt, word, Subject::Offers(offers.as_str()), reason, format);
         }
     }
-    Ok(files)
+}
+
+// The same of files with these numbers, of which all change.
+fn tell_several<R: Eprint + AllocGlobal>(
+    rt: &R,
+    word: &'static str,
+    changed: &[u32],
+    reason: &str,
+    errand: Errand<'_>,
+) {
+    let named = errand.named().files();
+    let mut files: Vec<&str> = Vec::new(rt.alloc());
+    for number in changed {
+        let file = named.of(*number).unwrap_or("");
+        // (where there is no memory for more, fewer are told)
+        if files.push(&*file).is_err() {
+            break;
+        }
+    }
+    let subject = Subject::Files(files.as_slice());
+    refused_by_word(rt, word, subject, reason, errand.extras.format);
 }
 
 // The reason of a refusal that is not what hints say first. The message of a text has its own words.

@@ -45,17 +45,17 @@ impl Mending {
     }
 }
 
-/// How many steps all tries take.
-pub const BUDGET: usize = 1_048_576;
+/// How many steps the tries of all groups take, and those of the list besides what is left.
+pub const BUDGETS: [usize; 2] = [524_288; 2];
 
 /// What is offered for the plan that these texts give. How `never` items are chosen is not said here: these are those of the
 /// groups that have some.
 pub fn mending(sources: &[Source], nevers: &HashMap<usize, Vec<Edit>>) -> Mending {
-    mending_within(BUDGET, sources, nevers)
+    mending_within(BUDGETS, sources, nevers)
 }
 
-/// The same with another budget.
-pub fn mending_within(budget: usize, sources: &[Source], nevers: &HashMap<usize, Vec<Edit>>) -> Mending {
+/// The same with other budgets.
+pub fn mending_within(budgets: [usize; 2], sources: &[Source], nevers: &HashMap<usize, Vec<Edit>>) -> Mending {
     let Some(text) = plan_of(sources) else {
         return Mending::default();
     };
@@ -65,7 +65,7 @@ pub fn mending_within(budget: usize, sources: &[Source], nevers: &HashMap<usize,
     let plan = Participants::of(&items);
     let found = checked(&plan);
     let groups = groups_of(&plan, &found.faults, &families_of(sources));
-    let mut trials = Trials::of(budget, sources, &found, &groups);
+    let mut trials = Trials::of(budgets[0], sources, &found, &groups);
     let (makers, made_by) = items_of(sources);
     let mut mending = Mending::default();
     for (number, group) in groups.iter().enumerate() {
@@ -80,8 +80,10 @@ pub fn mending_within(budget: usize, sources: &[Source], nevers: &HashMap<usize,
         mending.groups.push((group.pairs.len(), offers));
     }
     mending.then = (found.pairs, found.faults.len());
+    mending.is_cut = std::mem::take(&mut trials.is_cut);
+    trials.left += budgets[1];
     trials.make_list(&mut mending);
-    mending.is_cut = trials.is_cut;
+    mending.is_cut |= trials.is_cut;
     mending
 }
 

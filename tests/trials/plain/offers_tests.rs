@@ -743,7 +743,7 @@ fn interrupts_get_different_addresses() {
     assert_eq!(list_of(plan), (vec![(0, 0), (1, 0)], (3, 0)));
 }
 
-// Edits that overlap are not tried: the first of the list, which takes all that is left, is followed by none.
+// Edits that overlap are not tried.
 #[test]
 fn edits_that_overlap_take_no_step() {
     let text = "brief 1 message m write 0x50 any else stop ; message n write 0x50 0x00 0x00 else (read 0x51 1) ;
@@ -755,14 +755,16 @@ fn edits_that_overlap_take_no_step() {
             &["known 1: message m write 0x50 0b0xxxxxxx else stop ;"],
         ],
     );
+    // two tries of each group, and one of the list
     let steps = 3 + text.len();
-    let tries = |number: usize| {
-        let found = mending_within(number * steps, &sources(&[text]), &HashMap::new());
-        (found.list, found.is_cut)
-    };
-    assert_eq!(tries(100), (vec![(0, 0)], false));
-    let needed = (1..100).find(|number| !tries(*number).1);
-    assert_eq!(needed, Some(5));
+    for (budgets, list, is_cut) in [
+        ([4 * steps, steps], vec![(0, 0)], false),
+        ([4 * steps, steps - 1], Vec::new(), true),
+        ([4 * steps - 1, steps], vec![(0, 0)], true),
+    ] {
+        let found = mending_within(budgets, &sources(&[text]), &HashMap::new());
+        assert_eq!((found.list, found.is_cut), (list, is_cut), "{budgets:?}");
+    }
 }
 
 // There are two tries of the group, and one of the list. Each takes a step for the pair, and one for each byte.
@@ -770,15 +772,17 @@ fn edits_that_overlap_take_no_step() {
 fn tries_end_with_the_budget() {
     let text = format!("brief 1 message m write 0x50 0bx0000001 any ; message n write 0x50 0x01 ; {TWO}");
     let steps = 1 + text.len();
-    for (budget, offers, list, is_cut) in [
-        (3 * steps, 2, 1, false),
-        (3 * steps - 1, 2, 0, true),
-        (2 * steps, 2, 0, true),
-        (2 * steps - 1, 1, 0, true),
-        (steps, 1, 0, true),
-        (steps - 1, 0, 0, true),
+    for (budgets, offers, list, is_cut) in [
+        ([2 * steps, steps], 2, 1, false),
+        ([2 * steps, steps - 1], 2, 0, true),
+        // what is left is for the list
+        ([3 * steps, 0], 2, 1, false),
+        ([2 * steps - 1, steps], 1, 1, true),
+        ([2 * steps - 1, 1], 1, 1, true),
+        ([2 * steps - 1, 0], 1, 0, true),
+        ([steps - 1, steps], 0, 0, true),
     ] {
-        let found = mending_within(budget, &sources(&[&text]), &HashMap::new());
-        assert_eq!((found.groups[0].1.len(), found.list.len(), found.is_cut), (offers, list, is_cut), "{budget}");
+        let found = mending_within(budgets, &sources(&[&text]), &HashMap::new());
+        assert_eq!((found.groups[0].1.len(), found.list.len(), found.is_cut), (offers, list, is_cut), "{budgets:?}");
     }
 }

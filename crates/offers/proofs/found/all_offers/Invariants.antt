@@ -8,4 +8,4 @@ use Rattle.offers.proofs.found.all_offers.Given as goal
 
 abbrev pub invariant-loop-g : goal.invariant-loop-g
 invariant-loop-g l =
-    All (IsOffer (bytes_of l.it.texts.now) (plan_contents l.it.plan.now) (fault_list l.it.faults.now) (group_numbers l.groups)) l.all.items
+    All (IsOffer (bytes_of l.was.texts.now) (plan_contents l.was.plan.now) (fault_list l.was.faults.now) (group_numbers l.groups)) l.all.items
