@@ -235,9 +235,8 @@ impl<'n, 'a> List<'n, 'a> {
             Expected::Payload | Expected::Tail => self.add_words(&["stop", "again"]),
             Expected::Else => self.add_words(&["else"]),
             Expected::Refusal => self.add_words(&["stop"]),
-            Expected::Target | Expected::KnownTarget | Expected::Device { .. } => {
-                self.add_names(Kind::Device);
-            }
+            Expected::Target | Expected::KnownTarget => self.add_names(Kind::Device),
+            Expected::Device { .. } => self.add_devices(),
             Expected::Party => {
                 self.add_names(Kind::Controller);
                 self.add_labels();
@@ -271,6 +270,15 @@ impl<'n, 'a> List<'n, 'a> {
     fn add_names(&mut self, kind: Kind) {
         for at in self.names.names() {
             if at.gives(kind) {
+                self.add_name(*at);
+            }
+        }
+    }
+
+    // All devices. A group stands in no other one.
+    fn add_devices(&mut self) {
+        for at in self.names.names() {
+            if at.gives(Kind::Device) && !self.names.is_group(*at) {
                 self.add_name(*at);
             }
         }
