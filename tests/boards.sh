@@ -311,35 +311,74 @@ for command in "decode board.vcd" "signals board.vcd" "learn board.vcd" "brief b
     refuses "no further file: $command" "unexpected argument '--with' found" $command --with bmc.brief
 done
 
-# ---- The items that mend a brief do so, and leave as many pairs unchecked as is said.
+# ---- What is offered to mend a brief does so, and leaves as many pairs unchecked as is said.
 
 # (the objects themselves are read here, also where the suite is run over lines that are made of them)
 asked=${TWIRE_OF_OBJECTS:-$twire}
 
-# field NAME: a number of the last object.
-field() {
-    sed -n "\$s/.*\"$1\":\([0-9]*\).*/\1/p" objects
+# counted: how many pairs the plan of the file objects has, and how many of them are unsafe.
+counted() {
+    sed -nE '$s/.*"safe":[a-z]+,"pairs":([0-9]+),"unsafe_pairs":([0-9]+).*/\1 \2/p' objects
 }
 
-# mended NAME: board.brief with the items that are advised. Pairs with interrupts are left, and no other ones. Without interrupts
-# there may be no items, where these would leave nothing to check: then all is left as it was.
+# offers: each offer of the file objects: its number, how many pairs it mends, how many it leaves out, and its edits.
+offers() {
+    sed 's/{"offer":/\n&/g' objects |
+        sed -nE 's/^\{"offer":"([0-9.]+)".*"pairs":([0-9]+),"unchecked":([0-9]+),"edits":(.*)/\1 \2 \3 \4/p'
+}
+
+# edited: board.brief with the edits of the objects on standard input. (What stands behind the last line are items.)
+edited() {
+    grep -oE '"line":[0-9]+,"column":[0-9]+,"removes":"[^"]*","puts":"[^"]*"' |
+        sed -E 's/^"line":([0-9]+),"column":([0-9]+),"removes":"(.*)","puts":"(.*)"$/\1\t\2\t\3\t\4/' | sort -s -n -k1,1 -k2,2 |
+        awk -F '\t' 'FILENAME == "board.brief" { text[++lines] = $0; next }
+            { line[++n] = $1; column[n] = $2; removes[n] = $3; puts[n] = $4 }
+            END {
+                for (k = n; 0 < k; k--)
+                    if (line[k] <= lines) {
+                        was = text[line[k]]
+                        text[line[k]] = substr(was, 1, column[k] - 1) puts[k] substr(was, column[k] + length(removes[k]))
+                    }
+                for (k = 1; k <= lines; k++)
+                    print text[k]
+                for (k = 1; k <= n; k++)
+                    if (lines < line[k]) {
+                        gsub(/\\n/, "\n", puts[k])
+                        printf "%s", puts[k]
+                    }
+            }' board.brief -
+}
+
+# mended NAME: board.brief with the offers of its list, as far as they are shown, is what is said of all of them.
 mended() {
-    local name=$1 pairs promised interrupts faults
-    "$asked" check --format json --hints never --explain board.brief >objects 2>err
-    pairs=$(field pairs) faults=$(field unsafe_pairs)
-    promised=$(field unchecked)
-    interrupts=$(sed -n '$s/.*"interrupts":\[\([^]]*\)\].*/\1/p' objects | tr ',' '\n' | grep -c .)
-    {
-        cat board.brief
-        sed -n '$s/.*"never":\[\(.*\)\],"unchecked".*/\1/p' objects | sed 's/\],\[/\n/g' | tr -d '[]"' |
-            sed -n 's/^\(.*\),\(.*\)$/never \1 \2 ;/p'
-    } >mended.brief
+    local then listed one
+    "$asked" check --format json --hints never --summary --most 100 board.brief >objects 2>err
+    then=$(sed -nE '$s/.*"then":\{"pairs":([0-9]+),"unsafe_pairs":([0-9]+)\}.*/\1 \2/p' objects)
+    listed=$(sed -n '$s/.*"list":\[\([^]]*\)\].*/\1/p' objects | tr -d '"' | tr ',' '\n')
+    offers >all
+    for one in $listed; do
+        grep "^$one " all
+    done >taken
+    [[ $(wc -l <taken) == $(wc -w <<<"$listed") ]] || return 0
+    [[ -n $then ]] || then=$(counted)
+    edited <taken >mended.brief
     "$asked" check --format json --hints never mended.brief >objects 2>>err
-    if cmp -s board.brief mended.brief && ! grep -q '^interrupt' board.brief; then
-        interrupts=$faults promised=0
-    fi
-    same "$name" "${interrupts:-0} unsafe, ${promised:-0} left out" \
-        "$(field unsafe_pairs) unsafe, $((pairs - $(field pairs))) left out"
+    same "$1" "$then" "$(counted)"
+}
+
+# groups_mended NAME: board.brief with each offer of its groups. It leaves out as many pairs as is said, and at least those that it
+# mends are safe.
+groups_mended() {
+    local pairs faults number count promised edits now left
+    "$asked" check --format json --hints never --summary --most 100 board.brief >objects 2>err
+    read -r pairs faults < <(counted)
+    offers >all
+    while read -r number count promised edits; do
+        edited <<<"$edits" >mended.brief
+        "$asked" check --format json --hints never mended.brief >objects 2>>err
+        read -r now left < <(counted)
+        same "$1: offer $number" "1, $promised left out" "$((faults - left >= count)), $((pairs - now)) left out"
+    done <all
 }
 
 # A board of this number: families and messages of one device, listed by three controllers in whole or in part, some of
@@ -382,34 +421,15 @@ for parts in 'never a/m_1 z ; never a/m z ;' 'never a/m z ; never a/m_1 z ;' 'ne
         echo "$parts"
     } >board.brief
     mended "a family with parts that is mended: $parts"
+    groups_mended "a family with parts: $parts"
 done
-
-# groups_mended NAME: board.brief with the items that are advised for each group alone. They leave out as many pairs as is said, and
-# at least the unsafe ones of the group.
-groups_mended() {
-    local name=$1 group items count pairs faults promised
-    "$asked" check --format json --hints never --summary --most 100 board.brief >objects 2>err
-    pairs=$(field pairs) faults=$(field unsafe_pairs)
-    sed '$d' objects >groups
-    while read -r group; do
-        items=$(sed -n 's/.*"never":\[\[\(.*\)\]\],"unchecked".*/\1/p' <<<"$group" | sed 's/\],\[/\n/g' | tr -d '"' |
-            sed -n 's/^\(.*\),\(.*\)$/never \1 \2 ;/p')
-        [[ -n $items ]] || continue
-        count=$(sed -n 's/^{"kind":"group","group":[0-9]*,"pairs":\([0-9]*\),.*/\1/p' <<<"$group")
-        promised=$(sed -n 's/.*"unchecked":\([0-9]*\)}}$/\1/p' <<<"$group")
-        printf '%s\n' "$(<board.brief)" "$items" >mended.brief
-        "$asked" check --format json --hints never mended.brief >objects 2>>err
-        same "$name: $items" "1, $promised left out" \
-            "$((faults - $(field unsafe_pairs) >= count)), $((pairs - $(field pairs))) left out"
-    done <groups
-}
 
 for seed in {1..8}; do
     board "$seed" >board.brief
     groups_mended "a group of a board that is mended: $seed"
 done
 
-# Each of two groups has its own bits and items.
+# Each of two groups has its own offers.
 lines two.brief "brief 1" "device eeprom 0x50 ;  device sensor 0x48 ;" "message page write eeprom any any*1..4 ;" \
     "message entry write eeprom any read eeprom 1 ;" "message set write sensor 0x01 any ;" \
     "message get write sensor 0x01 read sensor 2 ;" "controller bmc page set ;" "controller host entry get ;"
@@ -417,14 +437,23 @@ lines two.brief "brief 1" "device eeprom 0x50 ;  device sensor 0x48 ;" "message 
 status=$?
 sed -n '/ × /,/ group \|^unsafe/p' report | grep '^    ' | grep -v ' group ' >out
 want 1 "    bmc/page_* × host/entry: 4 pairs, one goes on, one repeats START
-    to mend each: a bit in slot 9..16, known in both and different; or the same
-    shape from its slot on; or:
+    0.1 let bit 7 of data byte 1 be 0 in 'page' and 1 in 'entry': two.brief:3,
+    two.brief:4
+    message page write eeprom 0b0xxxxxxx any*1..4 ;
+    message entry write eeprom 0b1xxxxxxx read eeprom 1 ;
+    0.2 leave out what 'entry' writes before it reads, if the device keeps its
+    register pointer (others may have moved it): two.brief:4
+    message entry read eeprom 1 ;
+    0.3 keep the two sides apart by a lock outside the bus: 4 of 10 pairs are
+    then not checked: two.brief:9
     never bmc/page host/entry ;
-    (leaves 4 of 10 pairs unchecked)
     bmc/set × host/get: 1 pair, one goes on, one repeats START
-    to mend it: the same shape from its slot on; or:
-    never bmc/set host/get ;
-    (leaves 1 of 10 pairs unchecked)" ""
+    1.1 leave out what 'get' writes before it reads, if the device keeps its
+    register pointer (others may have moved it): two.brief:6
+    message get read sensor 2 ;
+    1.2 keep the two sides apart by a lock outside the bus: 1 of 10 pairs is
+    then not checked: two.brief:9
+    never bmc/set host/get ;" ""
 compare "what mends each of two groups of a brief"
 
 # ---- What is likely a mistake, which is no refusal.

@@ -433,6 +433,15 @@ run "an unsafe plan, strictly" check --strict unsafe.plan
 lines kept.plan "plan 2" "message m $header ;" "controller a m ;" "controller b m ;" "controller c m ;" "never a b ;"
 want 0 "safe: 2 pairs" ""
 run "pairs that never leaves out, strictly" check --strict kept.plan
+run "as many as may be left out" check --strict --apart 1 kept.plan
+want 1 "safe: 2 pairs" ""
+run "more than may be left out" check kept.plan --apart 0 --strict
+run "the same by two workers" check --strict --apart 0 kept.plan --workers 2
+want 1 "safe: 2 pairs
+    where targets acknowledge, decided in the header: 0, later: 0,
+    at a read's end: 0; may end together: 2
+    not checked: 1 of 3 pairs, which 'never' keeps apart" ""
+run "the same, explained" check --strict --apart 0 --summary kept.plan
 lines unlisted.plan "plan 1" "message n $header ;" "message m $header ;" "controller a m ;" "controller b m ;"
 want 0 "safe: 1 pairs" ""
 run "a message in no controller" check unlisted.plan

@@ -4,14 +4,16 @@
 source "$(dirname -- "$(readlink -f -- "${BASH_SOURCE[0]}")")/suite.bash" || exit 1
 
 # alike NAME ARG..: with --explain the same run has the same status and the same standard error, and without the lines that
-# begin with four spaces the same report. No line has more than 80 columns that the exact report has not.
+# begin with four spaces the same report. No line has more than 80 columns that the exact report has not, but for what is one
+# line to be copied: a message as an offer would have it, and the command that makes the edits, which has the plan's path.
 alike() {
     want_of "${@:2}"
     "$twire" "${@:2}" --explain >explained 2>err
     status=$?
     grep -v '^    ' explained >out
     compare "$1: the exact report is left"
-    same "$1: 80 columns" "" "$(grep '^    ' explained | grep '.\{81,\}')"
+    same "$1: 80 columns" "" "$(grep '^    ' explained | grep -v -e '^    message [^ ]* \(write\|read\) ' \
+        -e '^    twire mend [^ ]* --all --in-place$' | grep '.\{81,\}')"
 }
 
 plan() {
@@ -27,9 +29,14 @@ want 1 "pair 0 main/write_output service/probe_10: data against stop after 00100
     service/probe_10   S 10 Wr A P         next: a STOP
     slot 9, UM10204 3.1.8: a data bit meets a STOP. Both send alike until here.
     main/write_output × service/probe_10: 1 pair, lengths differ
+    0.1 let 'probe_10' read one byte, in place of a header alone:
+    stop_meets_data.plan:23
+    read 0010000 1 stop else stop ;
 unsafe: 1 of 2 pairs
-    to mend it: the same shape from that slot on" ""
-run "a STOP meets a data bit" check --explain "$examples/stop_meets_data.plan"
+    to mend all pairs: 0.1; then check says 'safe: 2 pairs'
+    to make these edits: twire mend stop_meets_data.plan --all --in-place" ""
+cp "$examples/stop_meets_data.plan" .
+run "a STOP meets a data bit" check --explain stop_meets_data.plan
 
 plan 'plan 1' \
     'message w write 1001000 00000001 00000010 stop else stop else stop else stop ;' \
@@ -44,8 +51,15 @@ want 1 "pair 0 a/w b/r: data against restart after 10010000l00000001l
     until here.
     b/r may send either bit before it in slot 16
     a/w × b/r: 1 pair, one goes on, one repeats START
+    0.1 let 'r' never send 0x01 in data byte 1 (bit 0 is then 0, which the other
+    side never sends): p.plan:3
+    message r write 1001000 00000000 again read 1001000 2 stop else stop else stop else stop ;
+    0.2 leave out what 'r' writes before it reads, if the device keeps its
+    register pointer (others may have moved it): p.plan:3
+    message r read 1001000 2 stop else stop ;
 unsafe: 1 of 1 pairs
-    to mend it: the same shape from that slot on" ""
+    to mend all pairs: 0.1; then check says 'safe: 1 pairs'
+    to make these edits: twire mend p.plan --all --in-place" ""
 run "a repeated START meets a data bit, after an open bit" check --explain p.plan
 
 plan 'plan 1' 'message get read 1001000 1 stop else stop ;' 'controller a get ;' 'interrupt al 1001000 ;' \
@@ -60,6 +74,9 @@ pair 2 !al !second: claim against claim after 10010001
     slot 8, the profile of interrupts: a target's bit meets a wait for the
     answer. Both send alike until here.
     a/get × !al: 1 pair, an interrupt has the same header
+    0.1 give the interrupt 'al' an address that nothing else has: p.plan:4
+    (mends groups 0, 2: 2 of 3 unsafe pairs)
+    interrupt al 0001001 ;
     group 1, pair 1:
     bus      S 48 Rd
     a/get    S 48 Rd          next: a target's bit
@@ -67,6 +84,9 @@ pair 2 !al !second: claim against claim after 10010001
     slot 8, the profile of interrupts: a target's bit meets a wait for the
     answer. Both send alike until here.
     a/get × !second: 1 pair, an interrupt has the same header
+    1.1 give the interrupt 'second' an address that nothing else has: p.plan:5
+    (mends groups 1, 2: 2 of 3 unsafe pairs)
+    interrupt second 0001010 ;
     group 2, pair 2:
     bus      S 48 Rd
     !al      S 48 Rd (waits)  next: a wait for the answer
@@ -74,8 +94,15 @@ pair 2 !al !second: claim against claim after 10010001
     slot 8, the profile of interrupts: a wait for the answer meets a wait for
     the answer. Both send alike until here.
     !al × !second: 1 pair, an interrupt has the same header
+    2.1 give the interrupt 'al' an address that nothing else has: p.plan:4
+    (mends groups 0, 2: 2 of 3 unsafe pairs)
+    interrupt al 0001001 ;
+    2.2 give the interrupt 'second' an address that nothing else has: p.plan:5
+    (mends groups 1, 2: 2 of 3 unsafe pairs)
+    interrupt second 0001010 ;
 unsafe: 3 of 3 pairs
-    only another header mends a pair with an interrupt: pair 0, pair 1, pair 2" ""
+    to mend all pairs: 0.1, 1.1; then check says 'safe: 3 pairs'
+    to make these edits: twire mend p.plan --all --in-place" ""
 run "interrupts, which no never keeps away" check --explain p.plan
 
 plan 'plan 2' 'message one read 1001000 1 again write 1001000 stop else stop else stop ;' \
@@ -89,8 +116,11 @@ want 1 "pair 0 a/one b/few: restart against stop after 10010001lllllllll1
     here.
     b/few may send either bit before it in slot 17
     a/one × b/few: 1 pair, one ends, one repeats START
+    0.1 let 'few' never read 1 byte: p.plan:3
+    message few read 1001000 2..3 stop else stop ;
 unsafe: 1 of 1 pairs
-    to mend it: the same shape from that slot on" ""
+    to mend all pairs: 0.1; then check says 'safe: 1 pairs'
+    to make these edits: twire mend p.plan --all --in-place" ""
 run "reads that may end alike: the last acknowledge of one is open" check --explain p.plan
 
 # ---- Groups, and how many of them are explained.
@@ -103,11 +133,15 @@ one="    group 0, 2 pairs, such as pair 0:
     b/p  S 48 Wr A P   next: a STOP
     slot 9, UM10204 3.1.8: a data bit meets a STOP. Both send alike until here.
     a/w × b/p, a/w × c/p: 2 pairs, lengths differ
-unsafe: 2 of 3 pairs
-    to mend each: the same shape from its slot on; or all of these, which leave
-    2 of 3 pairs unchecked:
+    0.1 let 'p' read one byte, in place of a header alone: p.plan:3
+    message p read 1001000 1 stop else stop ;
+    0.2 keep the two sides apart by a lock outside the bus: 2 of 3 pairs are
+    then not checked, more than half: p.plan:7, p.plan:8
     never a b ;
-    never a c ;"
+    never a c ;
+unsafe: 2 of 3 pairs
+    to mend all pairs: 0.1; then check says 'safe: 3 pairs'
+    to make these edits: twire mend p.plan --all --in-place"
 want 1 "pair 0 a/w b/p: data against stop after 10010000l
 pair 1 a/w c/p: data against stop after 10010000l
 $one" ""
@@ -120,10 +154,10 @@ pair 1 a/w c/p: data against stop after 10010000l
     not explained (--most 1 explains all groups):
     a/w × b/p, a/w × c/p: 2 pairs, lengths differ
 unsafe: 2 of 3 pairs
-    to mend each: the same shape from its slot on; or all of these, which leave
-    2 of 3 pairs unchecked:
-    never a b ;
-    never a c ;" ""
+    to mend all pairs: 0.1; then check says 'safe: 3 pairs'
+    0.1 let 'p' read one byte, in place of a header alone: p.plan:3
+    message p read 1001000 1 stop else stop ;
+    to make these edits: twire mend p.plan --all --in-place" ""
 run "none is explained where --most is 0" check --explain --most 0 p.plan
 printf 'never a b ; never a c ;\n' >>p.plan
 want 0 "safe: 1 pairs
@@ -149,12 +183,13 @@ want 1 "$six
     a/v × b/p, a/v × c/p: 2 pairs, lengths differ
     b/q × !al: 1 pair, an interrupt has the same header
 unsafe: 6 of 18 pairs
-    to mend each without an interrupt: the same shape from its slot on; or all
-    of these, which leave 12 of 18 pairs unchecked:
-    never a b ;
-    never a c ;
-    never b c ;
-    only another header mends a pair with an interrupt: pair 15" ""
+    to mend all pairs: 0.1, 2.1; then check says 'safe: 18 pairs'
+    0.1 let 'p' read one byte, in place of a header alone: p.plan:4 (mends
+    groups 0, 1: 5 of 6 unsafe pairs)
+    message p read 1001000 1 stop else stop ;
+    2.1 give the interrupt 'al' an address that nothing else has: p.plan:9
+    interrupt al 0001001 ;
+    to make these edits: twire mend p.plan --all --in-place" ""
 run "several pairs of two controllers, beside one with an interrupt" check --explain --most 0 p.plan
 want 1 "$six
     group 0, 3 pairs, such as pair 0:
@@ -163,8 +198,12 @@ want 1 "$six
     b/p  S 48 Wr A P   next: a STOP
     slot 9, UM10204 3.1.8: a data bit meets a STOP. Both send alike until here.
     a/w × b/p, a/w × c/p, b/p × c/w: 3 pairs, lengths differ
-    to mend each: the same shape from its slot on; or all of these, which leave
-    12 of 18 pairs unchecked:
+    0.1 let 'p' read one byte, in place of a header alone: p.plan:4 (mends
+    groups 0, 1: 5 of 6 unsafe pairs)
+    message p read 1001000 1 stop else stop ;
+    0.2 keep the two sides apart by a lock outside the bus: 12 of 18 pairs are
+    then not checked, more than half: p.plan:10, p.plan:11, p.plan:12 (mends
+    groups 0, 1: 5 of 6 unsafe pairs)
     never a b ;
     never a c ;
     never b c ;
@@ -174,19 +213,20 @@ want 1 "$six
     b/p  S 48 Wr A P   next: a STOP
     slot 9, UM10204 3.1.8: a data bit meets a STOP. Both send alike until here.
     a/v × b/p, a/v × c/p: 2 pairs, lengths differ
-    to mend each: the same shape from its slot on; or all of:
+    1.1 let 'p' read one byte, in place of a header alone: p.plan:4 (mends
+    groups 0, 1: 5 of 6 unsafe pairs)
+    message p read 1001000 1 stop else stop ;
+    1.2 keep the two sides apart by a lock outside the bus: 8 of 18 pairs are
+    then not checked: p.plan:10, p.plan:11
     never a b ;
     never a c ;
-    (leaves 8 of 18 pairs unchecked)
     not explained (--most 3 explains all groups):
     b/q × !al: 1 pair, an interrupt has the same header
 unsafe: 6 of 18 pairs
-    to mend each without an interrupt: the same shape from its slot on; or all
-    of these, which leave 12 of 18 pairs unchecked:
-    never a b ;
-    never a c ;
-    never b c ;
-    only another header mends a pair with an interrupt: pair 15" ""
+    to mend all pairs: 0.1, 2.1; then check says 'safe: 18 pairs'
+    2.1 give the interrupt 'al' an address that nothing else has: p.plan:9
+    interrupt al 0001001 ;
+    to make these edits: twire mend p.plan --all --in-place" ""
 run "the shortest wire first" check --explain --most 2 p.plan
 printf 'never b a ;\n' >>p.plan
 want 1 "pair 0 a/w c/p: data against stop after 10010000l
@@ -198,11 +238,13 @@ pair 11 b/q !al: answer against claim after 00100001
     b/q × !al: 1 pair, an interrupt has the same header
     a/v × c/p: 1 pair, lengths differ
 unsafe: 4 of 14 pairs
-    to mend each without an interrupt: the same shape from its slot on; or all
-    of these, which leave 8 of 14 pairs unchecked:
-    never a c ;
-    never b c ;
-    only another header mends a pair with an interrupt: pair 11
+    to mend all pairs: 0.1, 1.1; then check says 'safe: 14 pairs'
+    0.1 let 'p' read one byte, in place of a header alone: p.plan:4 (mends
+    groups 0, 2: 3 of 4 unsafe pairs)
+    message p read 1001000 1 stop else stop ;
+    1.1 give the interrupt 'al' an address that nothing else has: p.plan:9
+    interrupt al 0001001 ;
+    to make these edits: twire mend p.plan --all --in-place
     not checked: 4 of 18 pairs, which 'never' keeps apart" ""
 run "a never that the plan has is not named" check --explain --most 0 p.plan
 printf 'never a c ; never b c ;\n' >>p.plan
@@ -210,7 +252,10 @@ want 1 "pair 3 b/q !al: answer against claim after 00100001
     not explained (--most 1 explains all groups):
     b/q × !al: 1 pair, an interrupt has the same header
 unsafe: 1 of 6 pairs
-    only another header mends a pair with an interrupt: pair 3
+    to mend all pairs: 0.1; then check says 'safe: 6 pairs'
+    0.1 give the interrupt 'al' an address that nothing else has: p.plan:9
+    interrupt al 0001001 ;
+    to make these edits: twire mend p.plan --all --in-place
     not checked: 12 of 18 pairs, which 'never' keeps apart" ""
 run "with these items the pair with the interrupt is left" check --explain --most 0 p.plan
 
@@ -280,12 +325,15 @@ want 1 "    group 0, 6 pairs, such as pair 6:
     a/page_1 may send either bit before it in slot 9..16
     b/page_2 may send either bit before it in slot 9..16
     a/page_* × b/page_*: 6 pairs, lengths differ
-    to mend each: a bit in slot 9..16, known in both and different (in messages
-    of their own); or the same shape from its slot on
+    no edit was found that mends it
     not explained (--most 2 explains all groups):
     a/get1 × b/put: 1 pair, one goes on, one repeats START
 unsafe: 7 of 16 pairs
-    to mend each: the same shape from its slot on" ""
+    to mend 1 of 7 unsafe pairs: 1.1; then check says 'unsafe: 6 of 16 pairs'
+    1.1 let 'put' never send 0x00 to 0x7F in data byte 1 (bit 7 is then 1, which
+    the other side never sends): p.plan:3
+    message put write 1010000 1xxxxxxx$(any 1)$(tails 3)
+    to make these edits: twire mend p.plan --all --in-place" ""
 run "a line of each group that is not explained" check --summary --most 1 p.plan
 # Whoever sends them, on either side.
 plan 'plan 1' 'message w write 1001000 00000001 stop else stop else stop ;' 'message p write 1001000 stop else stop ;' \
@@ -299,61 +347,184 @@ compare "two messages of five controllers"
 
 # ---- What mends each group.
 
-# mends NAME LINE..: what stands below the lines of each group of p.plan that say between whom it is, and how many pairs it has.
+# mends NAME TEXT: what is offered for the groups of p.plan, or of another FILE, and what stands below the count of unsafe pairs.
 mends() {
-    call check --summary --most 100 p.plan
-    sed -i -n '/^unsafe/q; / × .*differ$/,/ group /{/ × \| group /!p}' out
-    judge "$1" 1 "$(printf '    %s\n' "${@:2}")" ""
+    call check --summary --most 100 "${3:-p.plan}"
+    awk '/^    group / { on = 0 } on; / × / { on = 1 }' out >offered
+    mv offered out
+    judge "$1" 1 "$2" ""
 }
 
-# Each two of these meet after one byte or two, before which their first byte is open in both.
+# Each two of these meet after one byte or two. The second stands on both sides, so that no edit of messages is theirs.
 plan 'plan 1' "message w1 write 1010000$(any 1)$(tails 2)" "message w2 write 1010000$(any 1) 0xxxxxxx$(tails 3)" \
-    "message w3 write 1010000$(any 1) 00000001$(any 1)$(tails 4)" 'controller a w1 w2 w3 ;' 'controller b w1 w2 w3 ;'
-mends "a family against itself: each needs messages of its own" \
-    "to mend each: a bit in slot 9..16, known in both and different (in messages" "of their own)"
-# With another group each says what keeps its pairs apart.
+    "message w3 write 1010000$(any 1) 00000001$(any 1)$(tails 4)" 'message far read 0100000 1 stop else stop ;' \
+    'controller a w1 w2 w3 ;' 'controller b w1 w2 w3 ;' 'controller c far ;'
+mends "a message on both sides: nothing but 'never'" "\
+    0.1 keep the two sides apart by a lock outside the bus: 9 of 15 pairs are
+    then not checked, more than half: p.plan:1, p.plan:9
+    plan 2
+    never a b ;
+unsafe: 6 of 15 pairs
+    to mend all pairs: 0.1; then check says 'safe: 6 pairs' (9 are not checked)
+    to make these edits: twire mend p.plan --all --in-place"
+# Without another pair there is nothing to check then, and so no offer.
+sed -i '/far/d' p.plan
+mends "a message on both sides, of the only two controllers" "\
+    no edit was found that mends it
+unsafe: 6 of 9 pairs
+    no edit was found that mends a group"
+# Bits of the first two bytes are open in both, or in one of them. A byte more in the shorter one would make it clash with what
+# is as long as it now. The list has no two edits of one byte: 'w2' cannot be 0 there for the one, and 1 for the other.
 plan 'plan 1' "message w1 write 1010000$(any 2)$(tails 3)" "message w2 write 1010000$(any 3)$(tails 4)" \
     "message v write 1010000 0000xxxx 1xxxxxx0$(tails 3)" "message probe write 1010001$(tails 1)" \
     "message put write 1010001$(any 1)$(tails 2)" 'controller a w2 probe ;' 'controller b v put ;' 'controller c w1 ;'
-mends "three groups, each with items of its own" \
-    "to mend it: the same shape from its slot on; or:" "never a b ;" "(leaves 4 of 8 pairs unchecked; the first line becomes 'plan 2')" \
-    "to mend it: a bit in slot 13..16, 19..24, known in both and different; or" "the same shape from its slot on; or:" \
-    "never a b ;" "(leaves 4 of 8 pairs unchecked; the first line becomes 'plan 2')" \
-    "to mend it: a bit in slot 9..16, 18..25, known in both and different; or the" "same shape from its slot on; or:" \
-    "never a c ;" "(leaves 2 of 8 pairs unchecked; the first line becomes 'plan 2')"
-# After a NACK of the first byte one repeats START and the other ends: no bit after it mends the pair, and no shape.
+mends "three groups, each with edits of its own" "\
+    0.1 let 'probe' read one byte, in place of a header alone: p.plan:5
+    message probe read 1010001 1 stop else stop ;
+    0.2 keep the two sides apart by a lock outside the bus: 4 of 8 pairs are
+    then not checked: p.plan:1, p.plan:10 (mends groups 0, 1: 2 of 3 unsafe
+    pairs)
+    plan 2
+    never a b ;
+    1.1 let 'w2' never send 0x00 to 0x7F in data byte 1 (bit 7 is then 1, which
+    the other side never sends): p.plan:3
+    message w2 write 1010000 1xxxxxxx$(any 2)$(tails 4)
+    1.2 let bit 3 of data byte 1 be 0 in 'w2' and 1 in 'v': p.plan:3, p.plan:4
+    message w2 write 1010000 xxxx0xxx$(any 2)$(tails 4)
+    message v write 1010000 00001xxx 1xxxxxx0$(tails 3)
+    1.3 keep the two sides apart by a lock outside the bus: 4 of 8 pairs are
+    then not checked: p.plan:1, p.plan:10 (mends groups 0, 1: 2 of 3 unsafe
+    pairs)
+    plan 2
+    never a b ;
+    2.1 let bit 7 of data byte 1 be 0 in 'w2' and 1 in 'w1': p.plan:2, p.plan:3
+    message w1 write 1010000 1xxxxxxx$(any 1)$(tails 3)
+    message w2 write 1010000 0xxxxxxx$(any 2)$(tails 4)
+    2.2 keep the two sides apart by a lock outside the bus: 2 of 8 pairs are
+    then not checked: p.plan:1, p.plan:10
+    plan 2
+    never a c ;
+unsafe: 3 of 8 pairs
+    to mend all pairs: 0.1, 1.1, 2.2; then check says 'safe: 6 pairs' (2 are not
+    checked)
+    to make these edits: twire mend p.plan --all --in-place"
+# After a NACK of the first byte one repeats START and the other ends: no bit after it mends the pair, and no byte more.
 plan 'plan 1' "message m write 101xxxx$(any 2) stop else stop else again write 1010000 stop else stop else stop ;" \
     "message n write 1010xxx$(any 3)$(tails 4)" 'controller a m ;' 'controller b n ;'
-mends "another fault after a NACK" "to mend it: a bit in slot 4..6, 9..16, known in both and different"
+mends "another fault after a NACK" "\
+    0.1 let 'm' never send 0x50 to 0x57 in the address (bit 3 is then 1, which
+    the other side never sends): p.plan:2
+    message m write 1011xxx$(any 2) stop else stop else again write 1010000 stop else stop else stop ;
+    0.2 let bit 2 of the address be 0 in 'm' and 1 in 'n': p.plan:2, p.plan:3
+    message m write 101x0xx$(any 2) stop else stop else again write 1010000 stop else stop else stop ;
+    message n write 10101xx$(any 3)$(tails 4)
+unsafe: 1 of 1 pairs
+    to mend all pairs: 0.1; then check says 'safe: 1 pairs'
+    to make these edits: twire mend p.plan --all --in-place"
+# Counts below all of the other side, and above: of the second side, since the first one has but one count.
+plan 'plan 2' 'message two read 1001000 2 again write 1001000 stop else stop else stop ;' \
+    'message few read 1001000 1..4 stop else stop ;' 'controller a two ;' 'controller b few ;'
+mends "counts below and above" "\
+    0.1 let 'few' never read 2 to 4 bytes: p.plan:3
+    message few read 1001000 1 stop else stop ;
+    0.2 let 'few' never read 1 to 2 bytes: p.plan:3
+    message few read 1001000 3..4 stop else stop ;
+unsafe: 1 of 1 pairs
+    to mend all pairs: 0.1; then check says 'safe: 1 pairs'
+    to make these edits: twire mend p.plan --all --in-place"
+# Of two bytes the first is open in both, and the second known in one: what is known comes before what is open in both. That a
+# pointer is left out comes after both, and a place of a number of bytes is parted from the others.
+printf '%s\n' 'brief 1' 'message put write 0x50 any*4 ; # four bytes' 'message get write 0x50 any*2 0x7f read 0x50 1 ;' \
+    'controller a put ;' 'controller b get ;' >p.brief
+mends "known before open, and then a pointer" "\
+    0.1 let 'put' never send 0x00 to 0x7F in data byte 3 (bit 7 is then 1, which
+    the other side never sends): p.brief:2
+    message put write 0x50 any*2 0b1xxxxxxx any ; # four bytes
+    0.2 let bit 7 of data byte 1 be 0 in 'put' and 1 in 'get': p.brief:2,
+    p.brief:3
+    message put write 0x50 0b0xxxxxxx any*3 ; # four bytes
+    message get write 0x50 0b1xxxxxxx any 0x7f read 0x50 1 ;
+    0.3 leave out what 'get' writes before it reads, if the device keeps its
+    register pointer (others may have moved it): p.brief:3
+    message get read 0x50 1 ;
+unsafe: 1 of 1 pairs
+    to mend all pairs: 0.1; then check says 'safe: 1 pairs'
+    to make these edits: twire mend p.brief --all --in-place" p.brief
+# Four of five offers. Each side has a bit that is known in the other.
+printf '%s\n' 'brief 1' 'message set write 0x50 0b0xxxxxx1 any ;' 'message get write 0x50 0bx0xxxxxx read 0x50 1 ;' \
+    'message far read 0x20 1 ;' 'controller a set far ;' 'controller b get ;' >p.brief
+mends "five offers, of which four are shown" "\
+    0.1 let 'set' never send 0b00xxxxx1 in data byte 1 (bit 6 is then 1, which
+    the other side never sends): p.brief:2
+    message set write 0x50 0b01xxxxx1 any ;
+    0.2 let 'get' never send 0x00 to 0x3F in data byte 1 (bit 7 is then 1, which
+    the other side never sends): p.brief:3
+    message get write 0x50 0b10xxxxxx read 0x50 1 ;
+    0.3 let bit 5 of data byte 1 be 0 in 'set' and 1 in 'get': p.brief:2,
+    p.brief:3
+    message set write 0x50 0b0x0xxxx1 any ;
+    message get write 0x50 0bx01xxxxx read 0x50 1 ;
+    0.4 leave out what 'get' writes before it reads, if the device keeps its
+    register pointer (others may have moved it): p.brief:3
+    message get read 0x50 1 ;
+    and 1 more offer
+unsafe: 1 of 2 pairs
+    to mend all pairs: 0.1; then check says 'safe: 2 pairs'
+    to make these edits: twire mend p.brief --all --in-place" p.brief
 
 # The same with known bits alone: nothing mends it but a 'never', after which no pair would be left.
 plan 'plan 1' "message m write 1010000 00000001 00000001 stop else stop else again write 1010000 stop else stop else stop ;" \
     "message n write 1010000 00000001 00000001 00000001$(tails 4)" 'controller a m ;' 'controller b n ;'
-want 1 "    nothing was found that mends it and leaves a pair to check" ""
-call check --summary p.plan
-sed -i '1,/^unsafe/d' out
-compare "nothing mends the only pair"
-# Beside another group that the same shape mends: no way mends each. A 'plan 1' has no 'never'.
+mends "nothing mends the only pair" "\
+    no edit was found that mends it
+unsafe: 1 of 1 pairs
+    no edit was found that mends a group"
+# Beside another group, which a read mends, or as many bytes. A 'plan 1' has no 'never'.
 sed -i "2i message put write 1010001$(any 1)$(tails 2)\nmessage probe write 1010001$(tails 1)\nmessage far read 0100000 1 stop else stop ;" p.plan
 sed -i 's/^controller a m/& put far/; s/^controller b n/& probe/' p.plan
 echo 'controller c far ;' >>p.plan
-want 1 "    to mend each: this, which leaves 6 of 11 pairs unchecked:
+mends "no edit of messages mends each pair" "\
+    0.1 let 'probe' read one byte, in place of a header alone: p.plan:3
+    message probe read 1010001 1 stop else stop ;
+    0.2 keep the two sides apart by a lock outside the bus: 6 of 11 pairs are
+    then not checked, more than half: p.plan:1, p.plan:10 (mends groups 0, 1: 2
+    of 2 unsafe pairs)
+    plan 2
     never a b ;
-    (the first line becomes 'plan 2')" ""
-call check --summary p.plan
-sed -i '1,/^unsafe/d' out
-compare "no bit and no shape mends each pair"
+    1.1 keep the two sides apart by a lock outside the bus: 6 of 11 pairs are
+    then not checked, more than half: p.plan:1, p.plan:10 (mends groups 0, 1: 2
+    of 2 unsafe pairs)
+    plan 2
+    never a b ;
+unsafe: 2 of 11 pairs
+    to mend all pairs: 0.1, 0.2; then check says 'safe: 5 pairs' (6 are not
+    checked)
+    to make these edits: twire mend p.plan --all --in-place"
 sed 's/^plan 1/plan 2/' p.plan >q.plan
 echo 'never a b ;' >>q.plan
 want 0 "safe: 5 pairs" ""
-run "the item that is named, where the first line became 'plan 2'" check q.plan
-# What mends all pairs does not depend on how many groups are explained.
-want 1 "$("$twire" check --summary --most 100 p.plan | sed '1,/^unsafe/d')" ""
-for most in 0 1; do
-    call check --summary --most "$most" p.plan
-    sed -i '1,/^unsafe/d' out
-    compare "the last lines with --most $most"
-done
+run "the item that is offered, where the first line became 'plan 2'" check q.plan
+# What mends all pairs does not depend on how many groups are explained. Its offers that no group shows follow.
+last="to mend all pairs: 0.1, 0.2; then check says 'safe: 5 pairs' (6 are not
+    checked)"
+made="    to make these edits: twire mend p.plan --all --in-place"
+want 1 "    $last
+$made" ""
+call check --summary --most 1 p.plan
+sed -i '1,/^unsafe/d' out
+compare "the last lines with --most 1"
+want 1 "    $last
+    0.1 let 'probe' read one byte, in place of a header alone: p.plan:3
+    message probe read 1010001 1 stop else stop ;
+    0.2 keep the two sides apart by a lock outside the bus: 6 of 11 pairs are
+    then not checked, more than half: p.plan:1, p.plan:10 (mends groups 0, 1: 2
+    of 2 unsafe pairs)
+    plan 2
+    never a b ;
+$made" ""
+call check --summary --most 0 p.plan
+sed -i '1,/^unsafe/d' out
+compare "the last lines with --most 0"
 
 # ---- Safe plans.
 
@@ -629,11 +800,10 @@ pair 6 bmc_set/set pch/get: data against restart after 10010000l00000001l
     pch/page_2 may send either bit before it in slot 9..16
     see board.brief:5
     bmc/page_* × pch/page_*: 2 pairs, lengths differ
-    to mend each: a bit in slot 9..16, known in both and different (in messages
-    of their own); or the same shape from its slot on; or all of:
+    0.1 keep the two sides apart by a lock outside the bus: 2 of 7 pairs are
+    then not checked: board.brief:9, board.brief:10
     never bmc/page_1 pch/page_2 ;
     never bmc/page_2 pch/page_1 ;
-    (leaves 2 of 7 pairs unchecked)
     group 1, pair 6:
     bus      S 48 Wr A 01 A
     bmc/set  S 48 Wr A 01 A xxxxxxxx  next: a data bit
@@ -642,15 +812,16 @@ pair 6 bmc_set/set pch/get: data against restart after 10010000l00000001l
     until here.
     see board.brief:3 and board.brief:4
     bmc/set × pch/get: 1 pair, one goes on, one repeats START
-    to mend it: the same shape from its slot on; or:
+    1.1 leave out what 'get' writes before it reads, if the device keeps its
+    register pointer (others may have moved it): board.brief:4
+    message get read sensor 1 ;
+    1.2 keep the two sides apart by a lock outside the bus: 1 of 7 pairs is then
+    not checked: board.brief:9
     never bmc/set pch/get ;
-    (leaves 1 of 7 pairs unchecked)
 unsafe: 3 of 7 pairs
-    to mend each: the same shape from its slot on; or all of:
-    never bmc/page_1 pch/page_2 ;
-    never bmc/page_2 pch/page_1 ;
-    never bmc/set pch/get ;
-    (leaves 3 of 7 pairs unchecked)
+    to mend all pairs: 1.2, 0.1; then check says 'safe: 4 pairs' (3 are not
+    checked)
+    to make these edits: twire mend board.brief --all --in-place
     not checked: 2 of 9 pairs, which 'never' keeps apart" ""
 run "a brief with a controller that is split, and with a family" check --explain board.brief
 alike "a brief" check board.brief
@@ -659,7 +830,7 @@ want 0 "safe: 4 pairs
     where targets acknowledge, decided in the header: 2, later: 0,
     at a read's end: 0; may end together: 2
     not checked: 5 of 9 pairs, which 'never' keeps apart" ""
-run "the items that are named mend the brief" check --explain board.brief
+run "the items that are offered mend the brief" check --explain board.brief
 
 # The family of a brief, and messages whose names are alike beside it.
 brief 'brief 1' 'message page write 0x50 any*1..3 ;' 'message page_4 write 0x50 any*4 ; message page_5 write 0x50 any*5 ;' \
@@ -670,75 +841,192 @@ call check --summary --most 100 board.brief
 sed -i '/ × /!d' out
 compare "a family and messages that are alike"
 
-# Families are named by their labels, and controllers of one message themselves.
+# kept NAME TEXT: what is offered for the groups of board.brief of the kind 'never', and what stands below the count of unsafe
+# pairs.
+kept() {
+    call check --summary --most 100 board.brief
+    awk '/^    (group |[0-9]+\.[0-9]+ |and [0-9]+ more)/ { on = 0 } /^    [0-9]+\.[0-9]+ keep / { on = 1 } /^unsafe/ { on = 1 } on' out \
+        >offered
+    mv offered out
+    judge "$1" 1 "$2" ""
+}
+
+# Families are named by their labels, and controllers of one message themselves. Two families with few unsafe pairs have an item for
+# each. In the list a pointer that is left out comes last, though it mends two groups.
 brief 'brief 1' 'message page write 0x50 any*1..3 ;' 'message get write 0x50 any read 0x50 1 ;' \
     'controller bmc page get ;' 'controller pch page ;' 'controller seq get ;' 'never bmc/page_3 pch/page_1 ;'
-call check --explain --most 0 board.brief
-sed -i '/^pair/d; /^    not explained/,/^unsafe/{/^unsafe/!d}' out
-want 1 "unsafe: 14 of 18 pairs
-    to mend each: a bit before its slot, known in both and different (in
-    messages of their own); or the same shape from there on; or all of these,
-    which leave 17 of 18 pairs unchecked:
+kept "many pairs of a brief" "\
+    0.2 keep the two sides apart by a lock outside the bus: 6 of 18 pairs are
+    then not checked: board.brief:8, board.brief:9, board.brief:10,
+    board.brief:11, board.brief:12, board.brief:13
+    never bmc/page_2 seq ;
+    never bmc/page_3 seq ;
+    never bmc/get pch/page_2 ;
+    never bmc/get pch/page_3 ;
+    # and 2 lines more
+    1.1 keep the two sides apart by a lock outside the bus: 8 of 18 pairs are
+    then not checked: board.brief:8
     never bmc/page pch/page ;
-    never bmc/page seq ;
-    never bmc/get pch/page ;
-    never pch/page seq ;
-    not checked: 1 of 19 pairs, which 'never' keeps apart" ""
-compare "many pairs of a brief"
+    2.2 keep the two sides apart by a lock outside the bus: 3 of 18 pairs are
+    then not checked: board.brief:8, board.brief:9, board.brief:10
+    never bmc/page_1 seq ;
+    never bmc/get pch/page_1 ;
+    never pch/page_1 seq ;
+unsafe: 14 of 18 pairs
+    to mend all pairs: 2.2, 0.2, 1.1; then check says 'safe: 1 pairs' (17 are
+    not checked)
+    to make these edits: twire mend board.brief --all --in-place
+    not checked: 1 of 19 pairs, which 'never' keeps apart"
 
-# advice NAME UNSAFE LINE..: what is said below the report on the brief, without its pairs and groups.
-advice() {
-    call check --explain --most 0 board.brief
-    sed -i '/^pair/d; /^    not explained/,/^unsafe/{/^unsafe/!d}' out
-    judge "$1" 1 "unsafe: $2 pairs$(printf '\n    %s' "${@:3}")" ""
-}
-# What is said where a bit mends each pair, and where the same shape alone does.
-bit="to mend each: a bit before its slot, known in both and different; or the"
-own=("to mend each: a bit before its slot, known in both and different (in" "messages of their own); or the same shape from there on")
-shape="to mend each: the same shape from its slot on"
-
-# One item for a family does, also where its messages are few.
-for n in 2 4 5 32; do
-    brief 'brief 1' "message page write 0x50 any*1..$n ;" 'message get write 0x50 any read 0x50 1 ;' \
-        'message other read 0x48 1 ;' 'controller bmc page other ;' 'controller host other get ;'
-    m=$((2 * (n + 1)))
-    advice "a family of $n" "$n of $m" "$bit" "same shape from there on; or:" "never bmc/page host/get ;" "(leaves $n of $m pairs unchecked)"
-done
+# Where most of a family clash one item for it does, and else single messages have an item each.
+brief 'brief 1' "message page write 0x50 any*1..2 ;" 'message get write 0x50 any read 0x50 1 ;' \
+    'message other read 0x48 1 ;' 'controller bmc page other ;' 'controller host other get ;'
+kept "a family of 2, of which one meets in each group" "\
+    0.2 keep the two sides apart by a lock outside the bus: 1 of 6 pairs is then
+    not checked: board.brief:7
+    never bmc/page_1 host/get ;
+    1.2 keep the two sides apart by a lock outside the bus: 1 of 6 pairs is then
+    not checked: board.brief:7
+    never bmc/page_2 host/get ;
+unsafe: 2 of 6 pairs
+    to mend all pairs: 0.2, 1.2; then check says 'safe: 4 pairs' (2 are not
+    checked)
+    to make these edits: twire mend board.brief --all --in-place"
+sed -i 's/any\*1\.\.2/any*1..6/' board.brief
+kept "a family of 6" "\
+    0.2 keep the two sides apart by a lock outside the bus: 6 of 14 pairs are
+    then not checked: board.brief:7 (mends groups 0, 1: 6 of 6 unsafe pairs)
+    never bmc/page host/get ;
+    1.2 keep the two sides apart by a lock outside the bus: 1 of 14 pairs is
+    then not checked: board.brief:7
+    never bmc/page_1 host/get ;
+unsafe: 6 of 14 pairs
+    to mend all pairs: 1.2, 0.2; then check says 'safe: 8 pairs' (6 are not
+    checked)
+    to make these edits: twire mend board.brief --all --in-place"
+sed -i 's/any\*1\.\.6/any*1..32/' board.brief
+kept "a family of 32" "\
+    0.2 keep the two sides apart by a lock outside the bus: 32 of 66 pairs are
+    then not checked: board.brief:7 (mends groups 0, 1: 32 of 32 unsafe pairs)
+    never bmc/page host/get ;
+    1.2 keep the two sides apart by a lock outside the bus: 1 of 66 pairs is
+    then not checked: board.brief:7
+    never bmc/page_1 host/get ;
+unsafe: 32 of 66 pairs
+    to mend all pairs: 1.2, 0.2; then check says 'safe: 34 pairs' (32 are not
+    checked)
+    to make these edits: twire mend board.brief --all --in-place"
 # A controller that sends nothing but the family is named itself.
-brief 'brief 1' 'message page write 0x50 any*1..5 ;' 'message get write 0x50 any read 0x50 1 ;' \
+brief 'brief 1' 'message page write 0x50 any*1..6 ;' 'message get write 0x50 any read 0x50 1 ;' \
     'message other read 0x48 1 ;' 'controller bmc page ;' 'controller host other get ;'
-advice "a controller of one family" "5 of 10" "$bit" "same shape from there on; or:" "never bmc host/get ;" "(leaves 5 of 10 pairs unchecked)"
+kept "a controller of one family" "\
+    0.2 keep the two sides apart by a lock outside the bus: 6 of 12 pairs are
+    then not checked: board.brief:7 (mends groups 0, 1: 6 of 6 unsafe pairs)
+    never bmc host/get ;
+    1.2 keep the two sides apart by a lock outside the bus: 1 of 12 pairs is
+    then not checked: board.brief:7
+    never bmc/page_1 host/get ;
+unsafe: 6 of 12 pairs
+    to mend all pairs: 1.2, 0.2; then check says 'safe: 6 pairs' (6 are not
+    checked)
+    to make these edits: twire mend board.brief --all --in-place"
 # Two families: pairs of equal lengths are left out with the others where their labels are named.
 brief 'brief 1' 'message page write 0x50 any*1..3 ;' 'message other read 0x48 1 ;' 'controller bmc page other ;' \
     'controller host other page ;'
-advice "two families" "6 of 16" "${own[0]}" "${own[1]}; or this, which" "leaves 9 of 16 pairs unchecked:" "never bmc/page host/page ;"
+kept "two families" "\
+    0.1 keep the two sides apart by a lock outside the bus: 9 of 16 pairs are
+    then not checked, more than half: board.brief:6
+    never bmc/page host/page ;
+unsafe: 6 of 16 pairs
+    to mend all pairs: 0.1; then check says 'safe: 7 pairs' (9 are not checked)
+    to make these edits: twire mend board.brief --all --in-place"
 # Of a family of which few clash these are named.
 brief 'brief 1' 'message page write 0x50 0x01 0x00*1..8 ;' 'message put write 0x50 0x01 0x00 0x00 0x01 ;' \
     'message other read 0x48 1 ;' 'controller bmc page other ;' 'controller host other put ;'
-advice "few messages of a family" "2 of 18" "$shape; or all of:" "never bmc/page_1 host/put ;" "never bmc/page_2 host/put ;" \
-    "(leaves 2 of 18 pairs unchecked)"
+kept "few messages of a family" "\
+    0.1 keep the two sides apart by a lock outside the bus: 2 of 18 pairs are
+    then not checked: board.brief:7, board.brief:8
+    never bmc/page_1 host/put ;
+    never bmc/page_2 host/put ;
+unsafe: 2 of 18 pairs
+    to mend all pairs: 0.1; then check says 'safe: 16 pairs' (2 are not checked)
+    to make these edits: twire mend board.brief --all --in-place"
 sed -i 's/^controller bmc .*/controller bmc page_1 page_2 page_7 other ;/' board.brief
-advice "two of three messages of a family" "2 of 8" "$shape; or all of:" "never bmc/page_1 host/put ;" "never bmc/page_2 host/put ;" \
-    "(leaves 2 of 8 pairs unchecked)" "not checked: 5 messages that no controller lists: page_3 to page_6" \
-    "(board.brief:2), page_8 (board.brief:2)"
+kept "two of three messages of a family" "\
+    0.1 keep the two sides apart by a lock outside the bus: 2 of 8 pairs are
+    then not checked: board.brief:7, board.brief:8
+    never bmc/page_1 host/put ;
+    never bmc/page_2 host/put ;
+unsafe: 2 of 8 pairs
+    to mend all pairs: 0.1; then check says 'safe: 6 pairs' (2 are not checked)
+    to make these edits: twire mend board.brief --all --in-place
+    not checked: 5 messages that no controller lists: page_3 to page_6
+    (board.brief:2), page_8 (board.brief:2)"
 # A label stands for those of a family that the controller lists.
 brief 'brief 1' 'message page write 0x50 any*1..32 ;' 'message get write 0x50 any read 0x50 1 ;' \
     'message other read 0x48 1 ;' 'controller bmc page_1 page_2 page_3 page_4 page_5 page_9 other ;' \
     'controller host other get ;'
-advice "six messages of a family" "6 of 14" "$bit" "same shape from there on; or:" "never bmc/page host/get ;" "(leaves 6 of 14 pairs unchecked)" \
-    "not checked: 26 messages that no controller lists: page_6 to page_8" \
-    "(board.brief:2), page_10 to page_32 (board.brief:2)"
-# Messages of one line that have the names of a family are none.
+kept "six messages of a family" "\
+    0.2 keep the two sides apart by a lock outside the bus: 6 of 14 pairs are
+    then not checked: board.brief:7 (mends groups 0, 1: 6 of 6 unsafe pairs)
+    never bmc/page host/get ;
+    1.2 keep the two sides apart by a lock outside the bus: 1 of 14 pairs is
+    then not checked: board.brief:7
+    never bmc/page_1 host/get ;
+unsafe: 6 of 14 pairs
+    to mend all pairs: 1.2, 0.2; then check says 'safe: 8 pairs' (6 are not
+    checked)
+    to make these edits: twire mend board.brief --all --in-place
+    not checked: 26 messages that no controller lists: page_6 to page_8
+    (board.brief:2), page_10 to page_32 (board.brief:2)"
+# Messages of one line that have the names of a family are none. The list has a bit for each group, and no pointer.
 brief 'brief 1' 'message page_1 write 0x50 any ; message page_2 write 0x50 any any ;' \
     'message get write 0x50 any read 0x50 1 ; message other read 0x48 1 ;' 'controller bmc page_1 page_2 other ;' \
     'controller host other get ;'
-advice "no family" "2 of 6" "$bit" "same shape from there on; or all of:" "never bmc/page_1 host/get ;" "never bmc/page_2 host/get ;" \
-    "(leaves 2 of 6 pairs unchecked)"
-# What a brief could not have is not named: a label whose part has the name of a controller.
-brief 'brief 1' 'message page write 0x50 any*1..5 ;' 'message get write 0x50 any read 0x50 1 ;' \
+cp board.brief p.brief
+mends "no family" "\
+    0.1 let bit 7 of data byte 1 be 0 in 'page_1' and 1 in 'get': p.brief:2,
+    p.brief:3
+    message page_1 write 0x50 0b0xxxxxxx ; message page_2 write 0x50 any any ;
+    message get write 0x50 0b1xxxxxxx read 0x50 1 ; message other read 0x48 1 ;
+    0.2 leave out what 'get' writes before it reads, if the device keeps its
+    register pointer (others may have moved it): p.brief:3 (mends groups 0, 1: 2
+    of 2 unsafe pairs)
+    message get read 0x50 1 ; message other read 0x48 1 ;
+    0.3 keep the two sides apart by a lock outside the bus: 1 of 6 pairs is then
+    not checked: p.brief:6
+    never bmc/page_1 host/get ;
+    1.1 let bit 7 of data byte 1 be 0 in 'page_2' and 1 in 'get': p.brief:2,
+    p.brief:3
+    message page_1 write 0x50 any ; message page_2 write 0x50 0b0xxxxxxx any ;
+    message get write 0x50 0b1xxxxxxx read 0x50 1 ; message other read 0x48 1 ;
+    1.2 leave out what 'get' writes before it reads, if the device keeps its
+    register pointer (others may have moved it): p.brief:3 (mends groups 0, 1: 2
+    of 2 unsafe pairs)
+    message get read 0x50 1 ; message other read 0x48 1 ;
+    1.3 keep the two sides apart by a lock outside the bus: 1 of 6 pairs is then
+    not checked: p.brief:6
+    never bmc/page_2 host/get ;
+unsafe: 2 of 6 pairs
+    to mend all pairs: 0.1, 1.1; then check says 'safe: 6 pairs'
+    to make these edits: twire mend p.brief --all --in-place" p.brief
+# What a brief could not have is not offered: a label whose part has the name of a controller.
+brief 'brief 1' 'message page write 0x50 any*1..6 ;' 'message get write 0x50 any read 0x50 1 ;' \
     'message other read 0x48 1 ;' 'controller bmc page other ;' 'controller bmc_page other ;' 'controller host other get ;'
-advice "a label whose name is taken" "5 of 20" "$bit" "same shape from there on; or this, which leaves 12 of 20 pairs unchecked:" "never bmc host ;"
-# Eight items are named, and with more of them controllers.
+kept "a label whose name is taken" "\
+    0.2 keep the two sides apart by a lock outside the bus: 14 of 23 pairs are
+    then not checked, more than half: board.brief:8 (mends groups 0, 1: 6 of 6
+    unsafe pairs)
+    never bmc host ;
+    1.2 keep the two sides apart by a lock outside the bus: 1 of 23 pairs is
+    then not checked: board.brief:8
+    never bmc/page_1 host/get ;
+unsafe: 6 of 23 pairs
+    to mend all pairs: 1.2, 0.2; then check says 'safe: 9 pairs' (14 are not
+    checked)
+    to make these edits: twire mend board.brief --all --in-place"
+# Eight items are offered, and with more of them controllers, where these leave anything to check. Four lines of an offer are
+# shown, and six places.
 # writes COUNT: a board of so many single messages that clash with one.
 writes() {
     local k messages=() listed=
@@ -750,56 +1038,73 @@ writes() {
         "controller bmc other$listed ;" 'controller host get other ;'
 }
 writes 8
-advice "eight items" "8 of 18" "$shape; or all of:" "never bmc/a1 host/get ;" "never bmc/a2 host/get ;" "never bmc/a3 host/get ;" \
-    "never bmc/a4 host/get ;" "never bmc/a5 host/get ;" "never bmc/a6 host/get ;" "never bmc/a7 host/get ;" \
-    "never bmc/a8 host/get ;" "(leaves 8 of 18 pairs unchecked)"
+cp board.brief p.brief
+mends "eight items" "\
+    0.1 let 'get' never send 0x00 to 0x7F in data byte 1 (bit 7 is then 1, which
+    the other side never sends): p.brief:2
+    message get write 0x50 0b1xxxxxxx read 0x50 1 ;
+    0.2 leave out what 'get' writes before it reads, if the device keeps its
+    register pointer (others may have moved it): p.brief:2
+    message get read 0x50 1 ;
+    0.3 keep the two sides apart by a lock outside the bus: 8 of 18 pairs are
+    then not checked: p.brief:14, p.brief:15, p.brief:16, p.brief:17,
+    p.brief:18, p.brief:19 and 2 more
+    never bmc/a1 host/get ;
+    never bmc/a2 host/get ;
+    never bmc/a3 host/get ;
+    never bmc/a4 host/get ;
+    # and 4 lines more
+unsafe: 8 of 18 pairs
+    to mend all pairs: 0.1; then check says 'safe: 18 pairs'
+    to make these edits: twire mend p.brief --all --in-place" p.brief
 writes 9
-advice "nine items" "9 of 20" "$shape"
-# Messages that could be one family are told, with the items for it.
-pages() {
-    brief 'brief 1' "message page1 write 0x50 $1 any ;" "message page2 write 0x50 $1 any*2 ;" \
-        "message page3 write 0x50 $1 any*3 ;" "message page4 write 0x50 $2 any*4 ;" 'message far read 0x40 1 ;' "${@:3}" \
-        'controller bmc page1 page2 page3 page4 far ;' 'controller pch page1 page2 page3 page4 far ;'
-}
-pages any any
-advice "messages that could be a family" "12 of 25" "${own[@]}" \
-    "page1 to page4 could be written as one family (any*1..4). Then their pairs" \
-    "are kept apart by this, which leaves 16 of 25 pairs unchecked:" "never bmc/page pch/page ;"
-# As it is said, that item mends them.
+kept "nine items" "\
+unsafe: 9 of 20 pairs
+    to mend all pairs: 0.1; then check says 'safe: 20 pairs'
+    to make these edits: twire mend board.brief --all --in-place"
+sed -i 's/^controller host .*/&\ncontroller seq other ;/' board.brief
+kept "nine items of two controllers of three" "\
+    0.3 keep the two sides apart by a lock outside the bus: 20 of 32 pairs are
+    then not checked, more than half: board.brief:16
+    never bmc host ;
+unsafe: 9 of 32 pairs
+    to mend all pairs: 0.1; then check says 'safe: 32 pairs'
+    to make these edits: twire mend board.brief --all --in-place"
+# Messages that are numbered by hand are no family: twelve items for them are too many.
+brief 'brief 1' 'message page1 write 0x50 any any ;' 'message page2 write 0x50 any any*2 ;' \
+    'message page3 write 0x50 any any*3 ;' 'message page4 write 0x50 any any*4 ;' 'message far read 0x40 1 ;' \
+    'controller bmc page1 page2 page3 page4 far ;' 'controller pch page1 page2 page3 page4 far ;'
+kept "messages that could be a family" "\
+unsafe: 12 of 25 pairs
+    no edit was found that mends a group"
+# Written as a family they have one item.
 brief 'brief 1' 'message page write 0x50 any any*1..4 ;' 'message far read 0x40 1 ;' 'controller bmc page far ;' \
-    'controller pch page far ;' 'never bmc/page pch/page ;'
+    'controller pch page far ;'
+kept "messages that are written as a family" "\
+    0.1 keep the two sides apart by a lock outside the bus: 16 of 25 pairs are
+    then not checked, more than half: board.brief:6
+    never bmc/page pch/page ;
+unsafe: 12 of 25 pairs
+    to mend all pairs: 0.1; then check says 'safe: 9 pairs' (16 are not checked)
+    to make these edits: twire mend board.brief --all --in-place"
+echo 'never bmc/page pch/page ;' >>board.brief
 want 0 "safe: 9 pairs" ""
-run "messages that are written as a family" check board.brief
-# Of three controllers each two have an item.
-pages any any 'controller seq page4 ;'
-advice "messages of three controllers that could be a family" "18 of 35" "${own[@]}" \
-    "page1 to page4 could be written as one family (any*1..4). Then their pairs" \
-    "are kept apart by all of these, which leave 24 of 35 pairs unchecked:" \
-    "never seq/page bmc/page ;" "never seq/page pch/page ;" "never bmc/page pch/page ;"
-# Known bytes before those that each has one more of; another one in the last message; and a name that is taken.
-pages "0x01 0x02" "0x01 0x02"
-advice "known bytes before those of a family" "12 of 25" "${own[@]}" \
-    "page1 to page4 could be written as one family (any*1..4). Then their pairs" \
-    "are kept apart by this, which leaves 16 of 25 pairs unchecked:" "never bmc/page pch/page ;"
-pages 0x01 0b0000000x
-advice "a message that is no part of a family" "12 of 25" "${own[@]}"
-pages any any 'message page write 0x51 ;' 'controller seq page ;'
-advice "a family whose name is taken" "12 of 35" "${own[0]}" "${own[1]}; or this, which" "leaves 25 of 35 pairs unchecked:" "never bmc pch ;"
-# Single messages of a family have items of their own as far as there is room for them.
-# families COUNT: so many single messages and a family of which all clash with one message, and two with another.
-families() {
-    writes "$1"
-    sed -i -e '2s/^/message page write 0x50 0x11 0x00*1..8 ; message put write 0x50 0x11 0x00 0x00 0x01 ;\n/' \
-        -e 's/^\(controller bmc .*\) ;/\1 page ;/; s/^controller host get/& put/' board.brief
-}
-families 5
-advice "seven clashes" "15 of 42" "$shape; or all of:" "never bmc/a1 host/get ;" "never bmc/a2 host/get ;" "never bmc/a3 host/get ;" \
-    "never bmc/a4 host/get ;" "never bmc/a5 host/get ;" "never bmc/page host/get ;" "never bmc/page_1 host/put ;" \
-    "never bmc/page_2 host/put ;" "(leaves 15 of 42 pairs unchecked)"
-families 6
-advice "eight clashes" "16 of 45" "$shape; or all of:" "never bmc/a1 host/get ;" "never bmc/a2 host/get ;" "never bmc/a3 host/get ;" \
-    "never bmc/a4 host/get ;" "never bmc/a5 host/get ;" "never bmc/a6 host/get ;" "never bmc/page host/get ;" \
-    "never bmc/page host/put ;" "(leaves 22 of 45 pairs unchecked)"
+run "the item of a family" check board.brief
+# Single messages of a family have items of their own as far as there is room for them: of five clashes three.
+brief 'brief 1' 'message page write 0x50 0x11 0x00*1..8 ; message put write 0x50 0x11 0x00 0x00 0x01 ;' \
+    'message other read 0x48 1 ;' 'controller bmc page other ;' "$(printf 'controller h%d put other ;\n' 1 2 3 4 5)"
+want 1 "    never bmc/page_1 h1/put ;
+    never bmc/page_2 h1/put ;
+    never bmc/page_1 h2/put ;
+    never bmc/page_2 h2/put ;
+    # and 4 lines more
+unsafe: 10 of 130 pairs
+    to mend all pairs: 0.1; then check says 'safe: 108 pairs' (22 are not
+    checked)
+    to make these edits: twire mend board.brief --all --in-place" ""
+call check --summary board.brief
+sed -i -n '/^    never/,$p' out
+compare "five clashes of two messages each, in eight items"
 
 # Interrupts, two of them on one line.
 brief 'brief 1' 'device sensor 0x48 ;' 'message get read sensor 1 ;' 'controller a get ;' '' \
@@ -815,6 +1120,9 @@ pair 2 !al !second: claim against claim after 10010001
     answer. Both send alike until here.
     see board.brief:3 and board.brief:6
     a/get × !al: 1 pair, an interrupt has the same header
+    0.1 give the interrupt 'al' an address that nothing else has: board.brief:6
+    (mends groups 0, 2: 2 of 3 unsafe pairs)
+    interrupt al 0x09 ; interrupt second sensor ;
     group 1, pair 1:
     bus      S 48 Rd
     a/get    S 48 Rd          next: a target's bit
@@ -823,6 +1131,9 @@ pair 2 !al !second: claim against claim after 10010001
     answer. Both send alike until here.
     see board.brief:3 and board.brief:6
     a/get × !second: 1 pair, an interrupt has the same header
+    1.1 give the interrupt 'second' an address that nothing else has:
+    board.brief:6 (mends groups 1, 2: 2 of 3 unsafe pairs)
+    interrupt al sensor ; interrupt second 0x0A ;
     group 2, pair 2:
     bus      S 48 Rd
     !al      S 48 Rd (waits)  next: a wait for the answer
@@ -831,8 +1142,15 @@ pair 2 !al !second: claim against claim after 10010001
     the answer. Both send alike until here.
     see board.brief:6
     !al × !second: 1 pair, an interrupt has the same header
+    2.1 give the interrupt 'al' an address that nothing else has: board.brief:6
+    (mends groups 0, 2: 2 of 3 unsafe pairs)
+    interrupt al 0x09 ; interrupt second sensor ;
+    2.2 give the interrupt 'second' an address that nothing else has:
+    board.brief:6 (mends groups 1, 2: 2 of 3 unsafe pairs)
+    interrupt al sensor ; interrupt second 0x0A ;
 unsafe: 3 of 3 pairs
-    only another header mends a pair with an interrupt: pair 0, pair 1, pair 2" ""
+    to mend all pairs: 0.1, 1.1; then check says 'safe: 3 pairs'
+    to make these edits: twire mend board.brief --all --in-place" ""
 run "interrupts of a brief" check --explain board.brief
 
 # Several files.
@@ -848,12 +1166,16 @@ want 1 "pair 0 bmc/set pch/get: data against restart after 10010000l00000001l
     until here.
     see <stdin>:2 and <stdin>:3
     bmc/set × pch/get: 1 pair, one goes on, one repeats START
+    0.1 leave out what 'get' writes before it reads, if the device keeps its
+    register pointer (others may have moved it): <stdin>:3
+    message get read 0x48 1 ;
 unsafe: 1 of 1 pairs
-    to mend it: the same shape from that slot on" ""
+    to mend all pairs: 0.1; then check says 'safe: 1 pairs'" ""
 run "the first file is standard input" check --explain - --with second.brief <first.brief
 sed -i '/^message get/d' first.brief
 sed -i '2s/.*/message get write 0x48 0x01 read 0x48 1 ;/' second.brief
-sed -i 's/<stdin>:2 and <stdin>:3/first.brief:2 and second.brief:2/' want_out
+sed -i 's/<stdin>:2 and <stdin>:3/first.brief:2 and second.brief:2/; s/<stdin>:3/second.brief:2/' want_out
+printf '%s\n' '    to make these edits:' '    twire mend first.brief --with second.brief --all --in-place' >>want_out
 run "messages of two files" check --explain first.brief --with second.brief
 printf '%s\n' 'brief 1' 'interrupt al 0x48 ;' >alert.brief
 printf '%s\n' 'brief 1' 'message get read 0x48 1 ;' 'controller a get ;' >get.brief
@@ -1074,10 +1396,15 @@ told "the longest that clash, by check" "    group 0, pair 0:
 $meets
     $right/$other: 1 pair,
     lengths differ
-    to mend it: a bit in slot 9..16, 18..25, 27..34, 36..43, 45..52, 54..61 and
-    248 more, known in both and different
-    to mend it: a bit before that slot, known in both and different; or the same
-    shape from there on" check board.brief
+    0.1 let bit 7 of data byte 1 be 0 in '$one' and
+    1 in '$other': board.brief:2, board.brief:3
+    message $one write 0x48 0b0xxxxxxx any*254 ;
+    message $other write 0x48 0b1xxxxxxx any*253 ;
+    0.2 let '$other' send 1 byte more, as many as the
+    other side: board.brief:3
+    message $other write 0x48 any*254 any ;
+    to mend all pairs: 0.1; then check says 'safe: 1 pairs'
+    to make these edits: twire mend board.brief --all --in-place" check board.brief
 meets="    pair 0:
 $meets
     $right/$other: lengths
@@ -1150,10 +1477,15 @@ want 1 "pair 0 bmc/short host/long: stop against data after 10100000l00000000l00
     host/long may send either bit before it in slot 9..16, 18..25, 27..34
     see board.brief:2 and board.brief:3
     bmc/short × host/long: 1 pair, lengths differ
-    to mend it: a bit in slot 9..16, 18..25, 27..34, known in both and different
+    0.1 let bit 7 of data byte 1 be 0 in 'short' and 1 in 'long': board.brief:2,
+    board.brief:3
+    message short write 0x50 0b0xxxxxxx any*2 ;
+    message long write 0x50 0b1xxxxxxx any*7 ;
+    0.2 let 'short' send 5 bytes more, as many as the other side: board.brief:2
+    message short write 0x50 any*3 any*5 ;
 unsafe: 1 of 1 pairs
-    to mend it: a bit before that slot, known in both and different; or the same
-    shape from there on" ""
+    to mend all pairs: 0.1; then check says 'safe: 1 pairs'
+    to make these edits: twire mend board.brief --all --in-place" ""
 run "a row that is too long" check --explain board.brief
 # Bytes that are known in one of them: the same ones are left out of it, though it would have room for more.
 brief 'brief 1' 'message short write 0x50 0x01*6 read 0x50 1 ;' 'message long write 0x50 any*9 ;' 'controller bmc short ;' \

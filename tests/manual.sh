@@ -5,7 +5,7 @@ source "$(dirname -- "$(readlink -f -- "${BASH_SOURCE[0]}")")/suite.bash" || exi
 "$top/tools/manual" "$twire" "$work"
 same "the status of tools/manual" 0 $?
 mapfile -t commands < <("$twire" help | sed -n '/^Commands:/,/^$/s/^  \([a-z]*\) .*/\1/p' | grep -v '^help$')
-same "that there are commands" "check certify verify" "${commands[*]:0:3}"
+same "that there are commands" "check mend certify" "${commands[*]:0:3}"
 
 # ---- the page
 

@@ -248,6 +248,9 @@ odd:1:1: error: no two participants may start together, so nothing was checked [
 printf 'plan 1\nmessage n read 1001000 1 stop else stop ;\nmessage m read 1001000 1 stop else stop ;\ncontroller a m ;\ncontroller b m ;\n' >unlisted
 told "a plan of which not all is looked at" 0 "" "" check unlisted
 told "the same strictly" 1 "unlisted:2:9: error: no controller lists message 'n', which was not looked at [unsent message]" "" check unlisted --strict
+printf 'plan 2\nmessage m read 1001000 1 stop else stop ;\ncontroller a m ;\ncontroller b m ;\ncontroller c m ;\nnever a b ;\n' >apart
+told "as many pairs as 'never' may leave out" 0 "" "" check apart --strict --apart 1
+told "more than these" 1 "apart:1:1: error: 'never' leaves 1 of 3 pairs unchecked, where 0 are allowed [left out]" "" check apart --strict --apart 0
 sed -i '/controller b/d' unlisted
 told "a plan without pairs, strictly" 1 "unlisted:1:1: error: no two participants may start together, so nothing was checked [no pair]
 unlisted:2:9: error: no controller lists message 'n', which was not looked at [unsent message]" "" check unlisted --strict

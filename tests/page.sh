@@ -105,23 +105,23 @@ for plan in examples/{restart_meets_data,stop_meets_data}.plan {lock,groups}.bri
         "$(grep -oE '\{"pair":[0-9]+,"kinds":[^}]*"group":[0-9]+\}' page.html | sed -E 's/.*"pair":([0-9]+),.*"group":([0-9]+)\}/\1 \2/')"
 done
 
-# What is offered to mend pairs is what check says, word for word: of each group, and of all of them.
+# What is offered to mend pairs is what check says, word for word, but for a command: of each group, and of all of them.
 # plainly: what is offered in JSON, as words.
 plainly() {
-    sed -E -e 's/"(offers?|said|items|after)"://g' -e 's/\[\]//g' -e 's/[][{}]//g' -e 's/",*"/ /g' -e 's/"//g' | tr -s ' \n' ' ' |
+    sed -E -e 's/"(offers|said|lines)"://g' -e 's/\[\]//g' -e 's/[][{}]//g' -e 's/",*"/ /g' -e 's/"//g' -e 's/,$//' | tr -s ' \n' ' ' |
         sed 's/^ //; s/ $//'
 }
-offer='\{"said":"[^"]*","items":\[("[^"]*",?)*\],"after":"[^"]*"\}'
+offer='\{"said":"[^"]*","lines":\[("[^"]*",?)*\]\}'
 for plan in examples/{restart_meets_data,stop_meets_data,restart_meets_stop,never_repairs}.plan {lock,groups}.brief; do
     "$twire" page "$plan" -o page.html
     "$twire" check --summary --most 1000 "$plan" >report
     name=${plan##*/}
     same "$name: what is offered for all" \
-        "$(sed '1,/^unsafe/d; /^safe/d; /^    where targets/,$d; /^    not checked/,$d' report | tr -s ' \n' ' ' | sed 's/^ //; s/ $//')" \
-        "$(grep -oE "\"offers\":\[($offer,?)*\]" page.html | plainly)"
+        "$(sed '1,/^unsafe/d; /^safe/d; /^    where targets/,$d; /^    not checked/,$d; /^    to make these edits:/,$d' report | tr -s ' \n' ' ' | sed 's/^ //; s/ $//')" \
+        "$(grep -oE "\"offers\":\[($offer,?)*\]" page.html | tail -n 1 | plainly)"
     same "$name: what is offered for each group" \
-        "$(sed '/^unsafe/,$d; /^safe/,$d' report | awk '/^    group /{on = 0} /^    to mend/{on = 1} on' | tr -s ' \n' ' ' | sed 's/^ //; s/ $//')" \
-        "$(grep -oE "\"offer\":$offer" page.html | plainly)"
+        "$(sed '/^unsafe/,$d; /^safe/,$d' report | awk '/^    group / {on = 0} /^    [0-9]+\.[0-9]+ |^    no edit / {on = 1} on' | tr -s ' \n' ' ' | sed 's/^ //; s/ $//')" \
+        "$(grep -oE "\"offers\":\[($offer,?)*\]" page.html | sed '$d' | plainly)"
 done
 
 # ---- refusals: nothing is written, and the old file stays
@@ -282,11 +282,13 @@ same "a group in a browser" "Group 0, 32 pairs: bmc/page_* × host/entry, one go
 same "the bytes of its example" "bus         S 50 Wr A 00 A
 bmc/page_1  S 50 Wr A xxxxxxxx A xxxxxxxx  next: a data bit
 host/entry  S 50 Wr A xxxxxxxx A Sr        next: a repeated START" "$(sed -n '/<pre class="rows">/,/<\/pre>/p' dom | sed -e 's/.*<pre class="rows">//' -e 's/<\/pre>.*//')"
-same "what is offered in a browser" "to mend each: a bit before its slot, known in both and different; or the same shape from there on; or:
-never bmc/page host/entry ;
-(leaves 32 of 66 pairs unchecked)
-to mend each: a bit in slot 9..16, known in both and different" \
-    "$(grep -oE '<div class="offer">.*</div>' dom | grep -oE '<(p|pre)>[^<]*' | sed 's/<[^>]*>//' | head -n 4)"
+same "what is offered in a browser" "to mend all pairs: 0.1; then check says 'safe: 66 pairs'
+0.1 let bit 7 of data byte 1 be 0 in 'page' and 1 in 'entry': lock.brief:3, lock.brief:4
+message page  write eeprom 0b0xxxxxxx any*1..32 ;
+message entry write eeprom 0b1xxxxxxx read eeprom 1 ;         # sets the pointer, then reads
+0.2 leave out what 'entry' writes before it reads, if the device keeps its register pointer (others may have moved it): lock.brief:4" \
+    "$(sed 's/<div class="offer">/\n&/g; s/<\/div>/\n/g' dom | awk '/^<div class="offer">/ { on = 1 } on; /<\/pre>|<\/p>$/ { on = 0 }' |
+        sed -e 's/<\/p><pre>/\n/' -e 's/<[^>]*>//g' | head -n 5)"
 same "its open bits: eight of each, and one that meets the repeated START" 17 "$(grep -o 'class="open">x<' dom | wc -l)"
 same "the rows and columns of a family stand in a band" "colspan=\"32\"
 rowspan=\"32\"" "$(grep -oE '(colspan|rowspan)="32"' dom | sort -u)"

@@ -31,7 +31,7 @@ suites() {
 }
 
 JSON_SUITES='' TWIRE=$work/keep bash "$tests/json.sh" </dev/null >said.json 2>&1 &
-suites lines explain &
+suites lines explain mend &
 suites briefs boards bench &
 mkdir folder
 (cd folder && ../cases "$work/keep" "$tests/cases") >said.cases 2>&1 &

@@ -45,7 +45,7 @@ shows "another result" crates/plan_core/src/plans.rt '0,/-> u32$/s/-> u32$/-> u6
 shows "a call that is gone" crates/message_tree/src/bits.rt '0,/pub fn bit/s/pub fn bit/fn bit/'
 shows "what a type keeps" crates/message_tree/src/counts.rt '/ghost positive/d'
 shows "the second line of what a type keeps" crates/plan_core/src/plans.rt '/pub ghost numbered/{n;s/interrupts/controllers/}'
-shows "a clause of a library without definitions" crates/remedies/src/families.rt '0,/^ *ensures /{/^ *ensures /d}'
+shows "a clause of a library without definitions" crates/run_ends/src/finishing.rt '0,/^ *ensures /{/^ *ensures /d}'
 shows "what a trait promises" crates/run_parts/src/devices/traits.rt '/ensures failed/d'
 shows "a definition" crates/plan_core/specs/Faults.antt 's/^IsSafe .*/IsSafe plan = Unit {0}/'
 shows "a definition that only others name" crates/message_tree/specs/Sizes.antt 's/tail_bytes stop = 0/tail_bytes stop = 1/'

@@ -123,7 +123,7 @@ again
 
 sed -i 's/^controller pch load ;/controller pch ;/' pch.brief
 rewritten
-checks "a message in no controller" 1 "checks: not all was looked at: let a controller list each message"
+checks "a message in no controller" 1 "checks: not enough was looked at: the lines above say what was not"
 same "the line above it" "    not checked: 1 message that no controller lists: load (pch.brief:2)" \
     "$(sh checks.sh 2>&1 | grep 'that no controller')"
 again
@@ -131,6 +131,9 @@ again
 printf 'controller spare load ;\nnever bmc pch ;\n' >>pch.brief
 rewritten
 same "pairs that never keeps apart" "    not checked: 1 of 3 pairs, which 'never' keeps apart" "$(sh checks.sh 2>&1 | tail -n 1)"
+echo 'never bmc spare ;' >>pch.brief
+rewritten
+checks "more of them than the script allows" 1 "checks: not enough was looked at: the lines above say what was not"
 again
 
 printf 'brief 1\n' >fan.brief

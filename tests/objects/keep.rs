@@ -11,7 +11,7 @@ use std::os::unix::fs::FileTypeExt;
 use std::process::{Command, ExitCode, Output, Stdio};
 
 // The commands that write reports.
-const REPORTING: [&str; 7] = ["check", "verify", "order", "capture", "decode", "signals", "bench"];
+const REPORTING: [&str; 8] = ["check", "mend", "verify", "order", "capture", "decode", "signals", "bench"];
 
 fn main() -> ExitCode {
     match run() {
@@ -44,7 +44,7 @@ fn run() -> Result<u8, Box<dyn Error>> {
 fn is_in_lines(words: &[OsString]) -> bool {
     let reports = words.iter().any(|word| REPORTING.iter().any(|name| word == name));
     let is_read = words.iter().any(|word| fs::metadata(word).is_ok_and(|it| it.file_type().is_fifo()));
-    reports && !is_read && !["--format", "--wave", "--output", "-o"].iter().any(|option| has(words, option))
+    reports && !is_read && !["--format", "--wave", "--output", "-o", "--in-place"].iter().any(|option| has(words, option))
 }
 
 fn has(words: &[OsString], option: &str) -> bool {

@@ -2,6 +2,7 @@
 
 use crate::blocks::cases_of;
 use crate::commands::Command;
+use crate::plain::sources::Source;
 use crate::plain::{self, Answer, File};
 use std::borrow::Cow;
 use std::fs;
@@ -58,6 +59,11 @@ impl Asked {
             answer if answer.status == 0 => Ok(Cow::Owned(answer.out.into_bytes())),
             refused => Err(refused),
         }
+    }
+
+    /// The texts that give the plan, in the order of their board.
+    pub fn sources(&self) -> Vec<Source> {
+        plain::sources_of(&self.briefs())
     }
 
     // Whether the first text gives a plan, and its head may name files.

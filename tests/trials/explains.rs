@@ -4,12 +4,18 @@ use crate::json::Value;
 use crate::plain::bytes::{bytes_along, bytes_on, open_slots};
 use crate::plain::captures::{Mark, Transaction, Until};
 use crate::plain::decoded::{self, cuts_of, nearest};
-use crate::plain::explained::{decided, kept_apart, offered, unsent, Decided, Mends};
+use crate::plain::explained::{decided, kept_apart, unsent, with_interrupts, Decided};
 use crate::plain::found::{Checked, Fault, Played};
-use crate::plain::groups::Group;
-use crate::plain::partings::{has_shape, parting};
+use crate::plain::offers::{Mending, Offer};
+use crate::plain::sources::{Edit, Source};
 use crate::plain::{break_of, read_certificate, Certificate, Item, Kind, Participants, Wrong};
 use crate::values::object;
+
+/// What mends a plan: the texts that give it, and what is offered.
+pub struct Mended {
+    pub sources: Vec<Source>,
+    pub mending: Mending,
+}
 
 /// Of an unsafe pair.
 pub fn of_fault(fault: &Fault) -> Value {
@@ -30,45 +36,80 @@ fn two((first, last): (usize, usize)) -> Value {
     Value::Array(vec![Value::of(first), Value::of(last)])
 }
 
-/// Of a group of unsafe pairs.
-pub fn of_group(plan: &Participants, group: &Group, faults: &[Fault]) -> Value {
-    let mut places = group.pairs.clone();
-    places.sort_unstable();
-    let faults: Vec<Fault> = places.iter().map(|place| faults[*place].clone()).collect();
-    let mends = offered(plan.items, &faults);
+/// Of a group of unsafe pairs: of an explained one the first offers are shown, and of each those that the list names. None of
+/// another one of which it names none.
+pub fn of_group(mended: &Mended, group: usize, is_explained: bool) -> Option<Value> {
+    let (_, offers) = &mended.mending.groups[group];
+    let is_shown = |k: &usize| is_explained && *k < SHOWN || mended.mending.list.contains(&(group, *k));
+    let shown: Vec<usize> = (0..offers.len()).filter(is_shown).collect();
+    let more = offers.len() - shown.len();
+    let is_said = is_explained || !shown.is_empty();
+    let shown = shown.into_iter().map(|k| of_offer(mended, (group, k), &offers[k]));
+    let mut fields = vec![("offers", Value::Array(shown.collect()))];
+    fields.extend((more != 0).then(|| ("more", Value::of(more))));
+    is_said.then(|| object(fields))
+}
+
+// How many offers of an explained group are shown, whatever the list names.
+const SHOWN: usize = 4;
+
+fn of_offer(mended: &Mended, place: (usize, usize), offer: &Offer) -> Value {
+    let numbers = |numbers: &[usize]| Value::Array(numbers.iter().map(|number| Value::of(*number)).collect());
     object(vec![
-        ("parting", Value::Array(parting(&faults).into_iter().map(two).collect())),
-        ("shape", Value::Bool(has_shape(&faults))),
-        ("never", nevers(plan, &mends)),
-        ("unchecked", Value::of(mends.unchecked)),
+        ("offer", called(place)),
+        ("kind", Value::text(offer.kind)),
+        ("mends", numbers(&offer.mends)),
+        ("pairs", Value::of(mended.mending.pairs_of(&offer.mends))),
+        ("unchecked", Value::of(offer.unchecked)),
+        ("edits", Value::Array(offer.edits.iter().map(|edit| of_edit(&mended.sources, edit)).collect())),
     ])
 }
 
-fn nevers(plan: &Participants, mends: &Mends) -> Value {
-    let name = |place: usize| plan.items.controllers[place].name;
-    Value::Array(mends.nevers.iter().map(|(c, d)| Value::list([name(*c), name(*d)])).collect())
+// The number of a group and that of an offer of it, which counts from 1.
+fn called((group, k): (usize, usize)) -> Value {
+    Value::text(format!("{group}.{}", k + 1))
+}
+
+fn of_edit(sources: &[Source], edit: &Edit) -> Value {
+    let (line, column) = edit.place(sources);
+    object(vec![
+        ("file", Value::text(&sources[edit.source].file)),
+        ("line", Value::of(line)),
+        ("column", Value::of(column)),
+        ("removes", Value::text(&edit.removes)),
+        ("puts", Value::text(&edit.puts)),
+    ])
 }
 
 /// Of a plan, of which so many groups of unsafe pairs are explained at most.
-pub fn of_plan(plan: &Participants, checked: &Checked, groups: usize, most: usize) -> Value {
+pub fn of_plan(plan: &Participants, checked: &Checked, mended: &Mended, most: usize) -> Value {
     if checked.faults.is_empty() {
         of_safe(plan)
     } else {
-        of_unsafe(plan, &checked.faults, groups, most)
+        of_unsafe(plan, &checked.faults, mended, most)
     }
 }
 
-fn of_unsafe(plan: &Participants, faults: &[Fault], groups: usize, most: usize) -> Value {
-    let mends = offered(plan.items, faults);
-    object(vec![
-        ("explained", Value::of(groups.min(most))),
-        ("groups", Value::of(groups)),
-        ("never", nevers(plan, &mends)),
-        ("unchecked", Value::of(mends.unchecked)),
-        ("interrupts", Value::Array(mends.interrupts.iter().map(|pair| Value::of(*pair)).collect())),
+fn of_unsafe(plan: &Participants, faults: &[Fault], mended: &Mended, most: usize) -> Value {
+    let Mending { groups, list, then, is_cut } = &mended.mending;
+    let (pairs, unsafe_pairs) = *then;
+    let mut fields = vec![
+        ("explained", Value::of(groups.len().min(most))),
+        ("groups", Value::of(groups.len())),
+        ("list", Value::Array(list.iter().copied().map(called).collect())),
+    ];
+    if !list.is_empty() {
+        let said = object(vec![("pairs", Value::of(pairs)), ("unsafe_pairs", Value::of(unsafe_pairs))]);
+        fields.push(("then", said));
+    }
+    fields.extend(is_cut.then_some(("untried", Value::Bool(true))));
+    let with_interrupts = with_interrupts(faults).into_iter().map(Value::of);
+    fields.extend([
+        ("interrupts", Value::Array(with_interrupts.collect())),
         ("unsent", Value::list(unsent(plan.items))),
         ("kept_apart", Value::of(kept_apart(plan.items))),
-    ])
+    ]);
+    object(fields)
 }
 
 fn of_safe(plan: &Participants) -> Value {

@@ -25,6 +25,10 @@ mod json;
 mod layouts;
 mod made_up;
 mod memory;
+mod mended;
+#[cfg(test)]
+mod mended_tests;
+mod mendings;
 mod mutations;
 mod object_lines;
 mod objects;
@@ -62,6 +66,7 @@ use drives::try_drives;
 use generated::{try_generated, try_sets};
 use layouts::try_layouts;
 use memory::try_scarce;
+use mendings::try_mendings;
 use plainly::try_plainly;
 use planting::try_planted;
 use quiet::try_quiet;
@@ -92,7 +97,8 @@ struct Orders {
 
 const CHANGED: u64 = 25_000;
 
-// Of plans that are made up, to be expanded from their briefs, there is one for so many changed cases.
+// Of plans that are made up, to be expanded from their briefs, there is one for so many changed cases; and of those that are to
+// be mended, for so many boards.
 const EACH: u64 = 10;
 
 // How many briefs are cut into several files.
@@ -164,6 +170,7 @@ fn try_all(orders: &Orders) -> Result<Score, Box<dyn Error>> {
     let boards = Lot { number: orders.boards / step as u64, ..lot };
     try_versions(&mut crew, &mut score, boards, orders.is_by_hand)?;
     try_planted(&mut crew, &mut score, boards)?;
+    try_mendings(&mut crew, &mut score, Lot { number: boards.number / EACH, ..lot })?;
     try_generated(&mut crew, &mut score, orders.seed, step)?;
     try_sets(&mut crew, &mut score, step)?;
     try_decodings(&mut crew, &mut score, &cases, step)?;

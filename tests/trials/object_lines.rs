@@ -24,6 +24,9 @@ fn without_place(line: &str) -> &str {
 // What stands before the place of a token.
 const PLACE: &str = " byte ";
 
+// The kinds of offers (docs/MENDING.md).
+const KINDS: [&str; 8] = ["count", "known", "bit", "read", "pointer", "address", "length", "never"];
+
 /// The same, where the line of a refused token has its place too: how many bytes stand before it, and in its line and one.
 ///
 /// # Errors
@@ -328,7 +331,7 @@ fn pair(fields: &mut Fields) -> Result<String, String> {
 
 // Unsafe pairs that are alike, with an example.
 fn group(fields: &mut Fields) -> Result<String, String> {
-    fields.number("group")?;
+    let number = fields.number("group")?;
     fields.number("pairs")?;
     let between = fields.take("between")?.into_items()?;
     only_if(!between.is_empty(), "a group is between somebody")?;
@@ -342,32 +345,65 @@ fn group(fields: &mut Fields) -> Result<String, String> {
     only_if(is_part, "there is no such part of a frame")?;
     let mut example = Fields::of(fields.take("example")?)?;
     let (_, slots) = unsafe_pair(&mut example)?;
-    if let Some(mut explain) = example.explain()? {
+    let explain = example.explain()?;
+    let is_explained = explain.is_some();
+    if let Some(mut explain) = explain {
         explained_pair(&mut explain, slots)?;
         explain.end()?;
     }
     example.end()?;
     if let Some(mut explain) = fields.explain()? {
-        explained_group(&mut explain)?;
+        explained_group(&mut explain, &number, is_explained)?;
         explain.end()?;
     }
     Ok(String::new())
 }
 
-// What mends its pairs.
-fn explained_group(explain: &mut Fields) -> Result<(), String> {
-    if let Some(parting) = explain.maybe("parting", Value::into_items)? {
-        ranges(parting)?;
-        explain.take("shape")?.into_bool()?;
+// What is offered for it, and how many more there are. Of an explained group the first four are shown, and of another one some.
+fn explained_group(explain: &mut Fields, group: &str, is_explained: bool) -> Result<(), String> {
+    let offers = explain.maybe("offers", Value::into_items)?.unwrap_or_default();
+    let mut shown = Vec::new();
+    for value in offers {
+        let mut fields = Fields::of(value)?;
+        shown.push(offer_number(&fields.text("offer")?, group)?);
+        offer(&mut fields, group)?;
+        fields.end()?;
     }
-    nevers(explain)
+    let more = explain.maybe("more", Value::into_number)?.map(count).transpose()?;
+    let all = shown.len() as u64 + more.unwrap_or(0);
+    let is_right = if is_explained { shown.iter().take(4).copied().eq(1..=all.min(4)) } else { !shown.is_empty() };
+    let is_in_order = shown.is_sorted_by(|a, b| a < b) && shown.iter().all(|number| (1..=all).contains(number));
+    only_if(is_right && is_in_order && more != Some(0), "other offers are shown")
 }
 
-fn nevers(explain: &mut Fields) -> Result<(), String> {
-    for never in explain.take("never")?.into_items()? {
-        two_of(never)?;
+fn offer_number(number: &str, group: &str) -> Result<u64, String> {
+    match number.split_once('.') {
+        Some((before, own)) if before == group => count(own.to_string()),
+        _ => Err(format!("an offer has another number: {number}")),
     }
-    explain.number("unchecked").map(|_| ())
+}
+
+fn offer(fields: &mut Fields, group: &str) -> Result<(), String> {
+    only_if(KINDS.contains(&fields.text("kind")?.as_str()), "there is no such kind")?;
+    let mends = fields.take("mends")?.into_numbers()?;
+    let numbers: Vec<u64> = mends.iter().cloned().map(self::count).collect::<Result<_, _>>()?;
+    only_if(numbers.is_sorted_by(|a, b| a < b), "the groups stand in another order")?;
+    only_if(mends.iter().any(|it| it == group), "an offer does not mend its group")?;
+    fields.number("pairs")?;
+    fields.number("unchecked")?;
+    let edits = fields.take("edits")?.into_items()?;
+    only_if(!edits.is_empty(), "an offer changes nothing")?;
+    edits.into_iter().try_for_each(edit)
+}
+
+fn edit(value: Value) -> Result<(), String> {
+    let mut edit = Fields::of(value)?;
+    edit.text("file")?;
+    let place = [edit.number("line")?, edit.number("column")?];
+    only_if(place.iter().all(|number| number != "0"), "lines and columns count from 1")?;
+    let (removes, puts) = (edit.text("removes")?, edit.text("puts")?);
+    only_if(removes != puts, "an edit changes nothing")?;
+    edit.end()
 }
 
 // An unsafe pair: its line, and how many slots its wire has.
@@ -429,12 +465,28 @@ fn explained_plan(explain: &mut Fields, is_safe: bool) -> Result<(), String> {
         explain.texts("unsent")?;
     } else {
         explain.number("explained")?;
-        explain.number("groups")?;
-        nevers(explain)?;
+        let groups = count(explain.number("groups")?)?;
+        let list = explain.texts("list")?;
+        only_if(list.iter().all(|it| is_offer(it, groups)), "there is no such offer")?;
+        if !list.is_empty() {
+            let mut then = Fields::of(explain.take("then")?)?;
+            then.number("pairs")?;
+            then.number("unsafe_pairs")?;
+            then.end()?;
+        }
+        let is_cut = explain.maybe("untried", Value::into_bool)?;
+        only_if(is_cut != Some(false), "'untried' is false")?;
         explain.take("interrupts")?.into_numbers()?;
         explain.texts("unsent")?;
     }
     explain.number("kept_apart").map(|_| ())
+}
+
+// The number of a group, and that of an offer of it.
+fn is_offer(text: &str, groups: u64) -> bool {
+    let number = |digits: &str| digits.parse::<u64>().ok().filter(|number| number.to_string() == digits);
+    let two = text.split_once('.').and_then(|(group, offer)| Some((number(group)?, number(offer)?)));
+    two.is_some_and(|(group, offer)| group < groups && offer > 0)
 }
 
 fn certificate(fields: &mut Fields) -> Result<String, String> {

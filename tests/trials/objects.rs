@@ -3,13 +3,15 @@
 
 use crate::cases::Asked;
 use crate::commands::Command;
-use crate::explains;
+use crate::explains::{self, Mended};
 use crate::json::Value;
 use crate::plain::captures::{Transaction, Until};
 use crate::plain::decoded::{bits_behind, bytes_of, calls_of};
 use crate::plain::found::{checked, decoded, decoded_so_far, explainers, ordered, played, verified};
 use crate::plain::found::{Decoded, Fault, Ordered};
 use crate::plain::groups::{groups_of, Group};
+use crate::plain::offers::mending;
+use crate::plain::sources::{families_of, Edit};
 use crate::plain::{symbols, with_plan, Participant, Participants, Ways, Wrong};
 use crate::values::object;
 use std::collections::HashMap;
@@ -19,7 +21,7 @@ use std::collections::HashMap;
 pub fn due_of(asked: &Asked, explain: bool) -> Option<Vec<Value>> {
     let cert = String::from_utf8_lossy(&asked.second);
     let of_plan = |plan: &Participants| match &asked.command {
-        Command::Check { .. } => of_check(plan, explain),
+        Command::Check { .. } => of_check(plan, explain.then(|| mended_of(asked, &HashMap::new())).as_ref()),
         Command::Order => of_order(plan, explain),
         Command::Verify => vec![of_certificate(plan, &cert, explain)],
         Command::Bench { starters, fill, answers } => match verified(plan, &cert) {
@@ -44,6 +46,16 @@ pub fn due_of(asked: &Asked, explain: bool) -> Option<Vec<Value>> {
     }
 }
 
+/// What is due of a check with `--explain`, where these groups have such `never` items.
+pub fn due_of_check(asked: &Asked, nevers: &HashMap<usize, Vec<Edit>>) -> Vec<Value> {
+    of_given(asked, |plan| of_check(plan, Some(&mended_of(asked, nevers))))
+}
+
+fn mended_of(asked: &Asked, nevers: &HashMap<usize, Vec<Edit>>) -> Mended {
+    let sources = asked.sources();
+    Mended { mending: mending(&sources, nevers), sources }
+}
+
 // What is due of the plan, and nothing where it is refused.
 fn of_given(asked: &Asked, of_plan: impl FnOnce(&Participants) -> Vec<Value>) -> Vec<Value> {
     let plan = asked.plan().unwrap_or_default();
@@ -65,27 +77,26 @@ pub fn so_far_of(asked: &Asked) -> Vec<Value> {
     }
 }
 
-// How many groups `--explain` explains, where `--most` does not say it.
-const MOST: usize = 10;
+/// How many groups `--explain` explains, where `--most` does not say it.
+pub const MOST: usize = 10;
 
-fn of_check(plan: &Participants, explain: bool) -> Vec<Value> {
+fn of_check(plan: &Participants, mended: Option<&Mended>) -> Vec<Value> {
     let checked = checked(plan);
-    let groups = if explain { groups_of(plan, &checked.faults) } else { Vec::new() };
+    let families = mended.map_or(Vec::new(), |mended| families_of(&mended.sources));
+    let groups = if mended.is_some() { groups_of(plan, &checked.faults, &families) } else { Vec::new() };
     let numbered = groups.iter().enumerate();
     let numbers: HashMap<usize, usize> =
         numbered.flat_map(|(number, group)| group.pairs.iter().map(move |place| (*place, number))).collect();
     let faults = checked.faults.iter().enumerate();
     let mut objects: Vec<Value> = faults.map(|(place, fault)| of_fault(fault, numbers.get(&place))).collect();
     let numbered = groups.iter().enumerate();
-    objects.extend(numbered.map(|(number, group)| of_group(plan, number, group, &checked.faults)));
+    objects.extend(numbered.map(|(number, group)| of_group(number, group, &checked.faults, mended)));
     let mut fields = vec![
         ("safe", Value::Bool(checked.faults.is_empty())),
         ("pairs", Value::of(checked.pairs)),
         ("unsafe_pairs", Value::of(checked.faults.len())),
     ];
-    if explain {
-        fields.push(("explain", explains::of_plan(plan, &checked, groups.len(), MOST)));
-    }
+    fields.extend(mended.map(|mended| ("explain", explains::of_plan(plan, &checked, mended, MOST))));
     objects.push(of_kind("plan", fields));
     objects
 }
@@ -96,7 +107,7 @@ fn of_fault(fault: &Fault, group: Option<&usize>) -> Value {
     of_kind("pair", fields)
 }
 
-fn of_group(plan: &Participants, number: usize, group: &Group, faults: &[Fault]) -> Value {
+fn of_group(number: usize, group: &Group, faults: &[Fault], mended: Option<&Mended>) -> Value {
     let between = group.between.iter().map(|[first, second]| Value::list([first.as_str(), second.as_str()]));
     let mut fields = vec![
         ("group", Value::of(number)),
@@ -112,9 +123,8 @@ fn of_group(plan: &Participants, number: usize, group: &Group, faults: &[Fault])
         shown.push(("explain", explains::of_fault(example)));
     }
     fields.push(("example", object(shown)));
-    if number < MOST {
-        fields.push(("explain", explains::of_group(plan, group, faults)));
-    }
+    let explain = mended.and_then(|mended| explains::of_group(mended, number, number < MOST));
+    fields.extend(explain.map(|explain| ("explain", explain)));
     of_kind("group", fields)
 }
 

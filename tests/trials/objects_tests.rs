@@ -47,11 +47,6 @@ fn explain_of(object: &str) -> &str {
     ends.and_then(|it| it.split_once("\"explain\":")).map_or("", |(_, explain)| explain)
 }
 
-// What mends a group.
-fn mends_of(object: &str) -> &str {
-    object.split_once("},\"explain\":").map_or("", |(_, mends)| mends.strip_suffix('}').unwrap_or(mends))
-}
-
 #[test]
 fn unsafe_pairs_are_explained() {
     let plan = "plan 1 message w write 1001000 00000001 00000010 stop else stop else stop else stop ;
@@ -67,10 +62,21 @@ fn unsafe_pairs_are_explained() {
              \"meet\":[\"data\",\"restart\"],\
              \"after\":\"10010000l00000001l\",\"explain\":{\"slot\":18,\"rule\":\"UM10204 3.1.8\",\
              \"bus\":\"S 48 Wr A 01 A\",\"bytes\":[\"S 48 Wr A 01 A 02\",\"S 48 Wr A 0000000x A Sr\"],\
-             \"open\":[[],[[16,16]]]}},\"explain\":{\"parting\":[],\"shape\":true,\"never\":[],\
-             \"unchecked\":0}}",
+             \"open\":[[],[[16,16]]]}},\"explain\":{\"offers\":[\
+             {\"offer\":\"0.1\",\"kind\":\"known\",\"mends\":[0],\"pairs\":1,\"unchecked\":0,\"edits\":[\
+             {\"file\":\"plan\",\"line\":2,\"column\":33,\"removes\":\"0000000x\",\"puts\":\"00000000\"}]},\
+             {\"offer\":\"0.2\",\"kind\":\"pointer\",\"mends\":[0],\"pairs\":1,\"unchecked\":0,\"edits\":[\
+             {\"file\":\"plan\",\"line\":2,\"column\":19,\"removes\":\"write\",\"puts\":\"\"},\
+             {\"file\":\"plan\",\"line\":2,\"column\":25,\"removes\":\"1001000\",\"puts\":\"\"},\
+             {\"file\":\"plan\",\"line\":2,\"column\":33,\"removes\":\"0000000x\",\"puts\":\"\"},\
+             {\"file\":\"plan\",\"line\":2,\"column\":42,\"removes\":\"again\",\"puts\":\"\"},\
+             {\"file\":\"plan\",\"line\":2,\"column\":78,\"removes\":\"else\",\"puts\":\"\"},\
+             {\"file\":\"plan\",\"line\":2,\"column\":83,\"removes\":\"stop\",\"puts\":\"\"},\
+             {\"file\":\"plan\",\"line\":2,\"column\":88,\"removes\":\"else\",\"puts\":\"\"},\
+             {\"file\":\"plan\",\"line\":2,\"column\":93,\"removes\":\"stop\",\"puts\":\"\"}]}]}}",
             "{\"kind\":\"plan\",\"safe\":false,\"pairs\":1,\"unsafe_pairs\":1,\"explain\":{\"explained\":1,\
-             \"groups\":1,\"never\":[],\"unchecked\":0,\"interrupts\":[],\"unsent\":[],\"kept_apart\":0}}"
+             \"groups\":1,\"list\":[\"0.1\"],\"then\":{\"pairs\":1,\"unsafe_pairs\":0},\"interrupts\":[],\
+             \"unsent\":[],\"kept_apart\":0}}"
         ]
     );
     // The last acknowledge of one of two reads is open.
@@ -83,8 +89,9 @@ fn unsafe_pairs_are_explained() {
     );
 }
 
+// (each gets an address of its own)
 #[test]
-fn interrupts_are_mended_by_no_item() {
+fn an_interrupt_is_mended_by_another_address() {
     let plan = "plan 1 message get read 1001000 1 stop else stop ; controller a get ;
         interrupt al 1001000 ; interrupt second 1001000 ;";
     let found = check(plan);
@@ -92,8 +99,8 @@ fn interrupts_are_mended_by_no_item() {
     let bytes = ["\"S 48 Rd\",\"S 48 Rd (waits)\"", "\"S 48 Rd (waits)\",\"S 48 Rd (waits)\""];
     assert_eq!(explain_of(&found[3]), format!("{rule}\"bytes\":[{}],\"open\":[[],[]]}}", bytes[0]));
     assert_eq!(explain_of(&found[5]), format!("{rule}\"bytes\":[{}],\"open\":[[],[]]}}", bytes[1]));
-    let mends = "{\"explained\":3,\"groups\":3,\"never\":[],\"unchecked\":0,\"interrupts\":[0,1,2],\"unsent\":[],\
-                 \"kept_apart\":0}";
+    let mends = "{\"explained\":3,\"groups\":3,\"list\":[\"0.1\",\"1.1\"],\"then\":{\"pairs\":3,\"unsafe_pairs\":0},\
+                 \"interrupts\":[0,1,2],\"unsent\":[],\"kept_apart\":0}";
     assert_eq!(explain_of(&found[6]), mends);
 }
 
@@ -102,13 +109,15 @@ const SEVERAL: &str = "plan 2 message w write 1001000 00000001 stop else stop el
     message q read 0010000 1 stop else stop ; message spare read 0010000 1 stop else stop ;
     controller a w v ; controller b p q ; controller c p w ; interrupt al 0010000 ;";
 
+// A read of p mends the pairs of w and those of v, and another address that of the interrupt. Without a and b together there
+// are four pairs fewer, and the group of the interrupt has as many as that of v, and a shorter wire.
 #[test]
-fn several_pairs_of_two_controllers_want_one_item() {
-    let mends = "{\"explained\":3,\"groups\":3,\"never\":[[\"a\",\"b\"],[\"a\",\"c\"],[\"b\",\"c\"]],\"unchecked\":12,\
+fn the_list_mends_several_groups() {
+    let mends = "{\"explained\":3,\"groups\":3,\"list\":[\"0.1\",\"2.1\"],\"then\":{\"pairs\":18,\"unsafe_pairs\":0},\
                  \"interrupts\":[15],\"unsent\":[\"spare\"],\"kept_apart\":0}";
     assert_eq!(explain_of(check(SEVERAL).last().unwrap()), mends);
-    let mends = "{\"explained\":3,\"groups\":3,\"never\":[[\"a\",\"c\"],[\"b\",\"c\"]],\"unchecked\":8,\"interrupts\":[11],\
-                 \"unsent\":[\"spare\"],\"kept_apart\":4}";
+    let mends = "{\"explained\":3,\"groups\":3,\"list\":[\"0.1\",\"1.1\"],\"then\":{\"pairs\":14,\"unsafe_pairs\":0},\
+                 \"interrupts\":[11],\"unsent\":[\"spare\"],\"kept_apart\":4}";
     assert_eq!(explain_of(check(&format!("{SEVERAL} never b a ;")).last().unwrap()), mends);
 }
 
@@ -122,8 +131,13 @@ fn further_groups_are_not_explained() {
     );
     let found = check(&plan);
     assert_eq!(found.len(), 23);
-    let explained: Vec<bool> = found.iter().map(|object| object.contains("\"explain\":")).collect();
-    assert_eq!(explained, [&[false; 11][..], &[true; 10], &[false, true]].concat());
+    let explained: Vec<bool> = found.iter().map(|object| object.contains("\"explain\":{\"slot\":")).collect();
+    assert_eq!(explained, [&[false; 11][..], &[true; 10], &[false; 2]].concat());
+    // The list names the offer of the last one, which is there. (No bytes more are offered: the others would be unsafe then.)
+    let [(_, offers), (_, last)] = [&found[21], &found[22]].map(|object| object.split_once(",\"explain\":").unwrap());
+    assert!(offers.starts_with("{\"offers\":[{\"offer\":\"10.1\",\"kind\":\"read\","), "{offers}");
+    assert!(!offers.contains("10.2") && offers.ends_with("}]}]}}"), "{offers}");
+    assert!(last.contains(",\"10.1\"]"), "{last}");
     let last = "\"unsafe_pairs\":11,\"explain\":{\"explained\":10,\"groups\":11,";
     assert!(found[22].contains(last), "{}", found[22]);
 }
@@ -167,45 +181,6 @@ fn pairs_of_another_address_are_another_group() {
             "[[\"a/set2\",\"b/probe2\"]],\"frame\":0,\"part\":\"data\"",
         ]
     );
-}
-
-#[test]
-fn groups_are_mended() {
-    let mends = |plan: &str| {
-        let found = check(plan);
-        found.iter().map(|object| mends_of(object).to_owned()).filter(|mends| !mends.is_empty()).collect::<Vec<String>>()
-    };
-    // All three meet after one byte or two, before which only the first eight bits are open in both of each pair.
-    let three = "plan 1 message w1 write 1010000 xxxxxxxx stop else stop else stop ;
-        message w2 write 1010000 xxxxxxxx 0xxxxxxx stop else stop else stop else stop ;
-        message w3 write 1010000 xxxxxxxx 00000001 xxxxxxxx stop else stop else stop else stop else stop ;
-        message probe write 1010000 stop else stop ; controller a w1 w2 w3 ; controller b w1 w2 w3 probe ;";
-    assert_eq!(
-        mends(three),
-        [
-            "{\"parting\":[[9,16]],\"shape\":true,\"never\":[],\"unchecked\":0}",
-            "{\"parting\":[],\"shape\":true,\"never\":[],\"unchecked\":0}",
-        ]
-    );
-    // After a NACK of the first byte one repeats START and one ends: a bit after it mends no pair, and no shape after it.
-    let nack = "plan 1 message m write 101xxxx xxxxxxxx xxxxxxxx stop else stop
-        else again write 1010000 stop else stop else stop ;
-        message n write 1010xxx xxxxxxxx xxxxxxxx xxxxxxxx stop else stop else stop else stop else stop ;
-        controller a m ; controller b n ;";
-    // (the plan has one pair, so no item is named)
-    let never = "\"never\":[],\"unchecked\":0}";
-    assert_eq!(mends(nack), [format!("{{\"parting\":[[4,6],[9,16]],\"shape\":false,{never}")]);
-    // The fault is after a NACK: what was acknowledged parts in the data.
-    let after = "plan 1 message m write 101000x 00000001 stop else stop
-        else again write 10100xx xxxxxxxx stop else stop else stop ;
-        message n write 101000x 00000010 stop else stop
-        else again write 101000x xxxxxxxx xxxxxxxx stop else stop else stop else stop ;
-        controller a m ; controller b n ;";
-    assert_eq!(mends(after), [format!("{{\"parting\":[[6,6],[16,16],[19,26]],\"shape\":true,{never}")]);
-    // Both may end their reads after one byte or two: the acknowledge of the first is no bit that mends the pair.
-    let reads = "plan 2 message m read 100100x 1..2 stop else stop ;
-        message n read 100100x 1..3 again write 1001000 stop else stop else stop ; controller a m ; controller b n ;";
-    assert_eq!(mends(reads), [format!("{{\"parting\":[[6,6]],\"shape\":true,{never}")]);
 }
 
 #[test]

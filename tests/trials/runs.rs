@@ -1,10 +1,12 @@
 //! A run of a case: what is done, over which devices, and what is due.
 
 use crate::cases::Case;
+use crate::commands::Command;
 use crate::deeds::Deed;
 use crate::desks::{refusal_of, Said};
 use crate::disagreements::Disagreement;
 use crate::json::{self, Value};
+use crate::mended::compared;
 use crate::object_lines;
 use crate::objects;
 use crate::plain::Answer;
@@ -116,15 +118,28 @@ fn hinted(case: &Case) -> Answer {
 // of another one by the lines that they stand for, as is what stands on standard error. A text that is no report stays as it is.
 fn by_objects(case: &Case, wanted: Answer, found: &Answer, explain: bool) -> (Answer, Answer) {
     let refusal = refusal_in_lines(&found.refusal);
-    let (due, out) = match objects::due_of(&case.asked, explain) {
-        // (the plain programs know no workers)
-        Some(_) if !case.wanted.refusal.is_empty() => (String::new(), found.out.clone()),
-        Some(due) => (shown(&due), shown_again(&found.out)),
-        None if case.asked.command.reports() => (wanted.out.clone(), in_lines(&found.out)),
-        None => (wanted.out.clone(), found.out.clone()),
+    let is_explained = explain && matches!(case.asked.command, Command::Check { .. }) && case.wanted.refusal.is_empty();
+    let (due, out) = if is_explained {
+        explained(case, &found.out)
+    } else {
+        match objects::due_of(&case.asked, explain) {
+            // (the plain programs know no workers)
+            Some(_) if !case.wanted.refusal.is_empty() => (String::new(), found.out.clone()),
+            Some(due) => (shown(&due), shown_again(&found.out)),
+            None if case.asked.command.reports() => (wanted.out.clone(), in_lines(&found.out)),
+            None => (wanted.out.clone(), found.out.clone()),
+        }
     };
     let placed = with_place(case, wanted.refusal);
     (Answer { out: due, refusal: placed, ..wanted }, Answer { status: found.status, out, refusal })
+}
+
+// What is due of a check that says what mends a plan, and what was found.
+fn explained(case: &Case, found: &str) -> (String, String) {
+    match compared(&case.asked, found) {
+        Ok((due, found)) => (shown(&due), shown(&found)),
+        Err(why) => (String::new(), format!("no objects: {why}: {found}")),
+    }
 }
 
 // A refusal as its object tells it: of a token of a dump also how many bytes stand before it, and in its line.

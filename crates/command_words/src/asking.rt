@@ -2,7 +2,9 @@
 
 use crate::building::program;
 use crate::capturing::{Options, drive_of};
-use crate::requests::{Capture, Format, Layout, Lesson, Look, Play, Request, Rewriting};
+use crate::requests::{
+    Capture, Format, Layout, Lesson, Look, Mend, OfferNumber, Play, Request, Rewriting, Taking,
+};
 use crate::table::COMMANDS;
 use clap::error::ErrorKind;
 use clap::{ArgMatches, Error};
@@ -18,6 +20,8 @@ pub enum Asked<'a> {
         further: Vec<&'a str>,
         /// The lines of controllers in a dump.
         drives: Vec<Drive<'a>>,
+        /// The numbers of the offers that are taken.
+        taken: Vec<OfferNumber>,
         manner: Manner,
     },
     /// The server of an editor, and the further files of its briefs.
@@ -70,6 +74,15 @@ const NO_FILE: Fault = "'--wave' wants a file, since the report goes to standard
 const NOT_IN_PLACE: Fault = "'--in-place' wants a file, and standard input is none";
 
 const NOT_BOTH: Fault = "the argument '--in-place' cannot be used with '--check'";
+
+const NOT_TAKEN_TWICE: Fault = "the argument '--take <LIST>' cannot be used with '--all'";
+
+const NOT_OFFERS: Fault = "the value for '--take <LIST>' is not of numbers of offers, as 0.2,3.1";
+
+const NOTHING_TAKEN: Fault =
+    "'--in-place' and '--output' write what '--take' or '--all' takes: give one of these";
+
+const NOT_TWO_OUTPUTS: Fault = "the argument '--in-place' cannot be used with '--output <FILE>'";
 
 const NOT_SEVERAL: Fault = "several files go with '--check' alone";
 
@@ -144,6 +157,7 @@ fn found_in<'a>(alloc: Global, matches: &ArgMatches<'a>) -> Result<Asked<'a>, Er
             request,
             further: further_of(alloc, matches)?,
             drives: drives_of(alloc, matches)?,
+            taken: taken_of(alloc, matches)?,
             manner,
         }),
         Err(fault) => Err(error_of(alloc, fault)?),
@@ -233,6 +247,7 @@ fn when_of(word: Option<&str>) -> When {
 fn request_of<'a>(name: &str, matches: &ArgMatches<'a>) -> Result<Request<'a>, Fault> {
     match name {
         "check" => check_of(matches),
+        "mend" => mend_of(matches),
         "verify" => Ok(Request::Verify {
             plan: word(matches, "PLAN"),
             cert: word(matches, "CERT"),
@@ -285,6 +300,7 @@ fn check_of<'a>(matches: &ArgMatches<'a>) -> Result<Request<'a>, Fault> {
         explain: most_of(matches),
         summary: matches.get_flag("summary"),
         strict: matches.get_flag("strict"),
+        apart: matches.get_one::<u32>("apart"),
         wave: wave_of(matches)?,
         pair: matches.get_one::<u32>("pair"),
     };
@@ -292,6 +308,78 @@ fn check_of<'a>(matches: &ArgMatches<'a>) -> Result<Request<'a>, Fault> {
         plan: word(matches, "PLAN"),
         look,
     })
+}
+
+fn mend_of<'a>(matches: &ArgMatches<'a>) -> Result<Request<'a>, Fault> {
+    let mend = Mend {
+        workers: matches.get_one::<u32>("workers").unwrap_or(1),
+        taking: taking_of(matches)?,
+        in_place: matches.get_flag("in-place"),
+    };
+    let is_written = mend.in_place || matches.get_str("output").is_some();
+    match (mend.taking, mend.in_place) {
+        (Taking::Nothing, _) if is_written => Err(NOTHING_TAKEN),
+        (_, true) if matches.get_str("output").is_some() => Err(NOT_TWO_OUTPUTS),
+        (_, true) if reads_input(matches) => Err(NOT_IN_PLACE),
+        _ => Ok(Request::Mend {
+            plan: word(matches, "PLAN"),
+            mend,
+            output: output_of(matches),
+        }),
+    }
+}
+
+// Whether standard input is among the texts of the plan.
+fn reads_input(matches: &ArgMatches<'_>) -> bool {
+    inputs_in(matches, "PLAN") != 0 || inputs_in(matches, "with") != 0
+}
+
+// Which offers are taken. Their numbers are put there later.
+fn taking_of<'a>(matches: &ArgMatches<'a>) -> Result<Taking<'a>, Fault> {
+    match (matches.get_str("take"), matches.get_flag("all")) {
+        (Some(_), true) => Err(NOT_TAKEN_TWICE),
+        (Some(list), false) if list.split(',').all(is_offer) => Ok(Taking::These(&[])),
+        (Some(_), false) => Err(NOT_OFFERS),
+        (None, true) => Ok(Taking::All),
+        (None, false) => Ok(Taking::Nothing),
+    }
+}
+
+// The numbers of offers, which were found to be right.
+fn taken_of(alloc: Global, matches: &ArgMatches<'_>) -> Result<Vec<OfferNumber>, AllocError> {
+    let mut taken = Vec::new(alloc);
+    if let Some((_, matches)) = matches.subcommand()
+        && let Some(list) = matches.get_str("take")
+    {
+        for word in list.split(',') {
+            if let Some(number) = offer_of(word) {
+                taken.push(number)?;
+            }
+        }
+    }
+    Ok(taken)
+}
+
+fn is_offer(word: &str) -> bool {
+    offer_of(word).is_some()
+}
+
+// The number of an offer: two numbers with a point between them.
+fn offer_of(word: &str) -> Option<OfferNumber> {
+    let (group, number) = word.split_once(".")?;
+    Some(OfferNumber {
+        group: digits_of(group)?,
+        number: digits_of(number)?,
+    })
+}
+
+// A number of digits alone.
+fn digits_of(word: &str) -> Option<u32> {
+    if word.bytes().all(|byte| byte.is_ascii_digit()) {
+        word.parse::<u32>().ok()
+    } else {
+        None
+    }
 }
 
 // How many groups of unsafe pairs are to be explained.

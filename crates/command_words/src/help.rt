@@ -68,7 +68,35 @@ shown):
 SCL, SDA and what each of the two pulls, for GTKWave or PulseView.
 
 Exit status: 0 safe, 1 not safe, 2 refused. With '--strict' it is 1 also where
-some message is in no controller, and where there is no pair.";
+some message is in no controller, and where there is no pair; with '--apart N'
+beside it also where 'never' leaves out more than N pairs.";
+
+pub const AFTER_MEND_HELP: &str = "\
+Each group of unsafe pairs has a line, and its offers below: edits of the files
+that mend it, each of which was tried. The last lines have the list of offers
+that mends most, and what 'twire check' then says:
+
+  unsafe: 2 of 30 pairs
+      to mend all pairs: 0.1, 1.2; then check says 'safe: 30 pairs'
+
+'--take 0.1,1.2' takes these offers, and '--all' those of the list. What the
+edited files give is checked again. Comments and layout stay.
+
+  twire mend board.brief                       lists the offers
+  twire mend board.brief --all --in-place      writes the files
+  twire mend bus.plan --take 0.1 -o new.plan   writes one that changes
+
+Without '--in-place' the text of the file that changes is written to standard
+output, or by '-o'. What cannot be taken is refused on standard error:
+
+  offer 0.7         there is no such offer
+  overlap 0.1,0.2   these two change the same words
+  edited P3 line 2  the edited texts give no plan, with the refusal of the text
+  files             several files change: '--in-place' writes them
+
+'--in-place' writes the files that change, each whole or not at all.
+
+Exit status: 0 safe, 1 not safe, with the edits that were taken; 2 refused.";
 
 pub const AFTER_CERTIFY_HELP: &str = "\
 The certificate of a safe plan has a line for each pair of participants, in the

@@ -13,4 +13,6 @@ mod requests;
 mod table;
 
 pub use asking::{Asked, Manner, When, read_words};
-pub use requests::{Capture, Format, Layout, Lesson, Look, Play, Request, Rewriting};
+pub use requests::{
+    Capture, Format, Layout, Lesson, Look, Mend, OfferNumber, Play, Request, Rewriting, Taking,
+};

@@ -11,6 +11,12 @@ pub enum Request<'a> {
         plan: &'a str,
         look: Look<'a>,
     },
+    /// What mends an unsafe plan, or its texts with edits of them.
+    Mend {
+        plan: &'a str,
+        mend: Mend<'a>,
+        output: Option<&'a str>,
+    },
     /// Whether a certificate is right for a plan.
     Verify {
         plan: &'a str,
@@ -69,16 +75,44 @@ pub enum Request<'a> {
 }
 
 /// How a plan is looked at: by so many workers, with so many groups of its unsafe pairs explained, in a summary these alone;
-/// strictly, so that a safe plan of which not all was looked at is not good; and with the waves of an unsafe pair in a file: of
-/// the first one, or of the one with this number.
+/// strictly, so that a safe plan of which not all was looked at is not good, nor one whose `never` items leave out more pairs than
+/// this; and with the waves of an unsafe pair in a file: of the first one, or of the one with this number.
 #[derive(Clone, Copy)]
 pub struct Look<'a> {
     pub workers: u32,
     pub explain: Option<u32>,
     pub summary: bool,
     pub strict: bool,
+    pub apart: Option<u32>,
     pub wave: Option<&'a str>,
     pub pair: Option<u32>,
+}
+
+/// How a plan is mended: checked by so many workers, and with which offers. Where they are written in place, all files that change get
+/// their texts.
+#[derive(Clone, Copy)]
+pub struct Mend<'a> {
+    pub workers: u32,
+    pub taking: Taking<'a>,
+    pub in_place: bool,
+}
+
+/// Which offers are taken.
+#[derive(Clone, Copy)]
+pub enum Taking<'a> {
+    /// None: all are listed.
+    Nothing,
+    /// Those that mend most together.
+    All,
+    /// Those with these numbers.
+    These(&'a [OfferNumber]),
+}
+
+/// The number of an offer, as `0.2`: that of its group, and its own there.
+#[derive(Clone, Copy, PartialEq, Eq)]
+pub struct OfferNumber {
+    pub group: u32,
+    pub number: u32,
 }
 
 /// A capture that is asked for.
@@ -181,6 +215,30 @@ impl<'a> Request<'a> {
                     output,
                 }
             }
+            _ => self,
+        }
+    }
+
+    /// The same with the offers of these numbers, where such are taken.
+    pub fn with_taken(self, numbers: &'a [OfferNumber]) -> Request<'a> {
+        match self {
+            Request::Mend {
+                plan,
+                mend: Mend {
+                    taking: Taking::These(_),
+                    workers,
+                    in_place,
+                },
+                output,
+            } => Request::Mend {
+                plan,
+                mend: Mend {
+                    workers,
+                    taking: Taking::These(numbers),
+                    in_place,
+                },
+                output,
+            },
             _ => self,
         }
     }

@@ -3,7 +3,8 @@
 use crate::help::{
     AFTER_BENCH_HELP, AFTER_BRIEF_HELP, AFTER_CAPTURE_HELP, AFTER_CERTIFY_HELP, AFTER_CHECK_HELP,
     AFTER_DECODE_HELP, AFTER_EXPAND_HELP, AFTER_FORMAT_HELP, AFTER_LEARN_HELP, AFTER_LSP_HELP,
-    AFTER_ORDER_HELP, AFTER_PAGE_HELP, AFTER_PRINT_HELP, AFTER_SIGNALS_HELP, AFTER_VERIFY_HELP,
+    AFTER_MEND_HELP, AFTER_ORDER_HELP, AFTER_PAGE_HELP, AFTER_PRINT_HELP, AFTER_SIGNALS_HELP,
+    AFTER_VERIFY_HELP,
 };
 
 /// A command of the program.
@@ -156,9 +157,9 @@ pub const FORMAT: Argument = Argument::Choice {
 };
 
 /// The commands, in the order of the help.
-pub const COMMANDS: [Entry; 15] = [
-    CHECK, CERTIFY, VERIFY, ORDER, CAPTURE, DECODE, SIGNALS, LEARN, BENCH, PAGE, EXPAND, PRINT,
-    BRIEF, LAYOUT, LSP,
+pub const COMMANDS: [Entry; 16] = [
+    CHECK, MEND, CERTIFY, VERIFY, ORDER, CAPTURE, DECODE, SIGNALS, LEARN, BENCH, PAGE, EXPAND,
+    PRINT, BRIEF, LAYOUT, LSP,
 ];
 
 const CHECK: Entry = Entry {
@@ -167,8 +168,16 @@ const CHECK: Entry = Entry {
     usage: None,
     after_help: AFTER_CHECK_HELP,
     arguments: &[
-        PLAN, WITH, WORKERS, STRICT, EXPLAIN, GROUPS, MOST, WAVE, PAIR,
+        PLAN, WITH, WORKERS, STRICT, APART, EXPLAIN, GROUPS, MOST, WAVE, PAIR,
     ],
+};
+
+const MEND: Entry = Entry {
+    name: "mend",
+    about: "List edits that mend an unsafe plan, or write its files with them",
+    usage: None,
+    after_help: AFTER_MEND_HELP,
+    arguments: &[PLAN, WITH, TAKE, ALL, MENDED, OUTPUT, WORKERS],
 };
 
 const CERTIFY: Entry = Entry {
@@ -321,6 +330,23 @@ const IN_PLACE: Argument = Argument::Flag {
     help: "Write FILE itself, atomically, where it changes",
 };
 
+const TAKE: Argument = Argument::Option {
+    id: "take",
+    value_name: "LIST",
+    help: "Write the text with these offers, as 0.2,3.1",
+};
+
+const ALL: Argument = Argument::Flag {
+    id: "all",
+    help: "Write it with those that mend most together",
+};
+
+// Where several files may change.
+const MENDED: Argument = Argument::Flag {
+    id: "in-place",
+    help: "Write the files themselves, where they change",
+};
+
 const LAID_OUT: Argument = Argument::Flag {
     id: "check",
     help: "Say where files would change, with status 1",
@@ -380,6 +406,13 @@ const WORKERS: Argument = Argument::Number {
 const STRICT: Argument = Argument::Flag {
     id: "strict",
     help: "Status 1 also where not all was looked at",
+};
+
+const APART: Argument = Argument::CountWith {
+    id: "apart",
+    other: "strict",
+    value_name: "N",
+    help: "With --strict: 'never' leaves out N pairs at most",
 };
 
 const EXPLAIN: Argument = Argument::Flag {

@@ -6,7 +6,7 @@ ghost use Rattle.verdicts.specs.Faults.{AreFaults, fault_list};
 use crate::items::Items;
 use crate::lints::push_odd;
 use crate::meetings::push_unsafe;
-use crate::unchecked::push_unchecked;
+use crate::unchecked::{push_left_out, push_unchecked};
 use crate::values::Diagnostic;
 use lint::Oddity;
 use origins::Spans;
@@ -15,8 +15,17 @@ use remedies::{Grouped, grouped_of};
 use std::alloc::{AllocError, Global};
 use verdicts::Checked;
 
+/// What a check asks for beside safety.
+#[derive(Clone, Copy)]
+pub struct Wanted {
+    /// Whether all is to be looked at.
+    pub is_strict: bool,
+    /// How many pairs `never` items may leave out: as many as they like, where no number stands here.
+    pub apart: Option<u32>,
+}
+
 /// What is wrong with the plan that was checked, which these texts give, with these names in them: its unsafe pairs, those that are alike together, in the
-/// order of their groups; what is likely a mistake; and for a strict check, what was not looked at.
+/// order of their groups; what is likely a mistake; and what a check asks for beside that is not so.
 ///
 /// # Errors
 ///
@@ -26,15 +35,15 @@ pub fn diagnose_check(
     words: PlanWords<'_>,
     checked: &Checked,
     odd: &[Oddity<'_>],
-    strict: bool,
+    wanted: Wanted,
     texts: &[Vec<u8>],
     spans: &Spans,
 ) -> Result<Vec<Diagnostic>, AllocError>
     requires { AreFaults (plan_contents checked.now.plan) (fault_list checked.now.faults) }
 {
-    let groups = grouped_of(alloc, &checked.plan, words, &checked.faults, None)?;
+    let groups = grouped_of(alloc, &checked.plan, words, &checked.faults)?;
     let items = Items::of(alloc, texts, spans)?;
-    diagnose_groups(alloc, words, checked, &groups, odd, strict, &items, texts)
+    diagnose_groups(alloc, words, checked, &groups, odd, wanted, &items, texts)
 }
 
 fn diagnose_groups(
@@ -43,15 +52,24 @@ fn diagnose_groups(
     checked: &Checked,
     groups: &Grouped,
     odd: &[Oddity<'_>],
-    strict: bool,
+    wanted: Wanted,
     items: &Items<'_>,
     texts: &[Vec<u8>],
 ) -> Result<Vec<Diagnostic>, AllocError> {
     let mut found = Vec::new(alloc);
     push_unsafe(alloc, &mut found, words, checked, groups, items)?;
-    push_odd(alloc, &mut found, words, odd, strict, items, texts)?;
-    if strict {
+    push_odd(
+        alloc,
+        &mut found,
+        words,
+        odd,
+        wanted.is_strict,
+        items,
+        texts,
+    )?;
+    if wanted.is_strict {
         push_unchecked(alloc, &mut found, words, items)?;
     }
+    push_left_out(alloc, &mut found, words, wanted.apart)?;
     Ok(found)
 }

@@ -13,7 +13,7 @@ mod refusals;
 mod unchecked;
 mod values;
 
-pub use checks::diagnose_check;
+pub use checks::{Wanted, diagnose_check};
 pub use gcc::Messages;
 pub use refusals::diagnose_refusal;
 pub use values::{Diagnostic, Related, Severity, Span, reason_of};

@@ -5,6 +5,7 @@ use crate::values::{BEGINNING, Diagnostic, Severity, Span};
 use origins::Kind;
 use plan_findings::unsent_in;
 use plan_words::PlanWords;
+use remedies::kept_apart;
 use std::alloc::{AllocError, Global};
 
 /// Adds that there are no pairs, and in a plan text each message that no controller lists. (Those of briefs are among the likely
@@ -33,6 +34,26 @@ pub(crate) fn push_unchecked(
         push_error(alloc, found, "unsent message", span, said)?;
     }
     Ok(())
+}
+
+/// Adds that `never` items leave out more pairs than they may.
+pub(crate) fn push_left_out(
+    alloc: Global,
+    found: &mut Vec<Diagnostic>,
+    words: PlanWords<'_>,
+    most: Option<u32>,
+) -> Result<(), AllocError> {
+    let apart = kept_apart(words);
+    match most {
+        Some(most) if u64::from(most) < apart => {
+            let pairs = apart.saturating_add(u64::from(words.plan().pair_count()));
+            let said = format!(in alloc;
+                "'never' leaves {apart} of {pairs} pairs unchecked, where {most} are allowed"
+            )?;
+            push_error(alloc, found, "left out", BEGINNING, said)
+        }
+        _ => Ok(()),
+    }
 }
 
 fn push_error(

@@ -73,6 +73,7 @@ fn ended(status: Status, recorded: Recorded, rises: Rises, alike: Option<usize>)
         status,
         findings: Findings::Recording(recorded, rises, alike),
         wave: None,
+        mended: None,
     }
 }
 
@@ -134,6 +135,7 @@ fn capture_exactly<R: AllocGlobal + Threads + Sync, I: Input, J: Input, O: Outpu
                 status: captured.status,
                 findings: Findings::Recording(seen, captured.rises, None),
                 wave: None,
+                mended: None,
             })
         }
         Err(halted) => Err(halt_at(plans, halted, wrong)),
@@ -271,6 +273,7 @@ fn capture_in_form<R: AllocGlobal + Threads + Sync, I: Input, J: Input, O: Outpu
                 status: told.status,
                 findings: Findings::Recording(seen, told.rises, alike),
                 wave: None,
+                mended: None,
             })
         }
         Err(error) => Err(halted(dump, error)),
@@ -379,6 +382,7 @@ fn decode_exactly<J: Input, O: Output>(
                 status: Status::Good,
                 findings: Findings::Recording(seen, counts.rises, None),
                 wave: None,
+                mended: None,
             })
         }
         Err(error) => Err(halted_by(error, wrong)),
@@ -433,6 +437,7 @@ fn decode_in_form<J: Input, O: Output>(
         status: status_of_seen(bus.view.at_least, selection.seen, 0),
         findings: Findings::Recording(recorded, rises, None),
         wave,
+        mended: None,
     })
 }
 

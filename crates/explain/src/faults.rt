@@ -4,7 +4,8 @@ use bus_rows::{
     ALIKE, Meeting, Rule, Side, bus_row, deed, row_of, say, say_all, tell_places, tell_rows,
 };
 use growing_text::{Lines, Part, Sentence};
-use plan_findings::{Offer, tell_ranges};
+use offers::Advice;
+use plan_findings::tell_ranges;
 use plan_words::PlanWords;
 use std::alloc::{AllocError, Global};
 
@@ -69,27 +70,31 @@ fn tell_open(alloc: Global, lines: &mut Lines, label: &str, side: &Side) {
     say_all(lines, &said);
 }
 
-/// The lines of these offers.
+/// The lines of what is offered, and of the command that makes these edits.
 ///
 /// # Errors
 ///
 /// Where an allocation fails.
-pub(crate) fn below_unsafe(alloc: Global, offers: &[Offer]) -> Result<String, AllocError> {
+pub(crate) fn below_unsafe(
+    alloc: Global,
+    advice: &[Advice],
+    command: Option<String>,
+) -> Result<String, AllocError> {
     let mut lines = Lines::new(alloc);
-    for offer in offers {
-        tell_offer(&mut lines, offer);
+    for one in advice {
+        tell_advice(&mut lines, one);
+    }
+    if let Some(command) = &command {
+        let command = [Part::Name(command.as_str())];
+        say(&mut lines, "to make these edits: {}", &command);
     }
     lines.finish()
 }
 
-/// What is offered: the items stand each on a line of its own, to be copied.
-pub(crate) fn tell_offer(lines: &mut Lines, offer: &Offer) {
-    say_all(lines, &offer.said);
-    for item in &offer.items {
-        say(lines, "{}", &[Part::Name(item.as_str())]);
-    }
-    // (one for which there was no memory is said too: it cuts the lines)
-    if !offer.after.is_empty() {
-        say_all(lines, &offer.after);
+/// What is offered: the lines as they would stand are told each on a line of its own, to be copied.
+pub(crate) fn tell_advice(lines: &mut Lines, advice: &Advice) {
+    say_all(lines, &advice.said);
+    for line in &advice.lines {
+        say(lines, "{}", &[Part::Name(line.as_str())]);
     }
 }

@@ -1,11 +1,12 @@
 // Lines of a group of unsafe pairs, and of one pair by itself.
 
-use crate::faults::{tell_offer, tell_pair};
+use crate::faults::{tell_advice, tell_pair};
 use bus_rows::{Meeting, meeting_of, say, say_all};
 use causes::Group;
 use certificate::Fault;
 use growing_text::{Lines, Part, Sentence};
-use plan_findings::{offer_for_group, why_unsafe};
+use offers::{Offers, Shown, advice_for_group};
+use plan_findings::why_unsafe;
 use plan_words::PlanWords;
 use remedies::Grouped;
 use std::alloc::{AllocError, Global};
@@ -53,16 +54,20 @@ pub(crate) fn tell_two(
 // How many of those who meet are named.
 const NAMED: usize = 4;
 
+// What is shown of a group that is explained.
+const EXPLAINED: Shown = Shown::Explained(usize::MAX);
+
 /// What is said of a group: its number and that of its example, what is said of that one, how many pairs are like it, and
 /// between whom, and what mends them.
 pub(crate) fn of_group(
     alloc: Global,
     words: PlanWords<'_>,
-    groups: &Grouped,
+    unsafe_groups: (&Grouped, &Offers),
     g: usize,
     example: (u32, (u32, u32)),
     meeting: &Meeting,
 ) -> Result<String, AllocError> {
+    let (groups, offers) = unsafe_groups;
     let (pair, both) = example;
     let mut lines = Lines::new(alloc);
     if let Some(group) = groups.group(g) {
@@ -70,8 +75,8 @@ pub(crate) fn of_group(
         tell_pair(alloc, &mut lines, words, both, meeting)?;
         tell_alike(alloc, &mut lines, groups, g, group);
     }
-    if let Some(offer) = offer_for_group(alloc, words, groups, g)? {
-        tell_offer(&mut lines, &offer);
+    for advice in &advice_for_group(alloc, words, offers, g, EXPLAINED)? {
+        tell_advice(&mut lines, advice);
     }
     lines.finish()
 }
@@ -94,14 +99,18 @@ fn tell_title(lines: &mut Lines, g: usize, group: Group, pair: u32) {
 // Who meets in the group, how many pairs it has, and why they are unsafe.
 fn tell_alike(alloc: Global, lines: &mut Lines, groups: &Grouped, g: usize, group: Group) {
     let mut said = Sentence::new(alloc);
-    tell_meets(&mut said, groups, g);
+    tell_like(&mut said, groups, g, group);
+    say_all(lines, &said);
+}
+
+fn tell_like(said: &mut Sentence, groups: &Grouped, g: usize, group: Group) {
+    tell_meets(said, groups, g);
     let parts = [
         Part::Number(group.pairs as u64),
         Part::Words(if group.pairs == 1 { "pair" } else { "pairs" }),
         Part::Words(why_unsafe(group.cause.first.kind, group.cause.second.kind)),
     ];
     said.tell(": {} {}, {}", &parts);
-    say_all(lines, &said);
 }
 
 fn tell_meets(said: &mut Sentence, groups: &Grouped, g: usize) {
@@ -115,6 +124,26 @@ fn tell_meets(said: &mut Sentence, groups: &Grouped, g: usize) {
         let more = all.saturating_sub(NAMED) as u64;
         said.tell(" and {} more", &[Part::Number(more)]);
     }
+}
+
+/// All that is offered to mend a group, below its number and who meets in it.
+pub(crate) fn offers_for(
+    alloc: Global,
+    words: PlanWords<'_>,
+    unsafe_groups: (&Grouped, &Offers),
+    g: usize,
+) -> Result<String, AllocError> {
+    let (groups, offers) = unsafe_groups;
+    let mut lines = Lines::new(alloc);
+    if let Some(group) = groups.group(g) {
+        let mut said = Sentence::of(alloc, "group {}: ", &[Part::Number(g as u64)]);
+        tell_like(&mut said, groups, g, group);
+        say_all(&mut lines, &said);
+    }
+    for advice in &advice_for_group(alloc, words, offers, g, Shown::All)? {
+        tell_advice(&mut lines, advice);
+    }
+    lines.finish()
 }
 
 /// What stands above the groups that are not explained, where there are so many groups in all.

@@ -7,7 +7,7 @@ mod checks;
 mod rehearsals;
 
 pub use answers::explain_answer;
-pub use checks::explain_check;
+pub use checks::{explain_check, explain_offers};
 use growing_text::Text;
 pub use rehearsals::explain_rehearsal;
 use run_parts::{Output, RunError, write_report};

@@ -279,13 +279,20 @@ fn begin_in_place<R: Files + AllocGlobal>(
     path: &str,
     read: FilesRead<'_>,
 ) -> io::Result<Target<R::File>> {
+    // (who opens a pipe for writing waits for one who reads it)
+    refuse_no_file(&fs::metadata(rt, path)?)?;
     let metadata = OpenOptions::new().write(true).open(rt, path)?.metadata()?;
-    let (is_file, kept) = (metadata.is_file(), Kept::of(&metadata));
-    if !is_file {
-        return Err(io::Error::new(ErrorKind::InvalidInput, "it is no file"));
-    }
+    refuse_no_file(&metadata)?;
+    let kept = Kept::of(&metadata);
     refuse_other(read, identity_of(Ok(metadata)))?;
     begin_beside(rt, path, Some(kept))
+}
+
+fn refuse_no_file(metadata: &Metadata) -> io::Result<()> {
+    if metadata.is_file() {
+        return Ok(());
+    }
+    Err(io::Error::new(ErrorKind::InvalidInput, "it is no file"))
 }
 
 fn begin_over<R: Files + AllocGlobal>(

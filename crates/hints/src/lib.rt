@@ -6,7 +6,8 @@
 //! the same of numbers, `choices` of choices, `names` where a name stands already or which are nearest, and
 //! `wording` what the other refusals mean. `certs` shows the place in a certificate, and `starters` looks for labels
 //! in the plan. `safety` says what a safe plan leaves out, `summaries` how many unsafe pairs are seen in groups,
-//! `odd` what is likely a mistake in briefs, `plans` why a plan has no brief, and `devices` which file failed. What
+//! `odd` what is likely a mistake in briefs, `plans` why a plan has no brief, `untaken` why offers are not taken, and
+//! `devices` which file failed. What
 //! is said of dumps is a crate of its own, `dump_hints`, which puts its hints together by the parts below.
 //!
 //! `values` has the hints, and writes them as lines: it puts the word `hint:` before each, and breaks sentences for 80
@@ -32,6 +33,7 @@ mod safety;
 mod starters;
 mod summaries;
 mod texts;
+mod untaken;
 mod values;
 mod wording;
 mod words;
@@ -55,4 +57,5 @@ pub use texts::{
     Cause, Earlier, RefusedIn, SemicolonAt, cause_of, missing_semicolon_at, on_further_text,
     on_text,
 };
+pub use untaken::{OfferAt, Then, Untaken, on_mended, on_untaken};
 pub use values::{Hint, Hints};

@@ -5,7 +5,7 @@ ghost use Rattle.plan_core.specs.PlanContents.{plan_contents};
 ghost use Rattle.verdicts.specs.Faults.{AreFaults, fault_list};
 
 use crate::plans::{Given, Part};
-use diagnostics::{Diagnostic, diagnose_check};
+use diagnostics::{Diagnostic, Wanted, diagnose_check};
 use given_plans::{GivenPlan, Provenance};
 use hints::Named;
 use lint::{Oddity, oddities};
@@ -176,6 +176,12 @@ pub(crate) fn checked<R: Threads + Sync>(
     }
 }
 
+// An editor asks for nothing else.
+const SAFETY: Wanted = Wanted {
+    is_strict: false,
+    apart: None,
+};
+
 fn wrong_in_checked(
     alloc: Global,
     checked: &Checked,
@@ -187,7 +193,7 @@ fn wrong_in_checked(
 {
     let Provenance { texts, spans, .. } = provenance;
     Ok(Found {
-        all: diagnose_check(alloc, words, checked, odd, false, texts.as_slice(), spans)?,
+        all: diagnose_check(alloc, words, checked, odd, SAFETY, texts.as_slice(), spans)?,
         is_plan: true,
     })
 }

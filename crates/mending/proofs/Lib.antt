@@ -1,2 +1,5 @@
+pub mod EditLemmas
 pub mod FaultPlaces
-pub mod MendingLemmas
+pub mod NumberLemmas
+pub mod Places
+pub mod TableLemmas

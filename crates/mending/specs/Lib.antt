@@ -1,2 +1,2 @@
-pub mod Added
-pub mod Mended
+pub mod Left
+pub mod Numbers

@@ -1,6 +1,6 @@
-//! What would mend an unsafe plan: the `never` items that keep apart all controllers that clash.
+//! What an edit of a plan does to its unsafe pairs.
 #![tactic(auto)]
 
-mod nevers;
+mod left;
 
-pub use nevers::nevers_that_mend;
+pub use left::left_by;

@@ -2,22 +2,24 @@
 
 use crate::fields::add_words;
 use crate::oddities::add_oddities;
+use crate::offered::{add_list, add_offers};
 use bus_rows::{Labels, Meeting, Rule, labels_of, meeting_of};
 use causes::{Group, Place};
 use certificate::Fault;
 use growing_text::Text;
 use lint::Oddity;
 use object_lines::{ObjectLines, all_at};
+use offers::{Offers, Reasons, Shown};
 use plan_core::Plan;
 use plan_findings::{Detail, unsent_in};
 use plan_words::PlanWords;
-use remedies::{GroupMends, Grouped, Mends, Never, Reasons, Safety};
+use remedies::{Grouped, Safety, both_of, controller_of, kept_apart};
 use run_parts::{Output, RunError};
-use std::alloc::Global;
+use std::alloc::{AllocError, Global};
 use verdicts::Checked;
 
 /// Writes an object for each unsafe pair of a plan that was checked, one for each group of them, one for each likely mistake in the
-/// briefs that mean it, and one for the plan. The words are those of the plan. There are groups where there are reasons. Then the
+/// briefs that mean it, and one for the plan. The words are those of the plan, and the texts give it. There are groups where there are reasons. Then the
 /// last object has these, and the first so many groups are explained.
 ///
 /// # Errors
@@ -28,38 +30,74 @@ pub fn write_check<O: Output>(
     checked: &Checked,
     words: PlanWords<'_>,
     odd: &[Oddity<'_>],
+    texts: &[Vec<u8>],
     reasons: Option<&Reasons>,
     detail: Detail,
     out: &mut O,
 ) -> Result<(), RunError> {
-    let places = all_at(alloc, words)?;
-    let told = Told {
-        checked,
-        labels: labels_of(alloc, &checked.plan)?,
-        places,
-        groups: match reasons {
-            Some(Reasons::Unsafe(_, groups)) => Some(groups),
-            _ => None,
-        },
-    };
+    let told = told_of(alloc, checked, words, texts, reasons)?;
     let mut lines = ObjectLines::new(alloc);
     if detail.pairs {
         told.write_pairs(&mut lines, out)?;
     }
-    told.write_groups(&mut lines, detail.groups as usize, out)?;
+    told.write_groups(&mut lines, Shown::Explained(detail.groups as usize), out)?;
     add_oddities(&mut lines, words, odd);
-    add_plan(&mut lines, checked, reasons, detail.groups as usize);
+    add_plan(&mut lines, checked, words, reasons, detail.groups as usize);
     lines.write_rest(out)
+}
+
+/// Writes an object for each group of the unsafe pairs of a plan that was checked, with all its offers, and one for the plan. The words are
+/// those of the plan, and the texts give it. Of a safe plan there are no reasons.
+///
+/// # Errors
+///
+/// `Write` where the writer failed or took no bytes, and `NoMemory`. A part of the objects may have been written.
+pub fn write_offers<O: Output>(
+    alloc: Global,
+    checked: &Checked,
+    words: PlanWords<'_>,
+    texts: &[Vec<u8>],
+    reasons: Option<&Reasons>,
+    out: &mut O,
+) -> Result<(), RunError> {
+    let told = told_of(alloc, checked, words, texts, reasons)?;
+    let mut lines = ObjectLines::new(alloc);
+    told.write_groups(&mut lines, Shown::All, out)?;
+    add_plan(&mut lines, checked, words, reasons, usize::MAX);
+    lines.write_rest(out)
+}
+
+fn told_of<'a>(
+    alloc: Global,
+    checked: &'a Checked,
+    words: PlanWords<'a>,
+    texts: &'a [Vec<u8>],
+    reasons: Option<&'a Reasons>,
+) -> Result<Told<'a>, AllocError> {
+    let places = all_at(alloc, words)?;
+    Ok(Told {
+        checked,
+        words,
+        texts,
+        labels: labels_of(alloc, &checked.plan)?,
+        places,
+        groups: match reasons {
+            Some(Reasons::Unsafe(groups, offers)) => Some((groups, offers)),
+            _ => None,
+        },
+    })
 }
 
 // What pairs and groups are told of.
 #[derive(Drop)]
 struct Told<'a> {
     checked: &'a Checked,
+    words: PlanWords<'a>,
+    texts: &'a [Vec<u8>],
     labels: Labels,
     // where the message of each participant stands, if briefs mean the plan
     places: Option<Vec<String>>,
-    groups: Option<&'a Grouped>,
+    groups: Option<(&'a Grouped, &'a Offers)>,
 }
 
 impl Told<'_> {
@@ -79,23 +117,21 @@ impl Told<'_> {
         Ok(())
     }
 
-    // All groups, of which so many are explained.
+    // All groups, with what is shown of them.
     fn write_groups<O: Output>(
         &self,
         lines: &mut ObjectLines,
-        most: usize,
+        shown: Shown,
         out: &mut O,
     ) -> Result<(), RunError> {
-        let Some(groups) = self.groups else {
+        let Some((groups, offers)) = self.groups else {
             return Ok(());
         };
         for g in 0..groups.len() {
             if let Some(group) = groups.group(g) {
                 add_group(lines, groups, g, group);
-                self.add_example(lines, group.example, g < most);
-                if let Some(mends) = groups.mends(g) {
-                    add_mends(lines, mends);
-                }
+                self.add_example(lines, group.example, shown.explains(g));
+                add_offers(lines, self.words, self.texts, offers, g, shown);
                 lines.end();
             }
             lines.write_block(out)?;
@@ -114,7 +150,7 @@ impl Told<'_> {
 
     // The number of the group of the `k`th unsafe pair.
     fn add_number(&self, text: &mut Text, k: usize) {
-        if let Some(groups) = self.groups {
+        if let Some((groups, _)) = self.groups {
             if let Some(g) = groups.number_of(k) {
                 text.push(",\"group\":");
                 text.push_number(g as u64);
@@ -159,34 +195,6 @@ fn add_meets(lines: &mut ObjectLines, groups: &Grouped, g: usize) {
     for i in 0..groups.meets(g) {
         let (first, second) = groups.meet(g, i);
         push_two(&mut lines.text, before, first, second);
-        before = ",[";
-    }
-    lines.close_list();
-}
-
-// The field that says what mends the pairs of a group.
-fn add_mends(lines: &mut ObjectLines, mends: &GroupMends) {
-    lines.open("explain");
-    if let Some(parting) = &mends.parting {
-        lines.field("parting", &parting.slots.as_slice());
-        lines.flag("shape", parting.shape);
-    }
-    add_nevers(lines, mends.kept.nevers.as_slice());
-    lines.number("unchecked", mends.kept.unchecked);
-    lines.close();
-}
-
-// The field with `never` items. Each is two controllers, or labels.
-fn add_nevers(lines: &mut ObjectLines, nevers: &[Never]) {
-    lines.open_list("never");
-    let mut before = "[";
-    for never in nevers {
-        push_two(
-            &mut lines.text,
-            before,
-            never.first.as_str(),
-            never.second.as_str(),
-        );
         before = ",[";
     }
     lines.close_list();
@@ -282,13 +290,19 @@ fn rule_word(rule: Rule) -> &'static str {
 }
 
 // The verdict, where so many groups are explained at most.
-fn add_plan(lines: &mut ObjectLines, checked: &Checked, reasons: Option<&Reasons>, most: usize) {
+fn add_plan(
+    lines: &mut ObjectLines,
+    checked: &Checked,
+    words: PlanWords<'_>,
+    reasons: Option<&Reasons>,
+    most: usize,
+) {
     add_verdict(lines, checked);
     match reasons {
         None => {}
         Some(Reasons::Safe(safety)) => add_kept(lines, &checked.plan, safety),
-        Some(Reasons::Unsafe(mends, groups)) => {
-            add_mended(lines, &checked.plan, mends, groups.len(), most);
+        Some(Reasons::Unsafe(groups, offers)) => {
+            add_mended(lines, checked, words, (groups.len(), most), offers);
         }
     }
     lines.end();
@@ -316,16 +330,39 @@ fn add_kept(lines: &mut ObjectLines, plan: &Plan, safety: &Safety) {
 }
 
 // What mends an unsafe plan.
-fn add_mended(lines: &mut ObjectLines, plan: &Plan, mends: &Mends, groups: usize, most: usize) {
+fn add_mended(
+    lines: &mut ObjectLines,
+    checked: &Checked,
+    words: PlanWords<'_>,
+    explained: (usize, usize),
+    offers: &Offers,
+) {
+    let (groups, most) = explained;
     lines.open("explain");
     lines.number("explained", groups.min(most) as u64);
     lines.number("groups", groups as u64);
-    add_nevers(lines, mends.kept.nevers.as_slice());
-    lines.number("unchecked", mends.kept.unchecked);
-    lines.field("interrupts", &mends.interrupted.as_slice());
-    add_unsent(lines, plan);
-    lines.number("kept_apart", mends.kept_apart);
+    add_list(lines, offers);
+    match interrupted_in(lines.alloc, checked) {
+        Ok(pairs) => lines.field("interrupts", &pairs.as_slice()),
+        Err(_) => lines.cut(),
+    }
+    add_unsent(lines, &checked.plan);
+    lines.number("kept_apart", kept_apart(words));
     lines.close();
+}
+
+// The unsafe pairs with an interrupt: their second participant is one.
+fn interrupted_in(alloc: Global, checked: &Checked) -> Result<Vec<u32>, AllocError> {
+    let Checked { plan, faults } = checked;
+    let mut pairs = Vec::new(alloc);
+    for k in 0..faults.len() {
+        let (pair, _) = faults.get(k);
+        let (_, second) = both_of(plan, pair);
+        if controller_of(plan, second).is_none() {
+            pairs.push(pair)?;
+        }
+    }
+    Ok(pairs)
 }
 
 // The field with the names of the messages that no controller lists.

@@ -9,9 +9,10 @@ mod certificates;
 mod checks;
 mod fields;
 mod oddities;
+mod offered;
 mod orders;
 
 pub use benches::write_rehearsal;
 pub use certificates::write_answer;
-pub use checks::write_check;
+pub use checks::{write_check, write_offers};
 pub use orders::{write_order, write_scores};

@@ -1,7 +1,7 @@
 // What a page shows, as JSON.
 
+use crate::advice::{Offered, all_offered};
 use crate::groups::Groups;
-use crate::offers::{Offered, all_offered};
 use crate::pages::Page;
 use crate::pairs::{Pairs, Unsafe};
 use crate::parties::{Controllers, Interrupts, Messages, Nevers, Participants};
@@ -40,7 +40,7 @@ struct Verdict {
 /// What was found of a plan, as JSON on one line.
 pub(crate) fn data_of(alloc: Global, page: &Page<'_>) -> Result<String, AllocError> {
     let ways = Ways::new(alloc, page.order)?;
-    let offers = all_offered(alloc, page.checked, page.words, page.mends, page.groups)?;
+    let offers = all_offered(alloc, page.words, page.offers)?;
     let data = Data {
         capture: match page.recording {
             Some(recording) => Some(recording.recorded()),
@@ -95,6 +95,7 @@ fn all_of<'a>(
             checked: page.checked,
             words,
             groups,
+            offers: page.offers,
         },
         offers,
         capture: None,

@@ -348,7 +348,7 @@ function shownPair(pair, id, heading) {
       element('b', { class: pair.way, 'aria-hidden': 'true' }, '\u00a0' + WAYS[pair.way][0] + '\u00a0')),
     element('p', {}, endText(pair) + '. ', pair.fault && heading === 'h3'
       ? element('a', { href: '#group-' + pair.fault.group },
-        'Group ' + pair.fault.group + (data.groups[pair.fault.group].offer ? ', and what mends it' : '')) : null),
+        'Group ' + pair.fault.group + (data.groups[pair.fault.group].offers.length > 0 ? ', and what mends it' : '')) : null),
     element('pre', { class: 'rows' }, bytesText(pair, wire)),
     drawn, legendOf(run),
     element('p', {}, meetingText(pair, run)),

@@ -25,20 +25,19 @@ function groupText(number) {
 const opened = (summary, content, open) =>
   element('details', open ? { class: 'printed', open: '' } : { class: 'printed' }, element('summary', {}, summary), content);
 
-// What is offered to mend pairs: in words, and the items below them.
-const offerOf = ({ said, items, after }) => element('div', { class: 'offer' },
+// What is offered to mend pairs: in words, and the lines as they would stand.
+const offerOf = ({ said, lines }) => element('div', { class: 'offer' },
   element('p', {}, said),
-  items.length > 0 ? element('pre', {}, items.join('\n')) : null,
-  after ? element('p', {}, after) : null);
+  lines.length > 0 ? element('pre', {}, lines.join('\n')) : null);
 
 function groupOf(number, mark) {
-  const { between, example, offer } = data.groups[number];
+  const { between, example, offers } = data.groups[number];
   const show = element('a', { href: '#matrix' }, 'Mark its cells in the matrix');
   show.addEventListener('click', event => { event.preventDefault(); mark(number); });
   return element('li', { id: 'group-' + number, tabindex: '-1' },
     element('h3', {}, 'Group ' + number + ', ' + groupText(number)),
     element('p', { class: 'mark' }, show),
-    offer ? offerOf(offer) : null,
+    ...offers.map(offerOf),
     between.length > NAMED ? opened('All who meet', element('p', {}, meetsText(between))) : null,
     number < MOST_DRAWN ? opened('As pair ' + example, shownPair(pairs[example], 'example-' + number, 'h4'), number === 0)
       : element('p', {}, element('a', { href: '#pair-' + example }, 'As pair ' + example)));

@@ -1,9 +1,10 @@
 // The groups of the unsafe pairs, as the page has them.
 
-use crate::offers::Offered;
+use crate::advice::{Offered, offered_for};
 use bus_rows::{Meeting, deed, meeting_of};
 use causes::Group;
-use plan_findings::{offer_for_group, why_unsafe};
+use offers::Offers;
+use plan_findings::why_unsafe;
 use plan_words::PlanWords;
 use remedies::Grouped;
 use serde::{Described, Serialize, Serializer};
@@ -17,6 +18,7 @@ pub(crate) struct Groups<'a> {
     pub(crate) checked: &'a Checked,
     pub(crate) words: PlanWords<'a>,
     pub(crate) groups: &'a Grouped,
+    pub(crate) offers: Option<&'a Offers>,
 }
 
 // A group: how many pairs it has, the number of the one that stands for it, what the two of that one do where they meet, why
@@ -28,8 +30,7 @@ struct Alike<'a> {
     meets: (&'static str, &'static str),
     why: &'static str,
     between: Vec<(&'a str, &'a str)>,
-    #[serde(skip_serializing_if = "Option::is_none")]
-    offer: Option<Offered>,
+    offers: Vec<Offered>,
 }
 
 impl Described for Groups<'_> {}
@@ -72,15 +73,8 @@ impl<'a> Groups<'a> {
             meets: deeds_of(&meeting),
             why: why_unsafe(group.cause.first.kind, group.cause.second.kind),
             between: self.between(g)?,
-            offer: self.offer(g)?,
+            offers: offered_for(self.alloc, self.words, self.offers, g)?,
         }))
-    }
-
-    fn offer(&self, g: usize) -> Result<Option<Offered>, AllocError> {
-        match offer_for_group(self.alloc, self.words, self.groups, g)? {
-            Some(offer) => Ok(Some(Offered::of(self.alloc, offer)?)),
-            None => Ok(None),
-        }
     }
 
     fn between(&self, g: usize) -> Result<Vec<(&'a str, &'a str)>, AllocError> {

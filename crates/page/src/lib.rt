@@ -9,6 +9,7 @@
 //! script the exact reports are there to be read.
 #![tactic(auto)]
 
+mod advice;
 mod data;
 mod drawings;
 mod group_list;
@@ -17,7 +18,6 @@ mod lanes;
 mod levels;
 mod matrix;
 mod nodes;
-mod offers;
 mod pages;
 mod pairs;
 mod parties;

@@ -12,9 +12,10 @@ use crate::style::STYLE;
 use crate::times::TIMES;
 use growing_text::shown;
 use memchr::{memchr, memchr3};
+use offers::Offers;
 use order::Order;
 use plan_words::PlanWords;
-use remedies::{Grouped, Mends};
+use remedies::Grouped;
 use std::alloc::{AllocError, Global};
 use verdicts::Checked;
 
@@ -29,10 +30,10 @@ pub struct Page<'a> {
     pub words: PlanWords<'a>,
     /// Who wins in each pair of that plan.
     pub order: &'a Order,
-    /// The groups of its unsafe pairs, with what mends them.
+    /// The groups of its unsafe pairs.
     pub groups: &'a Grouped,
-    /// What mends all of them, where there are some.
-    pub mends: Option<&'a Mends>,
+    /// What is offered to mend them, where there are some.
+    pub offers: Option<&'a Offers>,
     /// A recorded bus.
     pub recording: Option<&'a Recording>,
     /// The same as texts.

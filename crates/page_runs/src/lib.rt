@@ -9,12 +9,13 @@ use capture_check::{Rises, Transaction};
 use decoding::{ExplainedSink, Explaining};
 use dump_findings::{Layout, Selection};
 use dump_tokens::Bus;
-use given_plans::GivenPlan;
+use given_plans::{GivenPlan, Provenance};
+use offers::{Offers, offers_of};
 use order::{order_of, order_report};
 use page::{Page, Recording, Texts, page_of};
 use plan_core::Plan;
 use plan_words::PlanWords;
-use remedies::{Mends, grouped_of, mends_of};
+use remedies::{Grouped, grouped_of};
 use report::{check_found, check_report, status_of};
 use run_parts::{Input, Output, RunError, Status, Watched, write_lines};
 use run_values::{Ended, Findings, Halt, Recorded, Sources, halted, open_dump};
@@ -36,7 +37,7 @@ pub fn write_page_alone<R: AllocGlobal + Threads + Sync, I: Input, O: Output>(
     let GivenPlan { plan, provenance } = plans.find(rt.alloc())?;
     let checked = check_found(rt, rt.alloc(), plan, 1, &NoGate)?;
     let words = plans.words(&checked.plan, &provenance);
-    write_page(rt.alloc(), title, &checked, words, None, out)?;
+    write_page(rt.alloc(), title, &checked, words, &provenance, None, out)?;
     Ok(Ended::quietly(status_of(checked.faults.is_safe())))
 }
 
@@ -59,11 +60,20 @@ pub fn write_page_with<R: AllocGlobal + Threads + Sync, I: Input, J: Input, O: O
         recording: &recording,
         report: text_of(capture.as_slice()),
     };
-    write_page(rt.alloc(), title, &checked, words, Some(capture), out)?;
+    write_page(
+        rt.alloc(),
+        title,
+        &checked,
+        words,
+        &provenance,
+        Some(capture),
+        out,
+    )?;
     Ok(Ended {
         status: worse(status_of(checked.faults.is_safe()), seen),
         findings: Findings::Recording(Recorded::Other, rises, None),
         wave: None,
+        mended: None,
     })
 }
 
@@ -140,9 +150,6 @@ fn put_lines(
     Ok(())
 }
 
-// How many groups have what mends them, each by itself, and a drawing.
-const GROUPS: usize = 100;
-
 // How the explained report is written.
 const LAYOUT: Layout = Layout {
     explain: true,
@@ -180,13 +187,42 @@ fn write_page<O: Output>(
     title: &str,
     checked: &Checked,
     words: PlanWords<'_>,
+    provenance: &Provenance,
     capture: Option<Shown<'_>>,
     out: &mut O,
 ) -> Result<(), RunError>
     requires { AreFaults (plan_contents checked.now.plan) (fault_list checked.now.faults) }
 {
-    let groups = grouped_of(alloc, &checked.plan, words, &checked.faults, Some(GROUPS))?;
-    let mends = mends_found(alloc, checked, words)?;
+    let Checked { plan, faults } = checked;
+    let groups = grouped_of(alloc, plan, words, faults)?;
+    let offers = if faults.is_safe() {
+        None
+    } else {
+        Some(offers_of(alloc, plan, words, faults, &groups, provenance)?)
+    };
+    write_grouped(
+        alloc,
+        title,
+        checked,
+        words,
+        (&groups, offers.as_ref()),
+        capture,
+        out,
+    )
+}
+
+fn write_grouped<O: Output>(
+    alloc: Global,
+    title: &str,
+    checked: &Checked,
+    words: PlanWords<'_>,
+    found: (&Grouped, Option<&Offers>),
+    capture: Option<Shown<'_>>,
+    out: &mut O,
+) -> Result<(), RunError>
+    requires { AreFaults (plan_contents checked.now.plan) (fault_list checked.now.faults) }
+{
+    let (groups, offers) = found;
     let order = order_of(alloc, &checked.plan, &checked.faults)?;
     let plan = print_plan(alloc, &checked.plan)?;
     let check = check_report(alloc, checked)?;
@@ -200,8 +236,8 @@ fn write_page<O: Output>(
         checked,
         words,
         order: &order,
-        groups: &groups,
-        mends: mends.as_ref(),
+        groups,
+        offers,
         recording,
         texts: Texts {
             plan: text_of(plan.as_slice()),
@@ -213,21 +249,6 @@ fn write_page<O: Output>(
     let text = page_of(alloc, &page)?;
     write_lines(out, text.as_bytes(), Status::Good)?;
     Ok(())
-}
-
-// What mends the plan, where it is unsafe.
-fn mends_found(
-    alloc: Global,
-    checked: &Checked,
-    words: PlanWords<'_>,
-) -> Result<Option<Mends>, AllocError>
-    requires { AreFaults (plan_contents checked.now.plan) (fault_list checked.now.faults) }
-{
-    if checked.faults.is_safe() {
-        return Ok(None);
-    }
-    let mends = mends_of(alloc, &checked.plan, words, &checked.faults)?;
-    Ok(Some(mends))
 }
 
 fn worse(one: Status, other: Status) -> Status {

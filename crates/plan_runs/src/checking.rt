@@ -1,14 +1,14 @@
 // Runs that say whether a plan is safe, whether a certificate is right, and who wins: each finds a value, and writes it in the
 // form that is wanted. The exact form is that of `given_runs`, by its call.
 
-ghost use Rattle.std.specs.Prelude.{◌≡◌, true, ℕ, List, IfOk, OnOk};
+ghost use Rattle.std.specs.Prelude.{◌≡◌, true, ℕ, Bool, List, IfOk, OnOk};
 ghost use Rattle.cert_check.specs.Accepts.{IsAnswer};
 ghost use Rattle.cert_check.specs.declared.answers.Answer.{Answer};
 ghost use Rattle.given_plans.specs.Sources.{DueFor, GiveThePlan, ReadsTexts, bytes_of};
 ghost use Rattle.given_runs.specs.Due.{AnsweredPlan, CheckedPlan, OrderedPlan};
 ghost use Rattle.given_runs.specs.Inputs.{DueForBoth, ReadsTextsAndOne};
 ghost use Rattle.plan_core.specs.PlanContents.{plan_contents};
-ghost use Rattle.plan_runs.specs.Statuses.{IsAnswered, IsOf, JudgesIn, OfGivenPlan};
+ghost use Rattle.plan_runs.specs.Statuses.{IsAnswered, IsOf, IsWithin, JudgesIn, OfGivenPlan};
 ghost use Rattle.report.specs.Checks.{Judges};
 ghost use Rattle.run_parts.specs.Runs.{ReadsText, Reports};
 ghost use Rattle.run_parts.specs.declared.runs.Status.{Status};
@@ -18,7 +18,7 @@ ghost use Rattle.verifying.specs.Answers.{answer_status};
 use bus_rows::{Paint, called_by};
 use cert_check::{Answered, Judged, check_certificate_at};
 use command_words::{Format, Look};
-use diagnostics::{Diagnostic, Messages, diagnose_check};
+use diagnostics::{Diagnostic, Messages, Wanted, diagnose_check};
 use explain::{explain_answer, explain_check};
 use files::Comparing;
 use given_plans::{GivenPlan, Halted, Provenance};
@@ -30,11 +30,12 @@ use growing_text::Text;
 use hints::{Found, NoWaves};
 use lint::oddities;
 use objects::{write_answer, write_check, write_order, write_scores};
+use offers::reasons_of;
 use order::{Called, Order, order_report, order_summary, scores_of};
 use plan_core::Plan;
 use plan_findings::{Detail, Mistake, is_all_checked, mistake_of};
 use plan_words::{PlanWords, sides_of};
-use remedies::{count_groups, kept_apart, reasons_of};
+use remedies::{count_groups, kept_apart};
 use report::{check_report, status_of};
 use run_parts::devices::reading::READS;
 use run_parts::{Input, Output, RunError, Status, read_within, write_lines};
@@ -59,18 +60,23 @@ pub fn check<R: Eprint + Clock + AllocGlobal + Threads + Sync, I: Input, O: Outp
     look: Look<'_>,
     extras: Extras,
 ) -> Result<Ended, Halt>
-    ensures status { IfOk result (λ it. OfGivenPlan I.reader (JudgesIn look.entry.strict it.status)
-        plans.old.readers.items plans.new.readers.items) }
+    ensures status { IfOk result (λ it. (within : Bool) × IsWithin look.entry.apart within
+        × OfGivenPlan I.reader (JudgesIn look.entry.strict within it.status) plans.old.readers.items plans.new.readers.items) }
 {
     let gate = Comparing::new(rt, extras.watcher);
     let (found, by_plan) = check_by_form(rt, plans, out, look, &gate, extras)?;
-    let status = judged(by_plan, &found.checked.plan, look.strict);
+    let within = is_within(
+        plans.words(&found.checked.plan, &found.provenance),
+        look.apart,
+    );
+    let status = judged(by_plan, &found.checked.plan, look.strict, within);
     let wave = wave_of(rt.alloc(), &found.checked, look)?;
     let findings = findings_of(rt.alloc(), found, plans, look, extras);
     Ok(Ended {
         status,
         findings,
         wave,
+        mended: None,
     })
 }
 
@@ -221,7 +227,7 @@ fn check_in_form<R: AllocGlobal + Threads + Sync, I: Input, O: Output, G: Gate +
 }
 
 // The status of a run over this plan.
-fn status_in(found: &GivenCheck) -> Status
+pub(crate) fn status_in(found: &GivenCheck) -> Status
     requires { AreFaults (plan_contents found.now.checked.plan) (fault_list found.now.checked.faults) }
     ensures { Judges result (plan_contents found.now.checked.plan) }
 {
@@ -245,7 +251,7 @@ fn write_in_form<I: Input, O: Output>(
     } = found;
     let words = plans.words(&checked.plan, provenance);
     match extras.format {
-        Format::Messages => write_messages(alloc, checked, words, provenance, look.strict, out),
+        Format::Messages => write_messages(alloc, checked, words, provenance, look, out),
         _ => tell_checked(alloc, checked, words, provenance, out, look, extras.style()),
     }
 }
@@ -256,7 +262,7 @@ fn write_messages<O: Output>(
     checked: &Checked,
     words: PlanWords<'_>,
     provenance: &Provenance,
-    strict: bool,
+    look: Look<'_>,
     out: &mut O,
 ) -> Result<Status, RunError>
     requires { AreFaults (plan_contents checked.now.plan) (fault_list checked.now.faults) }
@@ -265,7 +271,11 @@ fn write_messages<O: Output>(
     let spans = &provenance.spans;
     let odd = oddities(alloc, &checked.plan, &provenance.origins, texts, spans)?;
     let odd = odd.as_slice();
-    let found = diagnose_check(alloc, words, checked, odd, strict, texts, spans)?;
+    let wanted = Wanted {
+        is_strict: look.strict,
+        apart: look.apart,
+    };
+    let found = diagnose_check(alloc, words, checked, odd, wanted, texts, spans)?;
     let lines = message_lines(alloc, words, found.as_slice(), texts)?;
     write_lines(out, lines.as_bytes(), status_of(checked.faults.is_safe()))
 }
@@ -287,13 +297,25 @@ fn message_lines(
     lines.finish()
 }
 
-// The status of a run with this status over a plan. One that is strict is good where all of the plan was looked at.
-fn judged(status: Status, plan: &Plan, strict: bool) -> Status
-    ensures { Judges status (plan_contents plan.now) → JudgesIn strict result (plan_contents plan.now) }
+// The status of a run with this status over a plan. One that is strict is good where all of the plan was looked at, and not too
+// much is left out of it.
+fn judged(status: Status, plan: &Plan, strict: bool, within: bool) -> Status
+    ensures { Judges status (plan_contents plan.now) → JudgesIn strict within result (plan_contents plan.now) }
 {
     match status {
+        Status::Good if !within => Status::Bad,
         Status::Good if strict && !is_all_checked(plan) => Status::Bad,
         _ => status,
+    }
+}
+
+// Whether `never` items leave out no more pairs than this.
+fn is_within(words: PlanWords<'_>, most: Option<u32>) -> bool
+    ensures { IsWithin most result }
+{
+    match most {
+        Some(most) => kept_apart(words) <= u64::from(most),
+        None => true,
     }
 }
 
@@ -330,7 +352,7 @@ fn tell_checked<O: Output>(
         groups: look.explain.unwrap_or(0),
     };
     let reasons = match look.explain {
-        Some(groups) => Some(reasons_of(alloc, checked, words, groups)?),
+        Some(_) => Some(reasons_of(alloc, checked, words, provenance)?),
         None => None,
     };
     let status = status_of(checked.faults.is_safe());
@@ -339,7 +361,8 @@ fn tell_checked<O: Output>(
             let texts = provenance.texts.as_slice();
             let spans = &provenance.spans;
             let odd = oddities(alloc, &checked.plan, &provenance.origins, texts, spans)?;
-            write_check(alloc, checked, words, odd.as_slice(), reasons, detail, out)?;
+            let odd = odd.as_slice();
+            write_check(alloc, checked, words, odd, texts, reasons, detail, out)?;
             Ok(status)
         }
         (Style::Lines(Paint::Plain), None) => {
@@ -395,6 +418,7 @@ fn verify_exactly<I: Input, J: Input, O: Output>(
             status,
             findings: Findings::Answered(found.answered, found.provenance),
             wave: None,
+            mended: None,
         }),
         Err(halted) => Err(plans.halt(halted)),
     }
@@ -433,6 +457,7 @@ fn verify_in_form<I: Input, J: Input, O: Output>(
                 status,
                 findings: Findings::Answered(found.answered, found.provenance),
                 wave: None,
+                mended: None,
             })
         }
         Err(halted) => Err(plans.halt(halted)),
@@ -500,6 +525,7 @@ fn explain_kept<I: Input, O: Output>(
         status,
         findings: Findings::Answered(found.answered, found.provenance),
         wave: None,
+        mended: None,
     })
 }
 
@@ -558,6 +584,7 @@ fn order_exactly<R: AllocGlobal + Threads + Sync, I: Input, O: Output>(
             status,
             findings: Findings::Nothing,
             wave: None,
+            mended: None,
         }),
         Err(halted) => Err(plans.halt(halted)),
     }
@@ -583,6 +610,7 @@ fn order_in_form<R: AllocGlobal + Threads + Sync, I: Input, O: Output>(
                 status,
                 findings: Findings::Nothing,
                 wave: None,
+                mended: None,
             })
         }
         Err(halted) => Err(plans.halt(halted)),

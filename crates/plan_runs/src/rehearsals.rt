@@ -52,6 +52,7 @@ pub fn bench<R: AllocGlobal + Threads + Wait + Clock + Sync, I: Input, J: Input,
         status,
         findings: findings_of(found),
         wave,
+        mended: None,
     })
 }
 
@@ -73,6 +74,7 @@ pub fn bench_alone<R: AllocGlobal + Threads + Wait + Clock + Sync, I: Input, O: 
         status,
         findings: findings_of(found),
         wave,
+        mended: None,
     })
 }
 

@@ -51,6 +51,7 @@ fn certify<I: Input, O: Output>(
             status,
             findings: findings_in(status),
             wave: None,
+            mended: None,
         }),
         Err(halted) => Err(sources.halt(halted)),
     }
@@ -77,6 +78,7 @@ fn print<I: Input, O: Output>(
             status,
             findings: Findings::Nothing,
             wave: None,
+            mended: None,
         }),
         Err(halted) => Err(sources.halt(halted)),
     }
@@ -95,6 +97,7 @@ fn expand<I: Input, O: Output>(
             status,
             findings: Findings::Nothing,
             wave: None,
+            mended: None,
         }),
         Err(halted) => Err(Halt::of(halted, Takes::One)),
     }

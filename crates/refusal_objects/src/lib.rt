@@ -25,6 +25,20 @@ pub enum Detail<'a> {
     Dump(&'a Wrong),
 }
 
+/// Of what a refusal speaks that has a word of its own.
+#[derive(Clone, Copy)]
+pub enum Subject<'a> {
+    Nothing,
+    /// The controller of this name.
+    Controller(&'a str),
+    /// The offers of these numbers, as the command line has them.
+    Offers(&'a str),
+    /// These files.
+    Files(&'a [&'a str]),
+    /// An edited text, which is refused so, and its file where several give the plan.
+    Edited(PlanError, Option<&'a str>),
+}
+
 /// Where a plan or a brief is refused.
 #[derive(Clone, Copy)]
 pub struct TextDetail<'a> {
@@ -54,6 +68,9 @@ struct Refusal<'a> {
     file: Option<&'a str>,
     label: Option<&'a str>,
     controller: Option<&'a str>,
+    // as the command line has them
+    offers: Option<&'a str>,
+    files: Option<&'a [&'a str]>,
     signal: Option<&'static str>,
     // of a token: how many bytes stand before it, and in its line and one, and what could stand there
     byte: Option<u64>,
@@ -199,7 +216,7 @@ fn opened_word(opened: Opened) -> &'static str {
     }
 }
 
-/// The object of a refusal of this code, which speaks of this controller.
+/// The object of a refusal of this code, which speaks of this.
 ///
 /// # Errors
 ///
@@ -207,14 +224,34 @@ fn opened_word(opened: Opened) -> &'static str {
 pub fn word_object(
     alloc: Global,
     code: &'static str,
-    controller: Option<&str>,
+    subject: Subject<'_>,
     reason: &str,
 ) -> Result<String, AllocError> {
-    let refusal = Refusal {
-        controller,
-        ..coded(code)
-    };
-    object_of(alloc, reason, refusal)
+    let refusal = coded(code);
+    object_of(
+        alloc,
+        reason,
+        match subject {
+            Subject::Nothing => refusal,
+            Subject::Controller(name) => Refusal {
+                controller: Some(name),
+                ..refusal
+            },
+            Subject::Offers(numbers) => Refusal {
+                offers: Some(numbers),
+                ..refusal
+            },
+            Subject::Files(files) => Refusal {
+                files: Some(files),
+                ..refusal
+            },
+            Subject::Edited(error, file) => Refusal {
+                line: of_text(error).line,
+                file,
+                ..refusal
+            },
+        },
+    )
 }
 
 fn object_of(alloc: Global, reason: &str, refusal: Refusal<'_>) -> Result<String, AllocError> {
@@ -225,6 +262,8 @@ fn object_of(alloc: Global, reason: &str, refusal: Refusal<'_>) -> Result<String
     lines.field_if("file", &refusal.file);
     lines.field_if("label", &refusal.label);
     lines.field_if("controller", &refusal.controller);
+    lines.field_if("offers", &refusal.offers);
+    lines.field_if("files", &refusal.files);
     lines.word_if("signal", refusal.signal);
     lines.number_if("byte", refusal.byte);
     lines.number_if("column", refusal.column);
@@ -312,6 +351,8 @@ fn coded(code: &'static str) -> Refusal<'static> {
         file: None,
         label: None,
         controller: None,
+        offers: None,
+        files: None,
         signal: None,
         byte: None,
         column: None,

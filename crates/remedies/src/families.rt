@@ -120,12 +120,12 @@ pub fn name_of(plan: &Plan, m: u32) -> &str {
 /// What the family of a message is called: `page_*`, or the name of the message where it is alone in it.
 pub fn called_of(
     alloc: Global,
-    plan: &Plan,
+    words: PlanWords<'_>,
     families: &[Family],
     m: u32,
 ) -> Result<String, AllocError> {
     let mut text = Text::new(alloc);
-    push_family(&mut text, plan, families.get(m as usize));
+    push_family(&mut text, words, families.get(m as usize));
     text.finish()
 }
 
@@ -148,18 +148,22 @@ pub fn party_of(
             let mut text = Text::new(alloc);
             text.push(words.name(controller));
             text.push("/");
-            push_family(&mut text, plan, families.get(message as usize));
+            push_family(&mut text, words, families.get(message as usize));
             text.finish()
         }
         Participant::Interrupt(_) => words.label(alloc, p),
     }
 }
 
-fn push_family(text: &mut Text, plan: &Plan, family: Option<&Family>) {
+// One that a family of the briefs makes has the name of that, and each other one what its names have before their numbers.
+fn push_family(text: &mut Text, words: PlanWords<'_>, family: Option<&Family>) {
     if let Some(Family::Messages { first, count }) = family {
-        let name = name_of(plan, *first);
+        let name = name_of(words.plan(), *first);
         if *count < 2 {
             text.push(name);
+        } else if words.family_of(*first).is_some() {
+            text.push(words.message_name(*first));
+            text.push("_*");
         } else {
             text.push(stem_of(name).unwrap_or(name));
             text.push("*");

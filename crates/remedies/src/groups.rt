@@ -2,17 +2,18 @@
 
 ghost use Rattle.std.specs.Prelude.{◌≡◌, length};
 ghost use Rattle.plan_core.specs.PlanContents.{plan_contents};
+ghost use Rattle.remedies.specs.Numbers.{group_numbers};
 ghost use Rattle.verdicts.specs.Faults.{AreFaults, fault_list};
 
+use crate::apart::both_of;
 use crate::families::{called_of, families_of, party_of};
-use crate::mends::{Common, GroupMends, GroupsMends, both_of, mends_of_groups};
 use crate::ranks::Ranked;
 use bus_rows::{Labels, called_by};
 use causes::{Family, Group, groups_of};
 use plan_core::Plan;
 use plan_words::PlanWords;
 use std::alloc::{AllocError, Global};
-use verdicts::Faults;
+use verdicts::{Checked, Faults};
 
 // What an unsafe pair counts for: the number of its group, and the first participants who are called as its two are with all of
 // their families.
@@ -102,8 +103,6 @@ pub struct Grouped {
     meets: Vec<Meet>,
     /// Where those of each group begin.
     starts: Vec<usize>,
-    /// What mends them.
-    mends: GroupsMends,
 }
 
 // Written out, so that one call lets it go.
@@ -116,7 +115,6 @@ impl Drop for Grouped {
             parties: _,
             meets: _,
             starts: _,
-            mends: _,
         } = self;
     }
 }
@@ -166,14 +164,11 @@ impl Grouped {
         }
     }
 
-    /// What mends the group with this number, if that was looked for.
-    pub fn mends(&self, g: usize) -> Option<&GroupMends> {
-        self.mends.each.get(g)
-    }
-
-    /// What mends each pair without an interrupt, if that was looked for.
-    pub fn common(&self) -> Option<Common> {
-        self.mends.common
+    /// For each unsafe pair the number of its group.
+    pub fn numbers(&self) -> &[usize]
+        ensures { result.now ≡ group_numbers self.now }
+    {
+        self.groups.numbers()
     }
 
     /// What the family of a message is called, which is the name of the message where it is alone in it.
@@ -218,8 +213,8 @@ fn at(starts: &[usize], g: usize, end: usize) -> usize {
     }
 }
 
-/// The groups of the unsafe pairs of the plan, which has these faults, in these words of it, and what mends them, if that is wanted:
-/// of the first so many by itself. There are none of a safe plan.
+/// The groups of the unsafe pairs of the plan, which has these faults, in these words of it. There are
+/// none of a safe plan.
 ///
 /// # Errors
 ///
@@ -229,7 +224,6 @@ pub fn grouped_of(
     plan: &Plan,
     words: PlanWords<'_>,
     faults: &Faults,
-    most: Option<usize>,
 ) -> Result<Grouped, AllocError>
     requires { AreFaults (plan_contents plan.now) (fault_list faults.now) }
 {
@@ -239,11 +233,7 @@ pub fn grouped_of(
     let parties = parties_of(alloc, words, families.as_slice())?;
     let meets = meets_of(alloc, plan, faults, &groups, parties.as_slice())?;
     let starts = starts_of(alloc, meets.as_slice())?;
-    let mends = match most {
-        Some(most) => mends_of_groups(alloc, words, faults, &groups, most)?,
-        None => GroupsMends::none(alloc),
-    };
-    let families = all_called(alloc, plan, families.as_slice())?;
+    let families = all_called(alloc, words, families.as_slice())?;
     Ok(Grouped {
         groups,
         labels,
@@ -251,8 +241,24 @@ pub fn grouped_of(
         parties,
         meets,
         starts,
-        mends,
     })
+}
+
+/// How many groups the unsafe pairs of a plan that was checked are, in these words of it.
+///
+/// # Errors
+///
+/// Where an allocation fails.
+pub fn count_groups(
+    alloc: Global,
+    checked: &Checked,
+    words: PlanWords<'_>,
+) -> Result<usize, AllocError>
+    requires { AreFaults (plan_contents checked.now.plan) (fault_list checked.now.faults) }
+{
+    let Checked { plan, faults } = checked;
+    let groups = grouped_of(alloc, plan, words, faults)?;
+    Ok(groups.len())
 }
 
 fn ranked_of(
@@ -268,10 +274,14 @@ fn ranked_of(
     Ranked::of(alloc, &groups)
 }
 
-fn all_called(alloc: Global, plan: &Plan, families: &[Family]) -> Result<Vec<String>, AllocError> {
+fn all_called(
+    alloc: Global,
+    words: PlanWords<'_>,
+    families: &[Family],
+) -> Result<Vec<String>, AllocError> {
     let mut called = Vec::with_capacity(alloc, families.len())?;
-    for m in 0..plan.messages() {
-        called.push(called_of(alloc, plan, families, m)?)?;
+    for m in 0..words.plan().messages() {
+        called.push(called_of(alloc, words, families, m)?)?;
     }
     Ok(called)
 }

@@ -1,5 +1,8 @@
 // The groups of unsafe pairs in the order in which people see them.
 
+ghost use Rattle.std.specs.Prelude.{◌≡◌};
+ghost use Rattle.remedies.specs.Numbers.{ranked_numbers};
+
 use causes::{Group, Groups};
 use std::alloc::{AllocError, Global};
 
@@ -48,7 +51,9 @@ impl Ranked {
     }
 
     /// For each unsafe pair the number of its group.
-    pub fn numbers(&self) -> &[usize] {
+    pub fn numbers(&self) -> &[usize]
+        ensures { result.now ≡ ranked_numbers self.now }
+    {
         self.numbers.as_slice()
     }
 }

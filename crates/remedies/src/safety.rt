@@ -1,6 +1,6 @@
 // How the pairs of a safe plan are kept apart, and what the plan leaves out.
 
-use crate::mends::kept_apart;
+use crate::apart::kept_apart;
 use certificate::Cert;
 use pair_walk::{Outcome, walk};
 use plan_core::Plan;

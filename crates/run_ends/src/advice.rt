@@ -17,20 +17,20 @@ use dump_tokens::Drive;
 use given_plans::Provenance;
 use growing_text::Text;
 use hints::{
-    Found, Hints, NoWaves, on_certificate, on_checked, on_fault, on_memory, on_named_file,
-    on_no_answers, on_no_brief, on_no_timescale, on_no_waves, on_reading, on_safe, on_starters,
-    on_workers, on_writing,
+    Found, Hints, NoWaves, Untaken, on_certificate, on_checked, on_fault, on_memory, on_mended,
+    on_named_file, on_no_answers, on_no_brief, on_no_timescale, on_no_waves, on_reading, on_safe,
+    on_starters, on_untaken, on_workers, on_writing,
 };
 use lint::oddities;
 use plan_core::Plan;
 use plan_text::PlanError;
 use plan_words::{FileLine, called};
 use plays::RefusedStarters;
-use refusal_objects::{Detail, EarlierAt};
+use refusal_objects::{Detail, EarlierAt, Subject};
 use remedies::kept_apart;
 use run_parts::{RunError, Status};
 use run_refusals::{Further, RefusedNamed};
-use run_values::{Findings, Halt, NoDrive, Recorded, RefusedSource, words_of};
+use run_values::{Findings, Halt, Mended, NoDrive, Recorded, RefusedSource, words_of};
 use spellings::brief_word;
 use std::alloc::{AllocError, Global};
 use std::io::{self, Read, Seek};
@@ -45,6 +45,22 @@ pub(crate) fn advise_on_waves<R: Eprint + AllocGlobal>(
 ) {
     if let (Some(why), Some(file)) = (why, errand.request.wave()) {
         say(rt, on_no_waves(rt.alloc(), file, why), errand.extras);
+    }
+}
+
+/// Says which texts change by the offers that were taken, and what a check says then.
+pub(crate) fn advise_on_mended<R: Eprint + AllocGlobal>(
+    rt: &R,
+    mended: Option<&Mended>,
+    errand: Errand<'_>,
+) {
+    if let Some(Mended { changed, then, .. }) = mended {
+        let files = errand.named().files();
+        say(
+            rt,
+            on_mended(rt.alloc(), files, changed.as_slice(), *then),
+            errand.extras,
+        );
     }
 }
 
@@ -261,11 +277,14 @@ fn tell<'x, R: Eprint + AllocGlobal>(
 ) {
     let (alloc, format) = (rt.alloc(), errand.extras.format);
     let detail = match halt {
-        Halt::NoTimescale => return refused_by_word(rt, "timescale", None, reason, format),
+        Halt::NoTimescale => {
+            return refused_by_word(rt, "timescale", Subject::Nothing, reason, format);
+        }
         Halt::NoDrive(number, _) => {
-            let controller = Some(drive_of(errand, *number).controller);
+            let controller = Subject::Controller(drive_of(errand, *number).controller);
             return refused_by_word(rt, "drives", controller, reason, format);
         }
+        Halt::Untaken(untaken) => return tell_untaken(rt, untaken, reason, errand),
         Halt::Text(error, source) if format == Format::Messages => {
             return say_message(rt, text_message(alloc, of_text(*error, source, errand)));
         }
@@ -293,6 +312,48 @@ fn tell<'x, R: Eprint + AllocGlobal>(
         _ => Detail::Nothing,
     };
     refused(rt, halt.error(), detail, reason, format);
+}
+
+// The same of offers that are not taken.
+fn tell_untaken<R: Eprint + AllocGlobal>(
+    rt: &R,
+    untaken: &Untaken,
+    reason: &str,
+    errand: Errand<'_>,
+) {
+    let (word, format) = (untaken.word(), errand.extras.format);
+    match untaken {
+        Untaken::NoPlan(error, file) => {
+            let subject = Subject::Edited(*error, errand.named().path(*file));
+            refused_by_word(rt, word, subject, reason, format);
+        }
+        Untaken::Several(changed) => tell_several(rt, word, changed.as_slice(), reason, errand),
+        _ => {
+            let offers = made(rt.alloc(), untaken.offers(rt.alloc()));
+            refused_by_word(rt, word, Subject::Offers(offers.as_str()), reason, format);
+        }
+    }
+}
+
+// The same of files with these numbers, of which all change.
+fn tell_several<R: Eprint + AllocGlobal>(
+    rt: &R,
+    word: &'static str,
+    changed: &[u32],
+    reason: &str,
+    errand: Errand<'_>,
+) {
+    let named = errand.named().files();
+    let mut files: Vec<&str> = Vec::new(rt.alloc());
+    for number in changed {
+        let file = named.of(*number).unwrap_or("");
+        // (where there is no memory for more, fewer are told)
+        if files.push(&*file).is_err() {
+            break;
+        }
+    }
+    let subject = Subject::Files(files.as_slice());
+    refused_by_word(rt, word, subject, reason, errand.extras.format);
 }
 
 // The reason of a refusal that is not what hints say first. The message of a text has its own words.
@@ -353,6 +414,7 @@ fn hints_on<F: Read + Seek + Drop>(
         Halt::NoBrief(plan) => on_no_brief(alloc, brief_word(plan)),
         Halt::NoTimescale => on_no_timescale(alloc),
         Halt::NoDrive(number, why) => on_no_drive(alloc, drive_of(errand, *number), why),
+        Halt::Untaken(untaken) => on_untaken(alloc, errand.named().files(), untaken),
         Halt::Run(RunError::Read) => on_reading(alloc, read.last, read.error.as_ref()),
         Halt::File(file) => on_named_file(
             alloc,

@@ -1,6 +1,6 @@
 // What a run was asked for: which files it is over, where its report goes, and how it can be asked for once more.
 
-use command_words::{Layout, Request, Rewriting};
+use command_words::{Layout, Mend, Request, Rewriting};
 use dump_hints::Names;
 use dump_tokens::BusLines;
 use files::Form;
@@ -56,7 +56,8 @@ impl<'a> Errand<'a> {
     pub(crate) fn takes_board(self) -> bool {
         match self.request {
             // (a number of workers that cannot be is refused before anything is read)
-            Request::Check { look, .. } => look.workers >= 1 && look.workers <= MOST_WORKERS,
+            Request::Check { look, .. } => are_workers(look.workers),
+            Request::Mend { mend, .. } => are_workers(mend.workers),
             Request::Verify { .. }
             | Request::Page { .. }
             | Request::Order { .. }
@@ -81,6 +82,7 @@ impl<'a> Errand<'a> {
     fn given(self) -> NamedSources<'a> {
         let first = match self.request {
             Request::Check { plan, .. }
+            | Request::Mend { plan, .. }
             | Request::Verify { plan, .. }
             | Request::Page { plan, .. }
             | Request::Order { plan, .. }
@@ -154,10 +156,22 @@ impl<'a> Errand<'a> {
             Request::Rewrite { file, .. } if self.rewrites(Rewriting::Format(Layout::InPlace)) =>
                 Form::InPlace(file),
             Request::Rewrite { output, .. }
+            | Request::Mend { output, .. }
             | Request::Page { output, .. }
             | Request::Learn { output, .. } => Form::of(output),
             _ => Form::Plain,
         }
+    }
+
+    /// Whether each file of its plan that changes gets its text.
+    pub(crate) fn mends_in_place(self) -> bool {
+        matches!(
+            self.request,
+            Request::Mend {
+                mend: Mend { in_place: true, .. },
+                ..
+            }
+        )
     }
 
     /// The path of its dump, where it is over one, and else that of its last file.
@@ -246,6 +260,11 @@ const NO_LINES: BusLines<'static> = BusLines {
     scope: None,
     min_pulse: None,
 };
+
+// Whether this number of workers can be.
+fn are_workers(workers: u32) -> bool {
+    workers >= 1 && workers <= MOST_WORKERS
+}
 
 fn named<'a>(argument: &'static str, what: &'static str, path: &'a str) -> Named<'a> {
     Named {

@@ -3,13 +3,13 @@
 ghost use Rattle.std.specs.Prelude.{◌≡◌, ◌⊎◌, IsOkAnd};
 ghost use Rattle.run_parts.specs.Statuses.{status_code};
 
-use crate::advice::{advise, advise_on_waves, refuse};
+use crate::advice::{advise, advise_on_mended, advise_on_waves, refuse};
 use crate::errands::Errand;
 use crate::inputs::Inputs;
 use files::{FilesRead, Form, Reread, Sheet};
 use hints::NoWaves;
 use run_parts::{RunError, Status, Watched, write_lines};
-use run_values::{Ended, Findings, Halt};
+use run_values::{Ended, Findings, Halt, Mended};
 use std::io;
 use std::rt::Files;
 use std::time::Clock;
@@ -50,30 +50,74 @@ fn finish_whole<R: Files + Print + Eprint + Clock + AllocGlobal>(
         status,
         findings,
         wave,
+        mended,
     } = ended;
-    let (drawn, no_waves) = match &wave {
-        Some(Ok(wave)) => (draw(rt, wave.as_str(), ids, errand), None),
-        Some(Err(why)) => (Ok(()), Some(*why)),
-        None => (Ok(()), None),
+    let no_waves = match &wave {
+        Some(Err(why)) => Some(*why),
+        _ => None,
     };
-    match drawn {
-        Ok(()) => finish_report(rt, read, out, status, findings, no_waves, errand),
-        Err((error, reason)) => {
-            let file = errand.request.wave();
+    match write_files(rt, wave, mended.as_ref(), ids, errand) {
+        Ok(()) => {
+            let said = Said {
+                findings,
+                no_waves,
+                mended,
+            };
+            finish_report(rt, read, out, status, said, errand)
+        }
+        Err(
+            Unwritten {
+                error,
+                reason,
+                file,
+            },
+        ) => {
             tell(rt, Halt::Run(error), read, file, reason, errand);
             2
         }
     }
 }
 
-// The same, with its waves written where it has some, or why there are none.
+// A file that was not written: the error of the run, and that of the system.
+#[derive(Drop)]
+struct Unwritten<'a> {
+    error: RunError,
+    reason: Option<io::Error>,
+    file: Option<&'a str>,
+}
+
+// Writes the files that a run has beside its report: its waves, and the texts of its plan that change.
+fn write_files<'a, R: Files + Print + Eprint + Clock + AllocGlobal>(
+    rt: &R,
+    wave: Option<Result<String, NoWaves>>,
+    mended: Option<&Mended>,
+    ids: FilesRead<'_>,
+    errand: Errand<'a>,
+) -> Result<(), Unwritten<'a>> {
+    if let Some(Ok(wave)) = &wave {
+        draw(rt, wave.as_str(), ids, errand)?;
+    }
+    match mended {
+        Some(mended) if errand.mends_in_place() => put_in_place(rt, mended, ids, errand),
+        _ => Ok(()),
+    }
+}
+
+// What people may be told after a report.
+#[derive(Drop)]
+struct Said {
+    findings: Findings,
+    no_waves: Option<NoWaves>,
+    mended: Option<Mended>,
+}
+
+// The same, with its files written, and what else is said of it.
 fn finish_report<R: Files + Print + Eprint + Clock + AllocGlobal>(
     rt: &R,
     read: Inputs<'_, Reread<R::File>>,
     mut out: Sheet<'_, '_, R>,
     status: Status,
-    findings: Findings,
-    no_waves: Option<NoWaves>,
+    said: Said,
     errand: Errand<'_>,
 ) -> u8
     ensures { (result ≡ 2) ⊎ (result ≡ status_code status) }
@@ -82,7 +126,7 @@ fn finish_report<R: Files + Print + Eprint + Clock + AllocGlobal>(
         Ok(_) => {
             errand.extras.watcher.clear(rt);
             if errand.extras.hints {
-                hint(rt, read, status, findings, no_waves, errand);
+                hint(rt, read, status, said, errand);
             }
             status.code()
         }
@@ -98,28 +142,108 @@ fn hint<R: Files + Print + Eprint + Clock + AllocGlobal>(
     rt: &R,
     read: Inputs<'_, Reread<R::File>>,
     status: Status,
-    findings: Findings,
-    no_waves: Option<NoWaves>,
+    said: Said,
     errand: Errand<'_>,
 ) {
+    let Said {
+        findings,
+        no_waves,
+        mended,
+    } = said;
     advise_on_waves(rt, no_waves, errand);
+    advise_on_mended(rt, mended.as_ref(), errand);
     advise(rt, status, findings, read.again, errand);
 }
 
-// Writes the waves into their file, whole or not at all. An error is that of the run, and the one of the system.
-fn draw<R: Files + Print + Eprint + Clock + AllocGlobal>(
+// Writes the waves into their file, whole or not at all.
+fn draw<'a, R: Files + Print + Eprint + Clock + AllocGlobal>(
     rt: &R,
     wave: &str,
     ids: FilesRead<'_>,
-    errand: Errand<'_>,
-) -> Result<(), (RunError, Option<io::Error>)> {
-    let form = Form::of(errand.request.wave());
-    let mut sheet = Watched::new(Sheet::new(rt, form, ids, errand.extras.watcher));
+    errand: Errand<'a>,
+) -> Result<(), Unwritten<'a>> {
+    let file = errand.request.wave();
+    let mut sheet = Watched::new(Sheet::new(rt, Form::of(file), ids, errand.extras.watcher));
     let written = write_lines(&mut sheet, wave.as_bytes(), Status::Good);
     let mut sheet = sheet.into_inner();
     match sheet.settle(written) {
         Ok(_) => Ok(()),
-        Err(error) => Err((error, sheet.into_error())),
+        Err(error) => Err(Unwritten {
+            error,
+            reason: sheet.into_error(),
+            file,
+        }),
+    }
+}
+
+// A file that gets another text, by its path.
+type Replaced<'s, 'i, 'a, R> = (&'a str, Watched<Sheet<'s, 'i, R>>);
+
+// Writes each text that changes into its file, whole or not at all. All of them are written beside their files before the first one gets
+// its name, so that what can't be written at all leaves each as it was.
+fn put_in_place<'a, R: Files + Print + Eprint + Clock + AllocGlobal>(
+    rt: &R,
+    mended: &Mended,
+    ids: FilesRead<'_>,
+    errand: Errand<'a>,
+) -> Result<(), Unwritten<'a>> {
+    let mut sheets = Vec::new(rt.alloc());
+    let written = write_sheets(rt, mended, &mut sheets, ids, errand);
+    settle_sheets(sheets, written)
+}
+
+fn write_sheets<'s, 'i, 'a, R: Files + Print + Eprint + Clock + AllocGlobal>(
+    rt: &'s R,
+    mended: &Mended,
+    sheets: &mut Vec<Replaced<'s, 'i, 'a, R>>,
+    ids: FilesRead<'i>,
+    errand: Errand<'a>,
+) -> Result<Status, RunError>
+where
+    'a: 's,
+{
+    for number in mended.changed.iter() {
+        let number = *number as usize;
+        let path = errand.named().at(number).path;
+        let sheet = Sheet::new(rt, Form::InPlace(path), ids, errand.extras.watcher);
+        sheets.push((path, Watched::new(sheet)))?;
+        let text = mended.provenance.texts.get(number);
+        if let (Some((_, sheet)), Some(text)) = (sheets.last_mut(), text) {
+            write_lines(sheet, text.as_slice(), Status::Good)?;
+        }
+    }
+    Ok(Status::Good)
+}
+
+// Gives each its name, where all are written, and else none. Of what fails that is told of which the system says why.
+fn settle_sheets<'s, 'i, 'a, R: Files + Print + Eprint + Clock + AllocGlobal>(
+    sheets: Vec<Replaced<'s, 'i, 'a, R>>,
+    written: Result<Status, RunError>,
+) -> Result<(), Unwritten<'a>> {
+    let mut ended = written;
+    let mut failed: Option<Unwritten<'a>> = None;
+    for (path, sheet) in sheets {
+        let mut sheet = sheet.into_inner();
+        if let Err(error) = sheet.settle(ended) {
+            ended = Err(error);
+            let reason = sheet.into_error();
+            if failed.is_none() || reason.is_some() {
+                failed = Some(Unwritten {
+                    error,
+                    reason,
+                    file: Some(path),
+                });
+            }
+        }
+    }
+    match (failed, ended) {
+        (Some(failed), _) => Err(failed),
+        (None, Err(error)) => Err(Unwritten {
+            error,
+            reason: None,
+            file: None,
+        }),
+        (None, Ok(_)) => Ok(()),
     }
 }
 

@@ -3,8 +3,11 @@
 use command_words::Format;
 use growing_text::{Text, push_shown, shown, visible};
 use hints::Hints;
+use plan_text::PlanError;
 use plan_words::called;
-use refusal_objects::{Detail, TextDetail, code_of, hint_objects, refusal_object, word_object};
+use refusal_objects::{
+    Detail, Subject, TextDetail, code_of, hint_objects, refusal_object, word_object,
+};
 use run_parts::RunError;
 use run_values::Extras;
 use std::alloc::{AllocError, Global};
@@ -110,26 +113,58 @@ pub(crate) fn say_objects<R: Eprint>(rt: &R, objects: Result<String, AllocError>
     }
 }
 
-/// Writes the line of a refusal that is none of the libraries: this word, and the controller of which it speaks.
+/// Writes the line of a refusal that is none of the libraries: this word, and of what it speaks.
 pub(crate) fn refused_by_word<R: Eprint + AllocGlobal>(
     rt: &R,
     word: &'static str,
-    controller: Option<&str>,
+    subject: Subject<'_>,
     reason: &str,
     format: Format,
 ) {
     match format {
-        Format::Objects => say_refusal(rt, word_object(rt.alloc(), word, controller, reason)),
+        Format::Objects => say_refusal(rt, word_object(rt.alloc(), word, subject, reason)),
         Format::Messages => {
             let _ = eprintln!(rt; "twire: error: {reason}");
         }
-        Format::Lines => {
-            let _ = match visible(rt.alloc(), controller.unwrap_or("")) {
-                Ok(name) if controller.is_some() => eprintln!(rt; "refused {word} {name}"),
-                _ => eprintln!(rt; "refused {word}"),
-            };
-        }
+        Format::Lines => say_refused_word(rt, word, subject),
     }
+}
+
+fn say_refused_word<R: Eprint + AllocGlobal>(rt: &R, word: &'static str, subject: Subject<'_>) {
+    let said = match subject {
+        Subject::Controller(name) => visible(rt.alloc(), name),
+        Subject::Offers(numbers) => String::from_str(rt.alloc(), numbers),
+        Subject::Files(files) => listed(rt.alloc(), files),
+        Subject::Edited(error, file) => edited_words(rt.alloc(), error, file),
+        Subject::Nothing => Ok(String::new(rt.alloc())),
+    };
+    let _ = match said {
+        Ok(words) if !words.is_empty() => eprintln!(rt; "refused {word} {words}"),
+        _ => eprintln!(rt; "refused {word}"),
+    };
+}
+
+// Names of files, as far as a terminal shows them.
+fn listed(alloc: Global, files: &[&str]) -> Result<String, AllocError> {
+    let mut text = Text::new(alloc);
+    for (k, file) in files.iter().enumerate() {
+        if k != 0 {
+            text.push(", ");
+        }
+        push_shown(&mut text, file);
+    }
+    text.finish()
+}
+
+// What is refused in an edited text, and its file.
+fn edited_words(alloc: Global, error: PlanError, file: Option<&str>) -> Result<String, AllocError> {
+    let mut text = Text::new(alloc);
+    text.push_made(format!(in alloc; "{error}"));
+    if let Some(file) = file {
+        text.push(" of ");
+        push_shown(&mut text, file);
+    }
+    text.finish()
 }
 
 /// Writes hints. Where there is no memory for them, or standard error takes nothing, there are none.

@@ -7,7 +7,7 @@ use cert_check::Answered;
 use dump_findings::Seen;
 use dump_tokens::Window;
 use given_plans::{GivenPlan, Halted, Provenance, RefusedText};
-use hints::{Found, NoWaves};
+use hints::{Found, NoWaves, Then, Untaken};
 use plan_core::Plan;
 use plan_text::{NoBrief, PlanError};
 use plays::RefusedStarters;
@@ -24,6 +24,18 @@ pub struct Ended {
     pub findings: Findings,
     /// What goes into the file for waves, where there is one, or why nothing does.
     pub wave: Option<Result<String, NoWaves>>,
+    /// The texts of its plan with the offers that were taken, where such were.
+    pub mended: Option<Mended>,
+}
+
+/// Texts with edits that mend the plan which they give.
+#[derive(Drop)]
+pub struct Mended {
+    /// What the plan was read from then: all texts, in the order of the files.
+    pub provenance: Provenance,
+    /// The numbers of those that are others than they were, from 0 on.
+    pub changed: Vec<u32>,
+    pub then: Then,
 }
 
 impl Ended {
@@ -35,6 +47,7 @@ impl Ended {
             status,
             findings: Findings::Nothing,
             wave: None,
+            mended: None,
         }
     }
 }
@@ -87,6 +100,8 @@ pub enum Halt {
     NoTimescale,
     /// The line of the controller with this number is none that can be followed.
     NoDrive(usize, NoDrive),
+    /// Offers are not taken.
+    Untaken(Untaken),
 }
 
 /// Why the line of a controller cannot be followed.
@@ -129,7 +144,9 @@ impl Halt {
             Halt::Dump(error, _) => RunError::Vcd(*error),
             Halt::Text(error, _) => RunError::Plan(*error),
             Halt::NoBrief(_) => RunError::Brief(NoBrief::Name),
-            Halt::File(_) | Halt::NoTimescale | Halt::NoDrive(..) => RunError::Read,
+            Halt::File(_) | Halt::NoTimescale | Halt::NoDrive(..) | Halt::Untaken(_) => {
+                RunError::Read
+            }
         }
     }
 }
@@ -140,6 +157,12 @@ impl From<RunError> for Halt {
             RunError::Vcd(error) => Halt::Dump(error, None),
             _ => Halt::Run(error),
         }
+    }
+}
+
+impl From<Untaken> for Halt {
+    fn from(untaken: Untaken) -> Halt {
+        Halt::Untaken(untaken)
     }
 }
 

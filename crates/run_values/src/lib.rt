@@ -11,6 +11,8 @@ mod extras;
 mod sources;
 
 pub use dumps::{halted, halted_by, open_dump};
-pub use endings::{Ended, Findings, Halt, NoDrive, Recorded, RefusedSource, Takes, UnreadFile};
+pub use endings::{
+    Ended, Findings, Halt, Mended, NoDrive, Recorded, RefusedSource, Takes, UnreadFile,
+};
 pub use extras::{Extras, Style};
 pub use sources::{Sources, words_of};

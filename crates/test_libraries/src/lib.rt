@@ -11,6 +11,8 @@ mod certificates;
 #[cfg(test)]
 mod dumps;
 #[cfg(test)]
+mod edits;
+#[cfg(test)]
 mod gates;
 #[cfg(test)]
 mod messages;

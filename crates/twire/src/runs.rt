@@ -59,11 +59,14 @@ fn run_words<R: Files + Env + Input + Print + Eprint + AllocGlobal + Threads + W
                 request,
                 further,
                 drives,
+                taken,
                 manner,
             },
         ) => {
             let errand = Errand {
-                request: request.with_drives(drives.as_slice()),
+                request: request
+                    .with_drives(drives.as_slice())
+                    .with_taken(taken.as_slice()),
                 further: further.as_slice(),
                 extras: extras_of(rt, manner, terminals),
                 board: None,

@@ -1,9 +1,9 @@
 // Which run a request is, over which files.
 
-use command_words::Request;
+use command_words::{Mend, Request, Taking};
 use dump_runs::{decode, explain_capture, learn, learn_with_names, list_signals};
 use page_runs::{write_page_alone, write_page_with};
-use plan_runs::{bench, bench_alone, check, order, rewrite, verify};
+use plan_runs::{bench, bench_alone, check, list_offers, order, rewrite, take_offers, verify};
 use run_ends::Errand;
 use run_parts::{Input, Output, RunError};
 use run_values::{Ended, Halt, Sources};
@@ -28,6 +28,15 @@ pub fn run_over<
     let style = extras.style();
     match errand.request {
         Request::Check { look, .. } => check(rt, texts, out, look, extras),
+        Request::Mend {
+            mend: Mend {
+                taking: Taking::Nothing,
+                workers,
+                ..
+            },
+            ..
+        } => list_offers(rt, texts, out, workers, extras),
+        Request::Mend { mend, .. } => take_offers(rt, texts, out, mend, extras),
         Request::Verify { explain, .. } => {
             verify(alloc, texts, given(second)?, out, explain, extras)
         }

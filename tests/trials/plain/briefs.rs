@@ -23,6 +23,28 @@ pub fn expansion_of<T: AsRef<str>>(briefs: &[T]) -> Result<String, (usize, Refus
     Ok(board.to_string())
 }
 
+/// What each message and each interrupt of these briefs, in the order of the plan, is called there, and where it comes from: the
+/// number of the brief, and how many of its bytes stand before the name of the item.
+pub fn origins_of<T: AsRef<str>>(briefs: &[T]) -> Result<[Vec<(String, Origin)>; 2], Refusal> {
+    let mut board = Board::default();
+    for brief in briefs {
+        board.read(brief.as_ref())?;
+    }
+    let origins = |lines: Vec<Line>| lines.into_iter().map(|line| (line.name, line.origin)).collect();
+    Ok([origins(board.messages), origins(board.interrupts)])
+}
+
+/// The families of these briefs, each with its messages: those of a RANGE or a choice, and then those that a message makes for the
+/// devices of a group. So the narrowest one that makes a message is the first.
+pub fn families_of<T: AsRef<str>>(briefs: &[T]) -> Result<Vec<Vec<String>>, Refusal> {
+    let mut board = Board::default();
+    for brief in briefs {
+        board.read(brief.as_ref())?;
+    }
+    let all = board.families.iter().chain(&board.grouped);
+    Ok(all.map(|one| board.named(&one.name)).collect())
+}
+
 /// What a brief has names for: devices and data bytes with their bits, messages and families, and controllers.
 pub struct Declared {
     pub devices: Vec<(String, String)>,
@@ -106,10 +128,18 @@ pub fn has_brief_word(items: &Items) -> bool {
     items.names().any(|name| !Language::Brief.is_name(name))
 }
 
-/// A message, or an interrupt, as its line in the plan.
+/// Where an item stands: in which brief, and how many bytes stand before its name.
+#[derive(Clone, Copy, Debug, PartialEq, Eq)]
+pub struct Origin {
+    pub brief: usize,
+    pub at: usize,
+}
+
+/// A message, or an interrupt, as its line in the plan, and where its item stands.
 pub struct Line {
     name: String,
     words: String,
+    origin: Origin,
 }
 
 // A family and the names of its messages, a controller and the names of what it lists, or a group and its devices.
@@ -150,6 +180,8 @@ struct Part {
 /// What was read of briefs.
 #[derive(Default)]
 pub struct Board {
+    // How many were read.
+    briefs: usize,
     pub devices: Vec<Known>,
     pub bytes: Vec<Known>,
     pub messages: Vec<Line>,
@@ -181,7 +213,13 @@ impl Board {
                 _ => return Err(word.refused(3)),
             }
         }
+        self.briefs += 1;
         reading.end()
+    }
+
+    // The place of an item, by its name.
+    fn origin(&self, name: Word) -> Origin {
+        Origin { brief: self.briefs, at: name.at }
     }
 
     fn read_device(&mut self, reading: &mut Reading) -> Result<(), Refusal> {
@@ -217,7 +255,7 @@ impl Board {
         let end = reading.next()?;
         end.only_if(end.is(";"), 3)?;
         let Some(group) = groups.first() else {
-            self.add_messages(name, range, &frames, "");
+            self.add_messages(name, range, &frames, "", self.origin(word));
             return Ok(());
         };
         end.only_if(groups.iter().all(|one| one == group), 3)?;
@@ -234,21 +272,21 @@ impl Board {
         end.only_if(all.len() == count && !all.iter().any(|name| self.has_message(name)), 7)?;
         for (name, device) in names.iter().zip(&devices) {
             let bits = self.devices.iter().find(|one| one.name == *device).map_or(String::new(), |one| one.bits.clone());
-            self.add_messages(name, range, &frames, &bits);
+            self.add_messages(name, range, &frames, &bits, self.origin(word));
         }
         self.grouped.push(Listed { name: name.into(), messages: names });
         Ok(())
     }
 
     // The messages of this name, where a group means these bits.
-    fn add_messages(&mut self, name: &str, range: Option<Range>, frames: &[Frame], device: &str) {
+    fn add_messages(&mut self, name: &str, range: Option<Range>, frames: &[Frame], device: &str, origin: Origin) {
+        let line = |name: &str, number: u32| Line { name: name.into(), words: words_of(frames, number, device), origin };
         let Some(range) = range else {
-            self.messages.push(Line { name: name.into(), words: words_of(frames, 0, device) });
+            self.messages.push(line(name, 0));
             return;
         };
         let messages = range.names(name);
-        let lines = (range.least..).zip(&messages);
-        let lines = lines.map(|(number, name)| Line { name: name.clone(), words: words_of(frames, number, device) });
+        let lines = (range.least..).zip(&messages).map(|(number, name)| line(name, number));
         self.messages.extend(lines);
         self.families.push(Listed { name: name.into(), messages });
     }
@@ -321,6 +359,7 @@ impl Board {
     fn read_interrupt(&mut self, reading: &mut Reading) -> Result<(), Refusal> {
         let word = reading.name()?;
         let name = word.text.to_string();
+        let origin = self.origin(word);
         word.only_if(self.interrupts.iter().all(|one| one.name != name), 7)?;
         word.only_if(self.interrupts.len() < MOST_INTERRUPTS, 6)?;
         let word = reading.next()?;
@@ -328,7 +367,7 @@ impl Board {
         let to = bits_said(word, reading.language(), &self.devices, 7)?;
         word.only_if(has_form(&to, 7, &KNOWN), 3)?;
         reading.expect(";")?;
-        self.interrupts.push(Line { name, words: to });
+        self.interrupts.push(Line { name, words: to, origin });
         Ok(())
     }
 
@@ -440,14 +479,14 @@ impl Board {
 impl fmt::Display for Board {
     fn fmt(&self, f: &mut fmt::Formatter) -> fmt::Result {
         writeln!(f, "plan 2")?;
-        for Line { name, words } in &self.messages {
+        for Line { name, words, .. } in &self.messages {
             writeln!(f, "message {name} {words} ;")?;
         }
         for Part { party, messages } in &self.parts() {
             let listed: String = messages.iter().map(|message| format!(" {message}")).collect();
             writeln!(f, "controller {}{listed} ;", party.name())?;
         }
-        for Line { name, words } in &self.interrupts {
+        for Line { name, words, .. } in &self.interrupts {
             writeln!(f, "interrupt {name} {words} ;")?;
         }
         for (first, second) in &self.pairs_apart() {

@@ -16,6 +16,7 @@ use super::pairs::{first_clash, proof_of};
 use super::participants::{Participant, Participants};
 use super::plans::items_of;
 use super::seats::Bench;
+use super::sources::Source;
 use super::wires::symbols;
 use super::words::Refusal;
 use super::writing::written;
@@ -47,8 +48,8 @@ pub fn with_plan<T>(plan: &[u8], answer: impl FnOnce(&Participants) -> T) -> Res
     Ok(answer(&Participants::of(&items)))
 }
 
-// The text of a plan, also where it is given as a brief: one that does not begin as a plan.
-fn plan_given(text: &[u8]) -> Result<String, Refusal> {
+/// The text of a plan, also where it is given as a brief: one that does not begin as a plan.
+pub fn plan_given(text: &[u8]) -> Result<String, Refusal> {
     let text = String::from_utf8_lossy(text).into_owned();
     if begins_board(&text) {
         return expansion(&text);
@@ -303,28 +304,40 @@ pub struct File<'a> {
 
 /// `twire expand BRIEF..`, where heads may name these files and no others. The refusal of one of several names its file.
 pub fn expand(briefs: &[File]) -> Answer {
-    let given: Vec<_> = briefs
-        .iter()
-        .map(|brief| Text {
-            path: brief.name.to_owned(),
-            file: brief.name.to_owned(),
-            text: String::from_utf8_lossy(brief.text).into_owned(),
-        })
-        .collect();
-    let look = |path: &str| {
-        let one = given.iter().find(|one| one.path == path.trim_start_matches("./"))?;
-        Some((one.file.clone(), one.text.clone()))
-    };
-    let list = match list_of(&given, &look) {
+    let list = match listed_texts(briefs) {
         Ok(list) => list,
         Err(refusal) => return Answer::refused(refusal),
     };
     let texts: Vec<_> = list.iter().map(|one| one.text.as_str()).collect();
     match expansion_of(&texts) {
         Ok(plan) => Answer::written(0, spelling(plan.as_bytes())),
-        Err((_, refusal)) if list.len() == 1 && given.len() == 1 => Answer::refused(refusal),
+        Err((_, refusal)) if list.len() == 1 && briefs.len() == 1 => Answer::refused(refusal),
         Err((number, refusal)) => Answer::refused(format!("{refusal} of {}", list[number].path)),
     }
+}
+
+// The texts of the board that these files give, in order.
+fn listed_texts(files: &[File]) -> Result<Vec<Text<String>>, String> {
+    let given: Vec<_> = files
+        .iter()
+        .map(|file| Text {
+            path: file.name.to_owned(),
+            file: file.name.to_owned(),
+            text: String::from_utf8_lossy(file.text).into_owned(),
+        })
+        .collect();
+    let look = |path: &str| {
+        let one = given.iter().find(|one| one.path == path.trim_start_matches("./"))?;
+        Some((one.file.clone(), one.text.clone()))
+    };
+    list_of(&given, &look)
+}
+
+/// The texts that give the plan of these files, in the order of their board, each as it is called.
+pub fn sources_of(files: &[File]) -> Vec<Source> {
+    let list = listed_texts(files).unwrap_or_default();
+    let text = |of: &str| files.iter().find(|file| file.name == of).map_or(&b""[..], |file| file.text);
+    list.iter().map(|one| Source::of(&one.path, text(&one.file))).collect()
 }
 
 /// `twire brief PLAN`.

@@ -1,8 +1,8 @@
-//! What is said of a plan beyond its report: how often two are decided where, what mends an unsafe
-//! plan, and what was not checked (docs/COMMAND_LINE.md, "Objects").
+//! What is said of a plan beyond its report: how often two are decided where, and what was not checked
+//! (docs/COMMAND_LINE.md, "Objects"). What mends an unsafe plan stands in `offers`.
 
 use super::found::Fault;
-use super::participants::{Participant, Participants};
+use super::participants::Participants;
 use super::plans::Items;
 use super::senders::{Place, Sender};
 use super::wires::Item;
@@ -40,49 +40,10 @@ pub fn decided(x: &Sender, y: &Sender) -> Decided {
     Decided::Alike
 }
 
-/// What mends an unsafe plan, as far as `never` does.
-#[derive(Clone, Debug, PartialEq, Eq)]
-pub struct Mends {
-    /// The controllers that are to be kept apart, by their places: those of each unsafe pair, where it
-    /// has two, in the order of the pairs, and no two twice.
-    pub nevers: Vec<(usize, usize)>,
-    /// How many pairs these leave unchecked.
-    pub unchecked: usize,
-    /// The unsafe pairs with an interrupt, which no `never` keeps apart.
-    pub interrupts: Vec<usize>,
-}
-
-pub fn mends(items: &Items, faults: &[Fault]) -> Mends {
-    let mut nevers: Vec<(usize, usize)> = Vec::new();
-    let mut interrupts = Vec::new();
-    for Fault { pair, x, y, .. } in faults {
-        match controllers(x, y) {
-            Some((c, d)) if nevers.contains(&(c, d)) || nevers.contains(&(d, c)) => {}
-            Some(both) => nevers.push(both),
-            None => interrupts.push(*pair),
-        }
-    }
-    Mends { unchecked: pairs_of(items, &nevers), nevers, interrupts }
-}
-
-/// The same, as it is said: items after which nothing is left to check are not named.
-pub fn offered(items: &Items, faults: &[Fault]) -> Mends {
-    let found = mends(items, faults);
-    if found.unchecked < Participants::of(items).pairs().len() {
-        return found;
-    }
-    Mends { nevers: Vec::new(), unchecked: 0, ..found }
-}
-
-fn controllers(x: &Participant, y: &Participant) -> Option<(usize, usize)> {
-    Some((x.controller?, y.controller?))
-}
-
-// How many pairs the controllers have that are kept apart so: each message of the one with each of the
-// other.
-fn pairs_of(items: &Items, nevers: &[(usize, usize)]) -> usize {
-    let count = |place: usize| items.controllers.get(place).map_or(0, |one| one.sends.len());
-    nevers.iter().map(|(c, d)| count(*c) * count(*d)).sum()
+/// The numbers of the unsafe pairs with an interrupt, which no `never` keeps apart.
+pub fn with_interrupts(faults: &[Fault]) -> Vec<usize> {
+    let has_interrupt = |fault: &&Fault| fault.x.controller.is_none() || fault.y.controller.is_none();
+    faults.iter().filter(has_interrupt).map(|fault| fault.pair).collect()
 }
 
 /// How many pairs the `never` items of the plan leave out: there are so many more without these.

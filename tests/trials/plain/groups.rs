@@ -29,14 +29,15 @@ pub struct Group {
     pub between: Vec<[String; 2]>,
 }
 
-/// The groups of these unsafe pairs of a plan: that of the most pairs first, and of several by the wires of their examples.
-pub fn groups_of(plan: &Participants, faults: &[Fault]) -> Vec<Group> {
+/// The groups of these unsafe pairs of a plan, where briefs with such families mean it: that of the most pairs first, and of several
+/// by the wires of their examples.
+pub fn groups_of(plan: &Participants, faults: &[Fault], families: &[Vec<String>]) -> Vec<Group> {
     let mut order: Vec<usize> = (0..faults.len()).collect();
     order.sort_by_key(|place| faults[*place].clash.wire.len());
     let mut numbers: HashMap<Likeness, usize> = HashMap::new();
     let mut groups: Vec<Group> = Vec::new();
     for place in order {
-        let likeness = likeness_of(plan, &faults[place]);
+        let likeness = likeness_of(plan, families, &faults[place]);
         let number = *numbers.entry(likeness.clone()).or_insert(groups.len());
         if number == groups.len() {
             groups.push(Group { likeness, pairs: Vec::new(), between: Vec::new() });
@@ -44,7 +45,7 @@ pub fn groups_of(plan: &Participants, faults: &[Fault]) -> Vec<Group> {
         groups[number].pairs.push(place);
     }
     groups.sort_by_key(|group| Reverse(group.pairs.len()));
-    let parties: Vec<String> = plan.all.iter().map(|one| party(plan, &one.label)).collect();
+    let parties: Vec<String> = plan.all.iter().map(|one| party(plan, families, &one.label)).collect();
     let called: HashMap<&str, usize> = plan.all.iter().enumerate().map(|(k, one)| (one.label.as_str(), k)).collect();
     for group in &mut groups {
         let first = |label: &str| parties.iter().position(|it| *it == parties[called[label]]).unwrap_or_default();
@@ -65,12 +66,12 @@ pub fn groups_of(plan: &Participants, faults: &[Fault]) -> Vec<Group> {
     groups
 }
 
-fn likeness_of(plan: &Participants, fault: &Fault) -> Likeness {
-    let families = [&fault.x.label, &fault.y.label].map(|label| family(plan, label));
-    let has_several = families.iter().any(|it| it.ends_with('*'));
+fn likeness_of(plan: &Participants, families: &[Vec<String>], fault: &Fault) -> Likeness {
+    let sides = [&fault.x.label, &fault.y.label].map(|label| family(plan, families, label));
+    let has_several = sides.iter().any(|it| it.ends_with('*'));
     let wire = &fault.clash.wire;
     let slot = wire.iter().rev().take_while(|item| **item != Item::Again).count();
-    let [first, second] = families;
+    let [first, second] = sides;
     let mut sides = [(first, fault.clash.first.word()), (second, fault.clash.second.word())];
     sides.sort_unstable();
     Likeness {
@@ -82,13 +83,18 @@ fn likeness_of(plan: &Participants, fault: &Fault) -> Likeness {
     }
 }
 
-// The family of a participant: that of its message, or the interrupt.
-fn family(plan: &Participants, label: &str) -> String {
+// The family of a participant: that of its message, or the interrupt. No name has a `:`.
+fn family(plan: &Participants, families: &[Vec<String>], label: &str) -> String {
     let Some((_, name)) = label.split_once('/') else {
         return label.to_owned();
     };
+    let made_with = |name: &str| families.iter().find(|it| it.iter().any(|one| one == name));
+    if let Some(made) = made_with(name) {
+        return if made.len() > 1 { format!("{}:*", made[0]) } else { name.to_owned() };
+    }
+    let is_kin = |other: &str| stem(other) == stem(name) && made_with(other).is_none();
     match stem(name) {
-        Some(it) if plan.items.messages.iter().filter(|other| stem(other.name) == Some(it)).count() > 1 => format!("{it}*"),
+        Some(it) if plan.items.messages.iter().filter(|other| is_kin(other.name)).count() > 1 => format!("{it}*"),
         _ => name.to_owned(),
     }
 }
@@ -99,9 +105,9 @@ fn stem(name: &str) -> Option<&str> {
     (stem != name).then_some(stem)
 }
 
-fn party(plan: &Participants, label: &str) -> String {
+fn party(plan: &Participants, families: &[Vec<String>], label: &str) -> String {
     match label.split_once('/') {
-        Some((controller, _)) => format!("{controller}/{}", family(plan, label)),
+        Some((controller, _)) => format!("{controller}/{}", family(plan, families, label)),
         None => label.to_owned(),
     }
 }

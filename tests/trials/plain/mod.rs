@@ -26,15 +26,20 @@ pub mod learned;
 pub mod lines;
 mod meanings;
 mod messages;
+#[cfg(test)]
+mod missing;
+pub mod offers;
+#[cfg(test)]
+mod offers_tests;
 mod order;
 mod pairs;
 mod participants;
-pub mod partings;
 mod plans;
 #[cfg(test)]
 mod runs;
 mod seats;
 mod senders;
+pub mod sources;
 #[cfg(test)]
 mod tests;
 #[cfg(test)]
@@ -47,10 +52,11 @@ pub use briefs::begins_board;
 pub use certificates::{read_certificate, Certificate, Wrong};
 pub use commands::{
     bench, brief, capture, capture_on, captured_so_far, certify, check, decode, decode_on, decode_summary,
-    decoded_lines_so_far, expand, labels, learn, order, seats, spelling, verify, with_plan, Answer, File,
+    decoded_lines_so_far, expand, labels, learn, order, seats, sources_of, spelling, verify, with_plan, Answer, File,
 };
 pub use dumps::{place_of_refusal, Level};
 pub use order::Ways;
 pub use pairs::break_of;
 pub use participants::{Participant, Participants};
 pub use wires::{symbols, Item, Kind};
+pub use words::Word;

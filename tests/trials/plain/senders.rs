@@ -51,19 +51,6 @@ impl Part<'_> {
     }
 }
 
-impl<'a> Part<'a> {
-    /// A header or a byte with other bits.
-    pub fn with_bits(self, bits: &'a str) -> Part<'a> {
-        match self {
-            Part::Write(_) => Part::Write(bits),
-            Part::Read(_) => Part::Read(bits),
-            Part::Interrupt(_) => Part::Interrupt(bits),
-            Part::Byte(_) => Part::Byte(bits),
-            Part::Count { .. } | Part::Again | Part::Stop | Part::Else => self,
-        }
-    }
-}
-
 /// The canonical spelling.
 impl fmt::Display for Part<'_> {
     fn fmt(&self, f: &mut fmt::Formatter) -> fmt::Result {
@@ -179,14 +166,6 @@ impl<'a> Sender<'a> {
             (Some(Part::Write(_) | Part::Read(_) | Part::Byte(_)), Item::Heard(true)) => Place::at(self.refused(part)),
             _ => next,
         }
-    }
-
-    /// Which bit of which part comes next after this wire, if that is one of a header or a byte and open.
-    pub fn open_bit(&self, wire: &[Item]) -> Option<(usize, usize)> {
-        let Place { part, slot, .. } = self.end_of(wire)?;
-        let next = self.part(part)?;
-        let is_open = slot < 8 && (next.is_header() || next.is_byte()) && next.bit(slot).is_none();
-        is_open.then_some((part, slot))
     }
 
     /// Where a sender stands that has put all of this wire, if it may put it.

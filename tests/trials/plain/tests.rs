@@ -8,8 +8,7 @@ use super::captures::{events_of, explains, samples_of, transactions_of, Mark, Tr
 use super::commands::{capture, certify, check, expand, learn, seats, verify, Answer, File};
 use super::drives::{driven, Does};
 use super::dumps::{changes_of, changes_on, Change, DumpRefusal, Level, Signal};
-use super::explained::{decided, kept_apart, mends, Decided};
-use super::found::checked;
+use super::explained::{decided, Decided};
 use super::generated;
 use super::learned::{learned, Data};
 use super::lines::Lines;
@@ -234,44 +233,7 @@ fn pairs_suffice_for_all_sets() {
     }
 }
 
-// ---- what mends a plan, and where two part
-
-// The items in words, without the one at this place, if any.
-fn never_items(items: &Items, nevers: &[(usize, usize)], without: Option<usize>) -> String {
-    let kept = nevers.iter().enumerate().filter(|(k, _)| Some(*k) != without);
-    let name = |place: usize| items.controllers[place].name;
-    kept.map(|(_, (c, d))| format!(" never {} {} ;", name(*c), name(*d))).collect()
-}
-
-// How many pairs the plan has, how many are left out, and how many of two controllers have a fault.
-fn counts_of(text: &str) -> (usize, usize, usize) {
-    let items = items(text);
-    let plan = Participants::of(&items);
-    let checked = checked(&plan);
-    let faulty = checked.faults.iter().filter(|fault| fault.y.controller.is_some());
-    (checked.pairs, kept_apart(&items), faulty.count())
-}
-
-#[test]
-fn the_items_mend_generated_plans_and_each_is_wanted() {
-    let mut dice = Dice { state: 20_261_126 };
-    let mut wanted = 0;
-    for _ in 0..16 {
-        let text = generated::plan(&mut dice);
-        let items = items(&text);
-        let plan = Participants::of(&items);
-        let mends = mends(&items, &checked(&plan).faults);
-        let (pairs, apart, _) = counts_of(&text);
-        let mended = text.clone() + &never_items(&items, &mends.nevers, None);
-        assert_eq!(counts_of(&mended), (pairs - mends.unchecked, apart + mends.unchecked, 0), "{mended}");
-        for k in 0..mends.nevers.len() {
-            let less = text.clone() + &never_items(&items, &mends.nevers, Some(k));
-            assert!(counts_of(&less).2 > 0, "{less}");
-            wanted += 1;
-        }
-    }
-    assert!(wanted > 16, "{wanted}");
-}
+// ---- where two part
 
 // A proof has first what follows the acknowledges, so where its first leaf stands the two part.
 #[test]

@@ -19,16 +19,22 @@ impl fmt::Display for Refusal {
     }
 }
 
-/// A word, and the line on which it stands.
+/// A word, the line on which it stands, and how many bytes of the text stand before it.
 #[derive(Clone, Copy, Debug)]
 pub struct Word<'a> {
     pub text: &'a str,
     pub line: usize,
+    pub at: usize,
 }
 
 impl Word<'_> {
     pub fn is(&self, text: &str) -> bool {
         self.text == text
+    }
+
+    /// How many bytes of the text stand before its end.
+    pub fn end(&self) -> usize {
+        self.at + self.text.len()
     }
 
     /// The refusal of this code at this word.
@@ -125,6 +131,7 @@ fn string_in(text: &str) -> &str {
 pub struct Reading<'a> {
     language: Language,
     words: Vec<Word<'a>>,
+    comments: Vec<&'a str>,
     at: usize,
     // The line of the end of the text, or the refusal of the character behind the last word.
     ending: Result<usize, Refusal>,
@@ -134,11 +141,19 @@ impl<'a> Reading<'a> {
     /// A text of which no word has been read.
     pub fn new(text: &'a str, language: Language) -> Reading<'a> {
         let mut words = Vec::new();
+        let mut comments = Vec::new();
+        let mut at = 0;
         let ending = (1..).zip(text.split('\n')).try_fold(1, |_, (line, content)| {
-            push_words(&mut words, content, line, language)?;
+            comments.extend(push_words(&mut words, content, Start { line, at }, language)?);
+            at += content.len() + 1;
             Ok(line)
         });
-        Reading { language, words, at: 0, ending }
+        Reading { language, words, comments, at: 0, ending }
+    }
+
+    /// All words of the text, and its comments.
+    pub fn all(self) -> (Vec<Word<'a>>, Vec<&'a str>) {
+        (self.words, self.comments)
     }
 
     /// The language of the text.
@@ -207,24 +222,36 @@ impl<'a> Reading<'a> {
     }
 }
 
-// The words of a line, and the refusal of the first character that cannot stand there.
-fn push_words<'a>(words: &mut Vec<Word<'a>>, content: &'a str, line: usize, language: Language) -> Result<(), Refusal> {
+// The number of a line, and how many bytes stand before it.
+#[derive(Clone, Copy)]
+struct Start {
+    line: usize,
+    at: usize,
+}
+
+// The words of a line, and the refusal of the first character that cannot stand there. It answers the comment behind them.
+fn push_words<'a>(
+    words: &mut Vec<Word<'a>>,
+    content: &'a str,
+    Start { line, at }: Start,
+    language: Language,
+) -> Result<Option<&'a str>, Refusal> {
     let mut rest = content;
     loop {
         rest = rest.trim_start_matches([' ', '\t', '\r']);
         let Some(next) = rest.chars().next() else {
-            return Ok(());
+            return Ok(None);
         };
         if next == '#' {
             let is_allowed = rest.is_ascii() || language == Language::Board;
-            return if is_allowed { Ok(()) } else { Err(Refusal { code: 1, line }) };
+            return if is_allowed { Ok(Some(rest)) } else { Err(Refusal { code: 1, line }) };
         }
         let text = language.first_word(rest, words);
         if text.is_empty() {
             let code = if next.is_ascii() { 3 } else { 1 };
             return Err(Refusal { code, line });
         }
-        words.push(Word { text, line });
+        words.push(Word { text, line, at: at + content.len() - rest.len() });
         rest = rest.strip_prefix(text).unwrap_or("");
     }
 }

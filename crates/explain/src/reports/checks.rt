@@ -1,17 +1,19 @@
 // The report of a check, explained.
 
+use crate::commands::command_for_all;
 use crate::faults::below_unsafe;
-use crate::group_lines::{above_rest, of_group, of_rest};
+use crate::group_lines::{above_rest, of_group, of_rest, offers_for};
 use crate::plans::below_safe;
 use crate::reports::{BLOCK, write_block};
 use crate::unchecked::below_checked;
 use bus_rows::{Paint, meeting_of};
 use certificate::Fault;
 use growing_text::Text;
+use offers::{Offers, Reasons, Shown, advice_for_all};
 use plan_core::Plan;
-use plan_findings::{Detail, offers_for_all};
+use plan_findings::Detail;
 use plan_words::PlanWords;
-use remedies::{Grouped, Mends, Reasons, both_of};
+use remedies::{Grouped, both_of};
 use report::{push_count, push_fault};
 use run_parts::{Output, RunError};
 use std::alloc::{AllocError, Global};
@@ -38,10 +40,37 @@ pub fn explain_check<O: Output>(
     if detail.pairs {
         write_pairs(alloc, plan, faults, &mut text, out)?;
     }
-    if let Some(Reasons::Unsafe(_, groups)) = reasons {
+    if let Some(Reasons::Unsafe(groups, offers)) = reasons {
+        let groups = (groups, offers);
         write_groups(alloc, words, faults, groups, detail.groups, &mut text, out)?;
     }
-    push_end(alloc, &mut text, checked, words, reasons, paint);
+    let shown = Shown::Explained(detail.groups as usize);
+    push_end(alloc, &mut text, checked, words, reasons, shown, paint);
+    write_block(text, out)
+}
+
+/// Writes what is offered to mend each group of the unsafe pairs of a check: all of it, group by group, and then the last lines of its
+/// report. Of a safe plan there are no reasons, and the last line alone is written.
+///
+/// # Errors
+///
+/// `Write` where the writer failed or took no bytes, and `NoMemory`. A part of the lines may have been written.
+pub fn explain_offers<O: Output>(
+    alloc: Global,
+    checked: &Checked,
+    words: PlanWords<'_>,
+    reasons: Option<&Reasons>,
+    paint: Paint,
+    out: &mut O,
+) -> Result<(), RunError> {
+    let mut text = Text::new(alloc);
+    if let Some(Reasons::Unsafe(groups, offers)) = reasons {
+        for g in 0..groups.len() {
+            text.push_made(offers_for(alloc, words, (groups, offers), g));
+            write_full(alloc, &mut text, out)?;
+        }
+    }
+    push_end(alloc, &mut text, checked, words, reasons, Shown::All, paint);
     write_block(text, out)
 }
 
@@ -65,14 +94,15 @@ fn write_groups<O: Output>(
     alloc: Global,
     words: PlanWords<'_>,
     faults: &Faults,
-    groups: &Grouped,
+    unsafe_groups: (&Grouped, &Offers),
     most: u32,
     text: &mut Text,
     out: &mut O,
 ) -> Result<(), RunError> {
+    let (groups, _) = unsafe_groups;
     let explained = groups.len().min(most as usize);
     for g in 0..explained {
-        text.push_made(example_of(alloc, words, faults, groups, g));
+        text.push_made(example_of(alloc, words, faults, unsafe_groups, g));
         write_full(alloc, text, out)?;
     }
     if explained < groups.len() {
@@ -93,13 +123,14 @@ fn write_full<O: Output>(alloc: Global, text: &mut Text, out: &mut O) -> Result<
     Ok(())
 }
 
-// The last line, and below it the reasons and what was not checked.
+// The last line, and below it the reasons, where this is shown of offers, and what was not checked.
 fn push_end(
     alloc: Global,
     text: &mut Text,
     checked: &Checked,
     words: PlanWords<'_>,
     reasons: Option<&Reasons>,
+    shown: Shown,
     paint: Paint,
 ) {
     let Checked { plan, faults } = checked;
@@ -108,24 +139,28 @@ fn push_end(
     paint.push_verdict(text, last_line(alloc, plan, faults.len()), word, is_safe);
     match reasons {
         Some(Reasons::Safe(safety)) => text.push_made(below_safe(alloc, safety)),
-        Some(Reasons::Unsafe(mends, groups)) => {
-            text.push_made(offered(alloc, words, faults, mends, groups))
+        Some(Reasons::Unsafe(_, offers)) => {
+            text.push_made(offered(alloc, words, offers, shown));
         }
         None => return,
     }
     text.push_made(below_checked(alloc, words));
 }
 
-// What is offered to mend all unsafe pairs.
+// What is offered to mend all unsafe pairs, where this is shown, and the command that makes these edits.
 fn offered(
     alloc: Global,
     words: PlanWords<'_>,
-    faults: &Faults,
-    mends: &Mends,
-    groups: &Grouped,
+    offers: &Offers,
+    shown: Shown,
 ) -> Result<String, AllocError> {
-    let offers = offers_for_all(alloc, words, faults, mends, groups)?;
-    below_unsafe(alloc, offers.as_slice())
+    let advice = advice_for_all(alloc, words, offers, shown)?;
+    let command = if offers.together.places.is_empty() {
+        None
+    } else {
+        command_for_all(alloc, words.files())?
+    };
+    below_unsafe(alloc, advice.as_slice(), command)
 }
 
 // The line of an unsafe pair.
@@ -142,16 +177,17 @@ fn example_of(
     alloc: Global,
     words: PlanWords<'_>,
     faults: &Faults,
-    groups: &Grouped,
+    unsafe_groups: (&Grouped, &Offers),
     g: usize,
 ) -> Result<String, AllocError> {
     let plan = words.plan();
+    let (groups, _) = unsafe_groups;
     match groups.group(g) {
         Some(group) if group.example < faults.len() => {
             let (pair, fault) = faults.get(group.example);
             let both = both_of(plan, pair);
             let meeting = meeting_of(alloc, plan, both, fault.wire.as_slice())?;
-            of_group(alloc, words, groups, g, (pair, both), &meeting)
+            of_group(alloc, words, unsafe_groups, g, (pair, both), &meeting)
         }
         _ => Ok(String::new(alloc)),
     }

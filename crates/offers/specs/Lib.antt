@@ -1,0 +1,4 @@
+pub mod Offered
+pub mod Open
+pub mod Reasons
+pub mod Tried
