@@ -14,9 +14,9 @@ pub(crate) struct Answers {
 }
 
 #[derive(Clone, Copy, Serialize)]
-struct Wrong {
+struct Wrong<'a> {
     code: i64,
-    message: &'static str,
+    message: &'a str,
 }
 
 impl Answers {
@@ -53,6 +53,17 @@ impl Answers {
             message: fault.words,
         };
         body.push_made(json(self.alloc, &wrong));
+        body.push("}");
+        self.frame(body.finish());
+    }
+
+    /// An error in answer to a request, by its number and in these words.
+    pub(crate) fn refusal(&mut self, id: &Value, code: i64, message: &str) {
+        let mut body = Text::new(self.alloc);
+        body.push("{\"jsonrpc\":\"2.0\",\"id\":");
+        body.push_made(id.to_string(self.alloc));
+        body.push(",\"error\":");
+        body.push_made(json(self.alloc, &Wrong { code, message }));
         body.push("}");
         self.frame(body.finish());
     }

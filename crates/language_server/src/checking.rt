@@ -130,7 +130,8 @@ fn refusals_of(
     Ok(all)
 }
 
-fn named<'a>(texts: &Texts<'a>) -> NamedSources<'a> {
+/// What people call these texts.
+pub(crate) fn named<'a>(texts: &Texts<'a>) -> NamedSources<'a> {
     NamedSources {
         first: Named {
             argument: "PLAN",

@@ -92,10 +92,10 @@ impl Documents {
     /// # Errors
     ///
     /// Where an allocation fails.
-    pub(crate) fn change(&mut self, uri: &str, text: &str) -> Result<bool, AllocError> {
+    pub(crate) fn change(&mut self, uri: &str, text: String) -> Result<bool, AllocError> {
         for one in self.open.iter_mut() {
             if one.uri.as_str() == uri {
-                one.text = String::from_str(self.alloc, text)?;
+                one.text = text;
                 return Ok(true);
             }
         }

@@ -1,6 +1,6 @@
 // The layout of a text.
 
-use crate::positions::{Lines, Range};
+use crate::positions::{Lines, Range, Units};
 use layout::formatted;
 use plan_text::PlanError;
 use serde::Serialize;
@@ -33,9 +33,14 @@ pub(crate) fn laid_out(alloc: Global, text: &[u8]) -> Result<Option<Vec<u8>>, Al
 /// # Errors
 ///
 /// Where an allocation fails.
-pub(crate) fn edit_of<'a>(alloc: Global, old: &[u8], new: &'a str) -> Result<Edit<'a>, AllocError> {
+pub(crate) fn edit_of<'a>(
+    alloc: Global,
+    old: &[u8],
+    new: &'a str,
+    units: Units,
+) -> Result<Edit<'a>, AllocError> {
     Ok(Edit {
-        range: Lines::of(alloc, old)?.whole(),
+        range: Lines::of(alloc, old, units)?.whole(),
         new_text: new,
     })
 }

@@ -2,19 +2,18 @@
 
 use crate::answers::{Answers, json};
 use crate::boards::is_second_version;
-use crate::checking::{names_after_first, texts_of, wrong_with};
+use crate::changes::{changed_text, position_in, range_in};
+use crate::checking::wrong_with;
 use crate::documents::{Document, Documents};
 use crate::formatting::{edit_of, laid_out};
-use crate::hovers::hover_of;
 use crate::plans::{Further, Given, given_by, heads_of, is_further, stands_for};
-use crate::positions::{Lines, Position};
-use crate::publishing::{location_of, marks_of, publish, publish_nothing};
-use crate::readings::{Reading, Word};
+use crate::positions::{Lines, Position, Units};
+use crate::publishing::{publish, publish_nothing};
+use crate::questions::{Question, Told, told_in};
 use crate::rpc::{
-    BAD_PARAMS, BEGUN, Call, Fault, Message, NO_JSON, NO_REQUEST, NOT_BEGUN, SHUT_DOWN, UNKNOWN,
-    message_of, number_in, text_in,
+    BAD_PARAMS, BEGUN, Call, Fault, Message, NO_JSON, NO_REQUEST, NOT_BEGUN, REFUSED, SHUT_DOWN,
+    UNKNOWN, message_of, text_in,
 };
-use growing_text::Text;
 use plan_text::is_plan;
 use run_parts::Status;
 use serde_json::Value;
@@ -33,6 +32,8 @@ pub(crate) struct Server<'a, R> {
     // the files that heads name, of which something was told
     told: Vec<String>,
     phase: Phase,
+    // what the client counts in a line
+    units: Units,
 }
 
 // What stands before the further files, where what is wrong with them is told.
@@ -53,19 +54,17 @@ enum Phase {
     Shut,
 }
 
+// What the client may ask for, after what it counts in a line.
 const CAPABILITIES: &str =
-    "{\"capabilities\":{\"positionEncoding\":\"utf-16\",\"textDocumentSync\":1,\
-\"hoverProvider\":true,\"definitionProvider\":true,\"documentFormattingProvider\":true},\
+    "\",\"textDocumentSync\":{\"openClose\":true,\"change\":2,\"save\":true},\
+\"hoverProvider\":true,\"definitionProvider\":true,\"referencesProvider\":true,\
+\"documentHighlightProvider\":true,\"renameProvider\":{\"prepareProvider\":true},\
+\"completionProvider\":{\"triggerCharacters\":[\"/\"]},\"documentSymbolProvider\":true,\
+\"foldingRangeProvider\":true,\"codeLensProvider\":{},\"inlayHintProvider\":true,\
+\"documentFormattingProvider\":true},\
 \"serverInfo\":{\"name\":\"twire\"}}";
 
 const NULL: &str = "null";
-
-// What is asked of a name.
-#[derive(Clone, Copy)]
-enum Question {
-    Hover,
-    Definition,
-}
 
 // A place of a document.
 #[derive(Clone, Copy)]
@@ -84,6 +83,7 @@ impl<'a, R: Files + AllocGlobal + Threads + Sync> Server<'a, R> {
             before: Before::Unknown,
             told: Vec::new(rt.alloc()),
             phase: Phase::New,
+            units: Units::Utf16,
         }
     }
 
@@ -138,7 +138,8 @@ impl<'a, R: Files + AllocGlobal + Threads + Sync> Server<'a, R> {
         match (self.phase, call.method) {
             (Phase::New, "initialize") => {
                 self.phase = Phase::Ready;
-                answers.made(id, String::from_str(self.rt.alloc(), CAPABILITIES));
+                self.units = units_in(call.params);
+                answers.made(id, capabilities(self.rt.alloc(), self.units));
                 Ok(None)
             }
             (Phase::New, _) => Ok(Some(NOT_BEGUN)),
@@ -150,13 +151,11 @@ impl<'a, R: Files + AllocGlobal + Threads + Sync> Server<'a, R> {
                 Ok(None)
             }
             (Phase::Ready, "textDocument/formatting") => self.format(id, call, answers),
-            (Phase::Ready, "textDocument/hover") => {
-                self.tell_name(Question::Hover, id, call, answers)
-            }
-            (Phase::Ready, "textDocument/definition") => {
-                self.tell_name(Question::Definition, id, call, answers)
-            }
-            (Phase::Ready, _) => Ok(Some(UNKNOWN)),
+            (Phase::Ready, method) => match question_of(method, call.params) {
+                Some(Some(question)) => self.tell(question, id, call, answers),
+                Some(None) => Ok(Some(BAD_PARAMS)),
+                None => Ok(Some(UNKNOWN)),
+            },
         }
     }
 
@@ -172,6 +171,9 @@ impl<'a, R: Files + AllocGlobal + Threads + Sync> Server<'a, R> {
             (Phase::Ready, "textDocument/didOpen") => self.opened(call.params, answers)?,
             (Phase::Ready, "textDocument/didChange") => self.changed(call.params, answers)?,
             (Phase::Ready, "textDocument/didClose") => self.closed(call.params, answers)?,
+            (Phase::Ready, "textDocument/didSave" | "workspace/didChangeWatchedFiles") => {
+                self.tell_anew(answers)?;
+            }
             _ => {}
         }
         Ok(None)
@@ -201,13 +203,28 @@ impl<'a, R: Files + AllocGlobal + Threads + Sync> Server<'a, R> {
     }
 
     fn changed(&mut self, params: Option<&Value>, answers: &mut Answers) -> Result<(), AllocError> {
-        let Some((uri, text)) = changed_in(params) else {
+        let Some((uri, changes)) = changes_in(params) else {
+            return Ok(());
+        };
+        let Some(document) = self.documents.find(uri) else {
+            return Ok(());
+        };
+        let text = document.text.as_str();
+        let Some(text) = changed_text(self.rt.alloc(), text, changes, self.units)? else {
             return Ok(());
         };
         if self.documents.change(uri, text)? {
             self.tell_all(uri, answers)?;
         }
         Ok(())
+    }
+
+    // A file that no editor has open may have changed.
+    fn tell_anew(&mut self, answers: &mut Answers) -> Result<(), AllocError> {
+        if self.further.is_empty() && self.told.is_empty() && !self.has_boards() {
+            return Ok(());
+        }
+        self.tell_each(answers)
     }
 
     fn closed(&mut self, params: Option<&Value>, answers: &mut Answers) -> Result<(), AllocError> {
@@ -242,7 +259,7 @@ impl<'a, R: Files + AllocGlobal + Threads + Sync> Server<'a, R> {
         };
         let is_file = self.is_file(number);
         if !is_file && self.has_plan(number) {
-            self.tell(Some(number), &[], false, answers)?;
+            self.tell_plan(Some(number), &[], false, answers)?;
             if !self.was_before_files(uri) && !self.has_boards() {
                 return Ok(());
             }
@@ -253,7 +270,7 @@ impl<'a, R: Files + AllocGlobal + Threads + Sync> Server<'a, R> {
         }
         let heads = heads_of(self.rt, &self.documents, self.further.as_slice())?;
         let is_first = self.before_files(heads.as_slice()) == Some(number);
-        self.tell(Some(number), heads.as_slice(), is_first, answers)
+        self.tell_plan(Some(number), heads.as_slice(), is_first, answers)
     }
 
     fn has_plan(&self, number: usize) -> bool {
@@ -323,7 +340,7 @@ impl<'a, R: Files + AllocGlobal + Threads + Sync> Server<'a, R> {
 
     // Tells what is wrong with the plan that begins with this document, or with that of the further files alone. Of these it is
     // told where that is wanted.
-    fn tell(
+    fn tell_plan(
         &mut self,
         head: Option<usize>,
         heads: &[usize],
@@ -377,6 +394,7 @@ impl<'a, R: Files + AllocGlobal + Threads + Sync> Server<'a, R> {
             &given,
             head_uri(&self.documents, head),
             &found,
+            self.units,
         )
     }
 
@@ -407,35 +425,39 @@ impl<'a, R: Files + AllocGlobal + Threads + Sync> Server<'a, R> {
         };
         let alloc = self.rt.alloc();
         match self.documents.find(uri) {
-            Some(document) => answers.made(id, edits_of(alloc, document)),
+            Some(document) => answers.made(id, edits_of(alloc, document, self.units)),
             None => answers.made(id, String::from_str(alloc, NULL)),
         }
         Ok(None)
     }
 
-    // Answers what is asked of the name at a place of a document.
-    fn tell_name(
+    // Answers what is asked of a document, or of a place of it.
+    fn tell(
         &self,
-        question: Question,
+        question: Question<'_>,
         id: &Value,
         call: Call<'_>,
         answers: &mut Answers,
     ) -> Result<Option<Fault>, AllocError> {
-        let Some(asked) = asked_in(call.params) else {
+        let Some(asked) = asked_in(question, call.params) else {
             return Ok(Some(BAD_PARAMS));
         };
-        answers.made(id, self.told_at(question, asked));
+        match self.told_at(question, asked)? {
+            Told::Answer(answer) => answers.made(id, Ok(answer)),
+            Told::Refusal(why) => answers.refusal(id, REFUSED, why.as_str()),
+        }
         Ok(None)
     }
 
-    fn told_at(&self, question: Question, asked: Asked<'_>) -> Result<String, AllocError> {
+    fn told_at(&self, question: Question<'_>, asked: Asked<'_>) -> Result<Told, AllocError> {
         let alloc = self.rt.alloc();
         let Some(document) = self.documents.find(asked.uri) else {
-            return String::from_str(alloc, NULL);
+            return Ok(Told::Answer(String::from_str(alloc, NULL)?));
         };
-        let offset = Lines::of(alloc, document.text.as_bytes())?.offset(asked.position);
+        let lines = Lines::of(alloc, document.text.as_bytes(), self.units)?;
+        let offset = lines.offset(asked.position);
         let given = self.plan_of(asked.uri)?;
-        told_in(self.rt, question, &given, document, offset)
+        told_in(self.rt, question, &given, document, offset, self.units)
     }
 
     // The texts of the plan that a document belongs to: it is the first of them, what the head of one of them names, or one of the
@@ -488,68 +510,29 @@ fn head_uri(documents: &Documents, head: Option<usize>) -> Option<&str> {
 }
 
 // The edits that lay a document out.
-fn edits_of(alloc: Global, document: &Document) -> Result<String, AllocError> {
+fn edits_of(alloc: Global, document: &Document, units: Units) -> Result<String, AllocError> {
     let old = document.text.as_bytes();
     match laid_out(alloc, old)? {
-        Some(new) => edits_to(alloc, old, new.as_slice()),
+        Some(new) => edits_to(alloc, old, new.as_slice(), units),
         None => String::from_str(alloc, "[]"),
     }
 }
 
-fn edits_to(alloc: Global, old: &[u8], new: &[u8]) -> Result<String, AllocError> {
+fn edits_to(alloc: Global, old: &[u8], new: &[u8], units: Units) -> Result<String, AllocError> {
     match str::from_utf8(new) {
-        Ok(new) => json(alloc, &[edit_of(alloc, old, new)?]),
+        Ok(new) => json(alloc, &[edit_of(alloc, old, new, units)?]),
         Err(_) => String::from_str(alloc, "[]"),
     }
 }
 
-// Tells what is asked of the name at a place of a document, which belongs to this plan.
-fn told_in<R: AllocGlobal + Threads + Sync>(
-    rt: &R,
-    question: Question,
-    given: &Given,
-    document: &Document,
-    offset: usize,
-) -> Result<String, AllocError> {
-    let alloc = rt.alloc();
-    let files = names_after_first(alloc, given.parts.as_slice())?;
-    let mut texts = texts_of(alloc, given.parts.as_slice(), files.as_slice())?;
-    let reading = Reading::of(alloc, &mut texts, given.parts.as_slice())?;
-    let Some(word) = reading.word_at(alloc, given, document, offset)? else {
-        return String::from_str(alloc, NULL);
-    };
-    match question {
-        Question::Hover => hover_on(alloc, hover_of(rt, alloc, given, &texts, reading, word)?),
-        Question::Definition => definition_on(alloc, given, &reading, word),
-    }
-}
-
-// What is said of a name, as the protocol has it.
-fn hover_on(alloc: Global, said: Option<String>) -> Result<String, AllocError> {
-    let Some(words) = said else {
-        return String::from_str(alloc, NULL);
-    };
-    let words = words.as_str();
-    let mut text = Text::new(alloc);
-    text.push("{\"contents\":{\"kind\":\"markdown\",\"value\":");
-    text.push_made(json(alloc, &words));
-    text.push("}}");
-    text.finish()
-}
-
-// Where a name is given, as the protocol has it.
-fn definition_on(
-    alloc: Global,
-    given: &Given,
-    reading: &Reading,
-    name: Word<'_>,
-) -> Result<String, AllocError> {
-    let names = reading.names(alloc, given.parts.as_slice())?;
-    let Some(definition) = names.definition(name.kind, name.bytes) else {
-        return String::from_str(alloc, NULL);
-    };
-    let marks = marks_of(alloc, given)?;
-    json(alloc, &location_of(marks.as_slice(), definition.span))
+fn capabilities(alloc: Global, units: Units) -> Result<String, AllocError> {
+    let mut text = String::from_str(alloc, "{\"capabilities\":{\"positionEncoding\":\"")?;
+    text.push_str(match units {
+        Units::Utf8 => "utf-8",
+        Units::Utf16 => "utf-16",
+    })?;
+    text.push_str(CAPABILITIES)?;
+    Ok(text)
 }
 
 // ---- what messages have in them
@@ -564,22 +547,70 @@ fn opened_in(params: Option<&Value>) -> Option<(&str, &str)> {
     Some((document_in(params)?, text))
 }
 
-// The whole text that a document has now: that of the last change.
-fn changed_in(params: Option<&Value>) -> Option<(&str, &str)> {
-    let last = params?.get("contentChanges")?.as_array()?.last()?;
-    if last.get("range").is_some() {
-        return None;
-    }
-    Some((document_in(params)?, text_in(last, "text")?))
+// The changes of a document.
+fn changes_in(params: Option<&Value>) -> Option<(&str, &[Value])> {
+    let changes = params?.get("contentChanges")?.as_array()?;
+    Some((document_in(params)?, changes))
 }
 
-fn asked_in(params: Option<&Value>) -> Option<Asked<'_>> {
-    let position = params?.get("position")?;
+// What the client counts in a line: bytes, where it can.
+fn units_in(params: Option<&Value>) -> Units {
+    match encodings_in(params) {
+        Some(encodings) if encodings.iter().any(|one| one.as_str() == Some("utf-8")) => Units::Utf8,
+        _ => Units::Utf16,
+    }
+}
+
+fn encodings_in(params: Option<&Value>) -> Option<&[Value]> {
+    let general = params?.get("capabilities")?.get("general")?;
+    Some(general.get("positionEncodings")?.as_array()?)
+}
+
+// What a request asks for: nothing that is known, or something without what it needs.
+fn question_of<'a>(method: &str, params: Option<&'a Value>) -> Option<Option<Question<'a>>> {
+    Some(match method {
+        "textDocument/hover" => Some(Question::Hover),
+        "textDocument/definition" => Some(Question::Definition),
+        "textDocument/references" => references_in(params),
+        "textDocument/documentHighlight" => Some(Question::Highlights),
+        "textDocument/prepareRename" => Some(Question::Renaming),
+        "textDocument/rename" => rename_in(params),
+        "textDocument/completion" => Some(Question::Completions),
+        "textDocument/documentSymbol" => Some(Question::Symbols),
+        "textDocument/foldingRange" => Some(Question::Folds),
+        "textDocument/codeLens" => Some(Question::Lenses),
+        "textDocument/inlayHint" => inlays_asked(params),
+        _ => return None,
+    })
+}
+
+fn references_in(params: Option<&Value>) -> Option<Question<'_>> {
+    let context = params?.get("context")?;
+    let with_given = context.get("includeDeclaration")?.as_bool()?;
+    Some(Question::References { with_given })
+}
+
+fn rename_in(params: Option<&Value>) -> Option<Question<'_>> {
+    Some(Question::Rename(text_in(params?, "newName")?))
+}
+
+fn inlays_asked(params: Option<&Value>) -> Option<Question<'_>> {
+    let (_, until) = range_in(params?.get("range")?)?;
+    Some(Question::Inlays { until })
+}
+
+// The place that is asked of. A question of a whole document has none.
+fn asked_in<'a>(question: Question<'_>, params: Option<&'a Value>) -> Option<Asked<'a>> {
+    let position = match question {
+        Question::Symbols | Question::Folds | Question::Lenses => Position {
+            line: 0,
+            character: 0,
+        },
+        Question::Inlays { .. } => range_in(params?.get("range")?)?.0,
+        _ => position_in(params?.get("position")?)?,
+    };
     Some(Asked {
         uri: document_in(params)?,
-        position: Position {
-            line: number_in(position, "line")?,
-            character: number_in(position, "character")?,
-        },
+        position,
     })
 }

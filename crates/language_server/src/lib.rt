@@ -4,27 +4,37 @@
 //! `diagnostics` has it.
 //!
 //! `frames` cuts the input into frames, `rpc` says what one of them asks, and `answers` writes what is said. `serving` is the
-//! loop, and `handling` does what is asked. `documents` has the texts that are open, `uris` their files, and `plans` says
-//! which texts give a plan, `boards` with the files that heads name. `checking` finds what is wrong with them, and `publishing` writes it. `readings` has the names of
-//! texts as they were read, and `hovers` what is said of them; `frame_rows` has the frames of a message in bytes, `winners` who
-//! wins. `positions` counts as the protocol does.
+//! loop, and `handling` does what is asked. `documents` has the texts that are open, `changes` what an editor changes in them,
+//! `uris` their files, and `plans` says which texts give a plan, `boards` with the files that heads name. `checking` finds what
+//! is wrong with them, and `publishing` writes it. `questions` answers what is asked of a place: `readings` has the names of texts
+//! as they were read, `hovers` what is said of them, `references` where they stand, `renaming` whether another one may,
+//! `completions` what may be written, `symbols` what stands in a document, `inlays` and `lenses` what is shown beside it; `frame_rows` has the frames of a message in bytes,
+//! `winners` who wins. `positions` counts as the protocol does.
 #![tactic(auto)]
 
 mod answers;
 mod boards;
+mod changes;
 mod checking;
+mod completions;
 mod documents;
 mod formatting;
 mod frame_rows;
 mod frames;
 mod handling;
 mod hovers;
+mod inlays;
+mod lenses;
 mod plans;
 mod positions;
 mod publishing;
+mod questions;
 mod readings;
+mod references;
+mod renaming;
 mod rpc;
 mod serving;
+mod symbols;
 mod uris;
 mod winners;
 

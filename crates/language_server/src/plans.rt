@@ -32,6 +32,23 @@ pub(crate) struct Part {
     pub(crate) is_named: bool,
 }
 
+impl Part {
+    /// The same with another text.
+    ///
+    /// # Errors
+    ///
+    /// Where an allocation fails.
+    pub(crate) fn with_text(&self, alloc: Global, text: Vec<u8>) -> Result<Part, AllocError> {
+        Ok(Part {
+            uri: String::from_str(alloc, self.uri.as_str())?,
+            name: String::from_str(alloc, self.name.as_str())?,
+            text,
+            is_told: self.is_told,
+            is_named: self.is_named,
+        })
+    }
+}
+
 /// The texts that give a plan, in their order.
 #[derive(Drop)]
 pub(crate) struct Given {

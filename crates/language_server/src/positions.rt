@@ -1,8 +1,36 @@
-// Places of a text, as the protocol counts them: lines from 0 on, and in a line units of UTF-16.
+// Places of a text, as the protocol counts them: lines from 0 on, and in a line units of UTF-16, or bytes where the client counts
+// these.
 
 use diagnostics::Span;
 use serde::Serialize;
 use std::alloc::{AllocError, Global};
+
+/// What the characters of a line are counted in.
+#[derive(Clone, Copy, PartialEq, Eq)]
+pub(crate) enum Units {
+    Utf8,
+    Utf16,
+}
+
+impl Units {
+    // How many a character has that begins with this byte of UTF-8. A byte that begins none has none of UTF-16, and the end of a
+    // line has none at all.
+    fn of(self, byte: u8) -> u64 {
+        match (self, byte) {
+            (_, b'\n' | b'\r') | (Units::Utf16, 0x80..=0xbf) => 0,
+            (Units::Utf16, 0xf0..=0xff) => 2,
+            _ => 1,
+        }
+    }
+
+    fn of_all(self, bytes: &[u8]) -> u64 {
+        let mut units = 0u64;
+        for byte in bytes {
+            units = units.saturating_add(self.of(*byte));
+        }
+        units
+    }
+}
 
 /// A place of a text.
 #[derive(Clone, Copy, PartialEq, Eq, Serialize)]
@@ -22,6 +50,7 @@ pub(crate) struct Range {
 #[derive(Drop)]
 pub(crate) struct Lines<'a> {
     text: &'a [u8],
+    units: Units,
     // how many bytes stand before each line
     starts: Vec<usize>,
 }
@@ -32,7 +61,7 @@ impl<'a> Lines<'a> {
     /// # Errors
     ///
     /// Where an allocation fails.
-    pub(crate) fn of(alloc: Global, text: &'a [u8]) -> Result<Lines<'a>, AllocError> {
+    pub(crate) fn of(alloc: Global, text: &'a [u8], units: Units) -> Result<Lines<'a>, AllocError> {
         let mut starts = Vec::new(alloc);
         starts.push(0usize)?;
         let mut count = 0usize;
@@ -51,23 +80,23 @@ impl<'a> Lines<'a> {
         if is_return {
             starts.push(count)?;
         }
-        Ok(Lines { text, starts })
+        Ok(Lines {
+            text,
+            units,
+            starts,
+        })
     }
 
     /// The place after so many bytes.
     pub(crate) fn position(&self, offset: usize) -> Position {
-        let mut start = 0usize;
-        let mut line = 0u64;
-        for (number, begins) in self.starts.iter().enumerate() {
-            if offset < *begins {
-                break;
-            }
-            start = *begins;
-            line = number as u64;
-        }
+        let begun = self.starts.partition_point(|begins| *begins <= offset);
+        let line = begun.saturating_sub(1);
+        let start = self.starts.get(line).copied().unwrap_or(0);
         Position {
-            line,
-            character: units_in(self.text.get(start..offset).unwrap_or(&[])),
+            line: line as u64,
+            character: self
+                .units
+                .of_all(self.text.get(start..offset).unwrap_or(&[])),
         }
     }
 
@@ -127,28 +156,10 @@ impl<'a> Lines<'a> {
             if is_reached || matches!(*byte, b'\n' | b'\r') {
                 break;
             }
-            units = units.saturating_add(units_of(*byte));
+            units = units.saturating_add(self.units.of(*byte));
             offset = offset.saturating_add(1);
         }
         offset
-    }
-}
-
-// How many units of UTF-16 the characters of these bytes have. The end of a line has none.
-fn units_in(bytes: &[u8]) -> u64 {
-    let mut units = 0u64;
-    for byte in bytes {
-        units = units.saturating_add(units_of(*byte));
-    }
-    units
-}
-
-// How many units of UTF-16 a character has that begins with this byte of UTF-8. A byte that begins none has none.
-fn units_of(byte: u8) -> u64 {
-    match byte {
-        b'\n' | b'\r' | 0x80..=0xbf => 0,
-        0xf0..=0xff => 2,
-        _ => 1,
     }
 }
 

@@ -3,7 +3,7 @@
 use crate::answers::{Answers, json};
 use crate::checking::Found;
 use crate::plans::{Given, Unread};
-use crate::positions::{Lines, Position, Range};
+use crate::positions::{Lines, Position, Range, Units};
 use diagnostics::{Diagnostic, Severity, Span};
 use growing_text::{Text, shown};
 use serde::Serialize;
@@ -70,15 +70,26 @@ pub(crate) struct Marked<'a> {
     lines: Lines<'a>,
 }
 
+impl<'a> Marked<'a> {
+    /// Its URI.
+    pub(crate) fn uri(&self) -> &'a str {
+        self.uri
+    }
+}
+
 /// The texts that give a plan, with their lines.
 ///
 /// # Errors
 ///
 /// Where an allocation fails.
-pub(crate) fn marks_of(alloc: Global, given: &Given) -> Result<Vec<Marked<'_>>, AllocError> {
+pub(crate) fn marks_of(
+    alloc: Global,
+    given: &Given,
+    units: Units,
+) -> Result<Vec<Marked<'_>>, AllocError> {
     let mut marks = Vec::new(alloc);
     for part in given.parts.iter() {
-        let lines = Lines::of(alloc, part.text.as_slice())?;
+        let lines = Lines::of(alloc, part.text.as_slice(), units)?;
         let marked = Marked {
             uri: part.uri.as_str(),
             lines,
@@ -102,8 +113,9 @@ pub(crate) fn publish(
     given: &Given,
     head: Option<&str>,
     found: &Found,
+    units: Units,
 ) -> Result<(), AllocError> {
-    let marks = marks_of(alloc, given)?;
+    let marks = marks_of(alloc, given, units)?;
     let begins = match head {
         Some(uri) => given.number_of(uri).unwrap_or(0),
         None => 0,

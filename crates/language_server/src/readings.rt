@@ -42,7 +42,8 @@ impl Reading {
         }
     }
 
-    fn spans(&self) -> &Spans {
+    /// The names that were read.
+    pub(crate) fn spans(&self) -> &Spans {
         match self {
             Reading::Plan(given) => &given.provenance.spans,
             Reading::Refused(spans) => spans,
@@ -85,12 +86,25 @@ impl Reading {
         alloc: Global,
         parts: &'a [Part],
     ) -> Result<NamedTexts<'a>, AllocError> {
-        let mut names = NamedTexts::new(alloc, self.spans())?;
-        for part in parts {
-            names.add(part.text.as_slice())?;
-        }
-        Ok(names)
+        names_in(alloc, self.spans(), parts)
     }
+}
+
+/// The names of these in these parts.
+///
+/// # Errors
+///
+/// Where an allocation fails, or failed for the names.
+pub(crate) fn names_in<'a>(
+    alloc: Global,
+    spans: &'a Spans,
+    parts: &'a [Part],
+) -> Result<NamedTexts<'a>, AllocError> {
+    let mut names = NamedTexts::new(alloc, spans)?;
+    for part in parts {
+        names.add(part.text.as_slice())?;
+    }
+    Ok(names)
 }
 
 // The names up to the text that is refused, and those of the parts after it, which no reader has come to.
