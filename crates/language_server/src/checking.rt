@@ -4,17 +4,20 @@ ghost use Rattle.std.specs.Prelude.{IfOk};
 ghost use Rattle.plan_core.specs.PlanContents.{plan_contents};
 ghost use Rattle.verdicts.specs.Faults.{AreFaults, fault_list};
 
+use crate::knowledge::Offered;
 use crate::plans::{Given, Part};
+use crate::readings::{ReadPlan, Reading, names_after};
 use diagnostics::{Diagnostic, Wanted, diagnose_check};
 use given_plans::{GivenPlan, Provenance};
 use hints::Named;
-use lint::{Oddity, oddities};
+use lint::oddities;
+use offers::{Offers, Reasons, Shown, advice_for_group, reasons_of};
 use plan_core::Plan;
 use plan_words::{BriefFiles, PlanWords};
 use report::check_found;
 use run_parts::Watched;
 use run_refusals::{NamedSources, RefusedNamed};
-use run_values::{Halt, Sources};
+use run_values::{Halt, Sources, words_of};
 use std::alloc::{AllocError, Global};
 use std::thread::Threads;
 use verdicts::{Checked, NoGate};
@@ -22,12 +25,11 @@ use verdicts::{Checked, NoGate};
 /// The texts of a plan, to be read.
 pub(crate) type Texts<'a> = Sources<'a, Watched<&'a [u8]>>;
 
-/// What was found wrong.
+/// What the texts of a plan give, and what is wrong with them.
 #[derive(Drop)]
-pub(crate) struct Found {
+pub(crate) struct Wrong {
+    pub(crate) reading: Reading,
     pub(crate) all: Vec<Diagnostic>,
-    /// Whether the texts give a plan. What is wrong with it is wrong between two places.
-    pub(crate) is_plan: bool,
 }
 
 /// What people call the texts after the first one.
@@ -68,42 +70,53 @@ pub(crate) fn texts_of<'a>(
     })
 }
 
-/// What is wrong with the texts that give a plan. Where some cannot be read that is what is refused before the first of them: all
-/// else could come of what these have.
+/// What the texts of a plan give, and what is wrong with them. Where some cannot be read that is what is refused before the first of
+/// them: all else could come of what these have.
 ///
 /// # Errors
 ///
 /// Where an allocation fails.
-pub(crate) fn wrong_with<R: Threads + Sync>(
+pub(crate) fn read_and_checked<R: Threads + Sync>(
     rt: &R,
     alloc: Global,
     given: &Given,
-) -> Result<Found, AllocError> {
+) -> Result<Wrong, AllocError> {
+    let whole = read_parts(rt, alloc, given.parts.as_slice())?;
+    if given.unread.is_empty() {
+        return Ok(whole);
+    }
     let known = given.known();
+    let mut all = Vec::new(alloc);
     if !known.is_empty() {
-        let found = wrong_in(rt, alloc, known)?;
-        if given.unread.is_empty() || !found.is_plan {
-            return Ok(found);
+        let before = read_parts(rt, alloc, known)?;
+        if let Reading::Refused(_) = before.reading {
+            all = before.all;
         }
     }
-    Ok(Found {
-        all: Vec::new(alloc),
-        is_plan: false,
-    })
+    let reading = whole.reading;
+    Ok(Wrong { reading, all })
 }
 
-// What is wrong with the texts of these parts.
-fn wrong_in<R: Threads + Sync>(rt: &R, alloc: Global, parts: &[Part]) -> Result<Found, AllocError> {
+// What these parts give, and what is wrong with them.
+fn read_parts<R: Threads + Sync>(
+    rt: &R,
+    alloc: Global,
+    parts: &[Part],
+) -> Result<Wrong, AllocError> {
     let names = names_after_first(alloc, parts)?;
     let mut texts = texts_of(alloc, parts, names.as_slice())?;
     match texts.find(alloc) {
-        Ok(given) => wrong_in_plan(rt, alloc, given, &texts),
+        Ok(given) => read_plan(rt, alloc, given, texts.files),
         Err(mut halt) => {
             texts.read_on(alloc, &mut halt);
-            Ok(Found {
-                all: refusals_of(alloc, &halt, named(&texts))?,
-                is_plan: false,
-            })
+            let all = refusals_of(alloc, &halt, named(&texts))?;
+            match halt {
+                Halt::Text(_, source) => Ok(Wrong {
+                    reading: Reading::Refused(names_after(source, parts)),
+                    all,
+                }),
+                _ => Err(AllocError),
+            }
         }
     }
 }
@@ -144,27 +157,26 @@ pub(crate) fn named<'a>(texts: &Texts<'a>) -> NamedSources<'a> {
     }
 }
 
-fn wrong_in_plan<R: Threads + Sync>(
+fn read_plan<R: Threads + Sync>(
     rt: &R,
     alloc: Global,
     given: GivenPlan,
-    texts: &Texts<'_>,
-) -> Result<Found, AllocError> {
+    files: BriefFiles<'_>,
+) -> Result<Wrong, AllocError> {
     let GivenPlan { plan, provenance } = given;
     let checked = checked(rt, alloc, plan)?;
-    let words = texts.words(&checked.plan, &provenance);
-    let texts = provenance.texts.as_slice();
-    let spans = &provenance.spans;
-    let odd = oddities(alloc, &checked.plan, &provenance.origins, texts, spans)?;
-    wrong_in_checked(alloc, &checked, words, odd.as_slice(), &provenance)
+    let all = wrong_with(alloc, &checked, &provenance, files)?;
+    Ok(Wrong {
+        reading: Reading::Plan(ReadPlan {
+            checked,
+            provenance,
+        }),
+        all,
+    })
 }
 
-/// The plan, and its faults.
-///
-/// # Errors
-///
-/// Where an allocation fails.
-pub(crate) fn checked<R: Threads + Sync>(
+// The plan, and its faults.
+fn checked<R: Threads + Sync>(
     rt: &R,
     alloc: Global,
     plan: Plan,
@@ -183,18 +195,84 @@ const SAFETY: Wanted = Wanted {
     apart: None,
 };
 
-fn wrong_in_checked(
+// What is wrong with a plan that was checked, whose texts people call so.
+fn wrong_with(
     alloc: Global,
     checked: &Checked,
-    words: PlanWords<'_>,
-    odd: &[Oddity<'_>],
     provenance: &Provenance,
-) -> Result<Found, AllocError>
+    files: BriefFiles<'_>,
+) -> Result<Vec<Diagnostic>, AllocError>
     requires { AreFaults (plan_contents checked.now.plan) (fault_list checked.now.faults) }
 {
-    let Provenance { texts, spans, .. } = provenance;
-    Ok(Found {
-        all: diagnose_check(alloc, words, checked, odd, SAFETY, texts.as_slice(), spans)?,
-        is_plan: true,
-    })
+    let words = words_of(files, &checked.plan, provenance);
+    let Provenance {
+        texts,
+        spans,
+        origins,
+    } = provenance;
+    let texts = texts.as_slice();
+    let odd = oddities(alloc, &checked.plan, origins, texts, spans)?;
+    diagnose_check(alloc, words, checked, odd.as_slice(), SAFETY, texts, spans)
+}
+
+// ---- what mends it
+
+/// What mends the plan of these texts, where something is unsafe in it.
+///
+/// # Errors
+///
+/// Where an allocation fails.
+pub(crate) fn offered_in<R: Threads + Sync>(
+    rt: &R,
+    alloc: Global,
+    parts: &[Part],
+) -> Result<Option<Offered>, AllocError> {
+    let names = names_after_first(alloc, parts)?;
+    let mut texts = texts_of(alloc, parts, names.as_slice())?;
+    match texts.find(alloc) {
+        Ok(GivenPlan { plan, provenance }) => {
+            let checked = checked(rt, alloc, plan)?;
+            offered_for(alloc, &checked, &provenance, texts.files)
+        }
+        Err(Halt::Text(..)) => Ok(None),
+        Err(_) => Err(AllocError),
+    }
+}
+
+fn offered_for(
+    alloc: Global,
+    checked: &Checked,
+    provenance: &Provenance,
+    files: BriefFiles<'_>,
+) -> Result<Option<Offered>, AllocError>
+    requires { AreFaults (plan_contents checked.now.plan) (fault_list checked.now.faults) }
+{
+    let words = words_of(files, &checked.plan, provenance);
+    match reasons_of(alloc, checked, words, provenance)? {
+        Reasons::Safe(_) => Ok(None),
+        Reasons::Unsafe(groups, offers) => {
+            let titles = titles_of(alloc, words, &offers, groups.len())?;
+            Ok(Some(Offered { offers, titles }))
+        }
+    }
+}
+
+// What each offer does, in words: in the order of the offers.
+fn titles_of(
+    alloc: Global,
+    words: PlanWords<'_>,
+    offers: &Offers,
+    groups: usize,
+) -> Result<Vec<String>, AllocError> {
+    let mut titles = Vec::new(alloc);
+    for g in 0..groups {
+        if !offers.of(g).is_empty() {
+            for advice in &advice_for_group(alloc, words, offers, g, Shown::All)? {
+                if titles.push(advice.said.text(alloc)?).is_err() {
+                    return Err(AllocError);
+                }
+            }
+        }
+    }
+    Ok(titles)
 }

@@ -1,47 +1,41 @@
 // What is said of a name, as Markdown.
 
-use crate::checking::{Texts, checked};
 use crate::frame_rows::push_rows;
-use crate::plans::Given;
-use crate::readings::{Reading, Word};
+use crate::knowledge::Known;
+use crate::readings::Word;
 use crate::winners::push_winners;
-use given_plans::GivenPlan;
 use growing_text::Text;
-use order::{Order, order_of, scores_of};
+use order::{Order, scores_of};
 use origins::{Kind, NameAt, NamedTexts, Role};
 use plan_core::Plan;
 use plan_words::{PlanWords, Sides, sides_of};
 use std::alloc::{AllocError, Global};
-use std::thread::Threads;
-use verdicts::Checked;
 
 // The rows of so many messages of a family are shown.
 const MOST: usize = 3;
 
 /// What is said of a name: of a message its frames and who wins, of a device or a byte what it is. None of others, and of a
-/// message where the texts give no plan.
+/// message where the texts give no plan, or it was not put in order.
 ///
 /// # Errors
 ///
 /// Where an allocation fails.
-pub(crate) fn hover_of<R: Threads + Sync>(
-    rt: &R,
+pub(crate) fn hover_of(
     alloc: Global,
-    given: &Given,
-    texts: &Texts<'_>,
-    reading: Reading,
+    known: &Known,
     name: Word<'_>,
 ) -> Result<Option<String>, AllocError> {
-    match (name.kind, reading) {
-        (Kind::Message, Reading::Plan(plan)) => hover_in_plan(rt, alloc, plan, texts, name.bytes),
-        (Kind::Device, reading) => {
-            let names = reading.names(alloc, given.parts.as_slice())?;
-            value_hover(alloc, &names, name, "device", "address")
+    let names = known.reading.names(alloc, known.given.parts.as_slice())?;
+    match name.kind {
+        Kind::Message => {
+            let further = known.further_names(alloc)?;
+            match (known.words(further.as_slice()), known.order()) {
+                (Some(words), Some(order)) => hover_in_plan(alloc, words, order, name.bytes),
+                _ => Ok(None),
+            }
         }
-        (Kind::Byte, reading) => {
-            let names = reading.names(alloc, given.parts.as_slice())?;
-            value_hover(alloc, &names, name, "byte", "bits")
-        }
+        Kind::Device => value_hover(alloc, &names, name, "device", "address"),
+        Kind::Byte => value_hover(alloc, &names, name, "byte", "bits"),
         _ => Ok(None),
     }
 }
@@ -90,30 +84,17 @@ fn push_group(text: &mut Text, names: &NamedTexts<'_>, given: NameAt) {
 
 // ---- messages
 
-fn hover_in_plan<R: Threads + Sync>(
-    rt: &R,
+fn hover_in_plan(
     alloc: Global,
-    given: GivenPlan,
-    texts: &Texts<'_>,
-    name: &[u8],
-) -> Result<Option<String>, AllocError> {
-    let GivenPlan { plan, provenance } = given;
-    let checked = checked(rt, alloc, plan)?;
-    let words = texts.words(&checked.plan, &provenance);
-    hover_on_named(alloc, &checked, words, name)
-}
-
-fn hover_on_named(
-    alloc: Global,
-    checked: &Checked,
     words: PlanWords<'_>,
+    order: &Order,
     name: &[u8],
 ) -> Result<Option<String>, AllocError> {
     let messages = named_so(alloc, words, name)?;
     if messages.is_empty() {
         return Ok(None);
     }
-    hover_on(alloc, checked, words, messages.as_slice(), name)
+    hover_on(alloc, words, order, messages.as_slice(), name)
 }
 
 // The messages of the plan with this name, or those of the family with it.
@@ -132,8 +113,8 @@ fn named_so(alloc: Global, words: PlanWords<'_>, name: &[u8]) -> Result<Vec<u32>
 
 fn hover_on(
     alloc: Global,
-    checked: &Checked,
     words: PlanWords<'_>,
+    order: &Order,
     messages: &[u32],
     name: &[u8],
 ) -> Result<Option<String>, AllocError> {
@@ -141,9 +122,9 @@ fn hover_on(
     text.push("message `");
     text.push(str::from_utf8(name).unwrap_or(""));
     text.push("`\n\n```text\n");
-    push_frames(alloc, &mut text, &checked.plan, messages)?;
+    push_frames(alloc, &mut text, words.plan(), messages)?;
     text.push("```\n");
-    push_order(alloc, &mut text, checked, words, messages)?;
+    push_order(alloc, &mut text, words, order, messages)?;
     Ok(Some(text.finish()?))
 }
 
@@ -171,13 +152,12 @@ fn push_frames(
 fn push_order(
     alloc: Global,
     text: &mut Text,
-    checked: &Checked,
     words: PlanWords<'_>,
+    order: &Order,
     messages: &[u32],
 ) -> Result<(), AllocError> {
-    let order = order_of(alloc, &checked.plan, &checked.faults)?;
     let sides = sides_of(alloc, words)?;
-    push_scores(alloc, text, words, &order, &sides, messages)
+    push_scores(alloc, text, words, order, &sides, messages)
 }
 
 fn push_scores(

@@ -1,24 +1,21 @@
 // What is asked of a place of a document, and the answers.
 
 use crate::answers::json;
-use crate::checking::{Texts, checked, names_after_first, texts_of};
 use crate::completions::completions_at;
 use crate::documents::Document;
 use crate::hovers::hover_of;
 use crate::inlays::inlays_in;
+use crate::knowledge::Known;
 use crate::lenses::lenses_of;
-use crate::plans::Given;
 use crate::positions::{Lines, Position, Units};
 use crate::publishing::{location_of, marks_of};
 use crate::readings::{Reading, Word, names_in};
 use crate::references::{highlights_of, locations_of, renaming_of, uses_of};
 use crate::renaming::{Renamed, renamed_to};
 use crate::symbols::{folds_in, symbols_in};
-use given_plans::GivenPlan;
 use growing_text::Text;
 use origins::{NameAt, NamedTexts, Span};
 use std::alloc::{AllocError, Global};
-use std::thread::Threads;
 
 /// What is asked.
 #[derive(Clone, Copy)]
@@ -58,27 +55,40 @@ pub(crate) enum Told {
 
 const NULL: &str = "null";
 
-/// What is answered to a question that is asked after so many bytes of a document, which belongs to this plan.
+/// What is answered to a question that is asked after so many bytes of a document, of which this is known.
 ///
 /// # Errors
 ///
 /// Where an allocation fails.
-pub(crate) fn told_in<R: AllocGlobal + Threads + Sync>(
-    rt: &R,
+pub(crate) fn told_in(
+    alloc: Global,
     question: Question<'_>,
-    given: &Given,
+    known: &Known,
     document: &Document,
     offset: usize,
     units: Units,
 ) -> Result<Told, AllocError> {
-    let alloc = rt.alloc();
-    let file = given.number_of(document.uri.as_str());
+    let file = known.given.number_of(document.uri.as_str());
     match (question, file) {
+        (Question::Hover, _) => hover_at(alloc, known, document, offset),
         (Question::Completions, Some(file)) => {
-            Ok(Told::Answer(completions_at(alloc, given, file, offset, units)?))
+            let list = completions_at(alloc, &known.given, file, offset, units)?;
+            Ok(Told::Answer(list))
         }
-        (Question::Completions, None) => nothing(alloc),
-        _ => told_of_names(rt, question, given, document, offset, units),
+        (Question::Lenses, Some(file)) => lenses_on(alloc, known, document, file, units),
+        (
+            Question::Symbols | Question::Folds | Question::Inlays { .. },
+            Some(file),
+        ) => told_of_document(alloc, question, known, document, (file, offset), units),
+        (
+            Question::Completions
+            | Question::Lenses
+            | Question::Symbols
+            | Question::Folds
+            | Question::Inlays { .. },
+            None,
+        ) => nothing(alloc),
+        _ => told_of_name(alloc, question, known, document, offset, units),
     }
 }
 
@@ -86,40 +96,15 @@ fn nothing(alloc: Global) -> Result<Told, AllocError> {
     Ok(Told::Answer(String::from_str(alloc, NULL)?))
 }
 
-fn told_of_names<R: AllocGlobal + Threads + Sync>(
-    rt: &R,
-    question: Question<'_>,
-    given: &Given,
-    document: &Document,
-    offset: usize,
-    units: Units,
-) -> Result<Told, AllocError> {
-    let alloc = rt.alloc();
-    let parts = given.parts.as_slice();
-    let files = names_after_first(alloc, parts)?;
-    let mut texts = texts_of(alloc, parts, files.as_slice())?;
-    let reading = Reading::of(alloc, &mut texts, parts)?;
-    match question {
-        Question::Hover => hover_at(rt, given, &texts, reading, document, offset),
-        Question::Lenses => lenses_on(rt, given, &texts, reading, document, units),
-        Question::Symbols | Question::Folds | Question::Inlays { .. } => {
-            told_of_document(alloc, question, given, &reading, document, offset, units)
-        }
-        _ => told_of_name(rt, question, given, &reading, document, offset, units),
-    }
-}
-
-fn hover_at<R: AllocGlobal + Threads + Sync>(
-    rt: &R,
-    given: &Given,
-    texts: &Texts<'_>,
-    reading: Reading,
+fn hover_at(
+    alloc: Global,
+    known: &Known,
     document: &Document,
     offset: usize,
 ) -> Result<Told, AllocError> {
-    let alloc = rt.alloc();
-    let said = match reading.word_at(alloc, given, document, offset)? {
-        Some(word) => hover_of(rt, alloc, given, texts, reading, word)?,
+    let word = known.reading.word_at(alloc, &known.given, document, offset)?;
+    let said = match word {
+        Some(word) => hover_of(alloc, known, word)?,
         None => None,
     };
     Ok(Told::Answer(hover_on(alloc, said)?))
@@ -140,19 +125,18 @@ fn hover_on(alloc: Global, said: Option<String>) -> Result<String, AllocError> {
 
 // ---- a document
 
+// What is told of the text of this number, or of what stands in it after so many bytes.
 fn told_of_document(
     alloc: Global,
     question: Question<'_>,
-    given: &Given,
-    reading: &Reading,
+    known: &Known,
     document: &Document,
-    offset: usize,
+    place: (u32, usize),
     units: Units,
 ) -> Result<Told, AllocError> {
-    let Some(file) = given.number_of(document.uri.as_str()) else {
-        return nothing(alloc);
-    };
-    let names = reading.names(alloc, given.parts.as_slice())?;
+    let (file, offset) = place;
+    let reading = &known.reading;
+    let names = reading.names(alloc, known.given.parts.as_slice())?;
     let text = document.text.as_bytes();
     let lines = Lines::of(alloc, text, units)?;
     let spans = reading.spans();
@@ -171,52 +155,37 @@ fn told_of_document(
 }
 
 // Nothing, where the texts give no plan.
-fn lenses_on<R: AllocGlobal + Threads + Sync>(
-    rt: &R,
-    given: &Given,
-    texts: &Texts<'_>,
-    reading: Reading,
+fn lenses_on(
+    alloc: Global,
+    known: &Known,
     document: &Document,
+    file: u32,
     units: Units,
 ) -> Result<Told, AllocError> {
-    let alloc = rt.alloc();
-    match (reading, given.number_of(document.uri.as_str())) {
-        (Reading::Plan(plan), Some(file)) => {
+    let further = known.further_names(alloc)?;
+    match (&known.reading, known.words(further.as_slice())) {
+        (Reading::Plan(read), Some(words)) => {
             let lines = Lines::of(alloc, document.text.as_bytes(), units)?;
-            Ok(Told::Answer(lenses_in(rt, given, texts, plan, file, &lines)?))
+            let parts = known.given.parts.as_slice();
+            let names = names_in(alloc, &read.provenance.spans, parts)?;
+            let list = lenses_of(alloc, &read.checked, words, &names, file, &lines)?;
+            Ok(Told::Answer(list))
         }
         _ => nothing(alloc),
     }
 }
 
-fn lenses_in<R: AllocGlobal + Threads + Sync>(
-    rt: &R,
-    given: &Given,
-    texts: &Texts<'_>,
-    plan: GivenPlan,
-    file: u32,
-    lines: &Lines<'_>,
-) -> Result<String, AllocError> {
-    let alloc = rt.alloc();
-    let GivenPlan { plan, provenance } = plan;
-    let checked = checked(rt, alloc, plan)?;
-    let words = texts.words(&checked.plan, &provenance);
-    let names = names_in(alloc, &provenance.spans, given.parts.as_slice())?;
-    lenses_of(alloc, &checked, words, &names, file, lines)
-}
-
 // ---- a name
 
-fn told_of_name<R: AllocGlobal + Threads + Sync>(
-    rt: &R,
+fn told_of_name(
+    alloc: Global,
     question: Question<'_>,
-    given: &Given,
-    reading: &Reading,
+    known: &Known,
     document: &Document,
     offset: usize,
     units: Units,
 ) -> Result<Told, AllocError> {
-    let alloc = rt.alloc();
+    let (given, reading) = (&known.given, &known.reading);
     let Some(word) = reading.word_at(alloc, given, document, offset)? else {
         return nothing(alloc);
     };
@@ -229,10 +198,8 @@ fn told_of_name<R: AllocGlobal + Threads + Sync>(
         offset,
     };
     match question {
-        Question::Rename(name) => {
-            renamed_on(alloc, given, reading, &names, (definition, name), units)
-        }
-        _ => Ok(Told::Answer(named_on(alloc, question, given, &names, definition, place, units)?)),
+        Question::Rename(name) => renamed_on(alloc, known, &names, (definition, name), units),
+        _ => Ok(Told::Answer(named_on(alloc, question, known, &names, definition, place, units)?)),
     }
 }
 
@@ -250,13 +217,13 @@ struct Place {
 fn named_on(
     alloc: Global,
     question: Question<'_>,
-    given: &Given,
+    known: &Known,
     names: &NamedTexts<'_>,
     definition: NameAt,
     place: Place,
     units: Units,
 ) -> Result<String, AllocError> {
-    let marks = marks_of(alloc, given, units)?;
+    let marks = marks_of(alloc, &known.given, units)?;
     let marks = marks.as_slice();
     if let Question::Definition = question {
         return json(alloc, &location_of(marks, definition.span));
@@ -294,17 +261,16 @@ fn use_around(uses: &[Span], file: u32, offset: usize) -> Option<Span> {
 
 fn renamed_on(
     alloc: Global,
-    given: &Given,
-    reading: &Reading,
+    known: &Known,
     names: &NamedTexts<'_>,
     to: (NameAt, &str),
     units: Units,
 ) -> Result<Told, AllocError> {
     let (definition, name) = to;
     let uses = uses_of(alloc, names, definition)?;
-    match renamed_to(alloc, given, reading, names, uses.as_slice(), name)? {
+    match renamed_to(alloc, known, names, uses.as_slice(), name)? {
         Renamed::Same => {
-            let marks = marks_of(alloc, given, units)?;
+            let marks = marks_of(alloc, &known.given, units)?;
             Ok(Told::Answer(renaming_of(alloc, marks.as_slice(), uses.as_slice(), name)?))
         }
         Renamed::Refused(why) => Ok(Told::Refusal(why)),

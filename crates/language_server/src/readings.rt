@@ -1,13 +1,13 @@
-// The texts that give a plan, as they are read: the plan where they give one, and the names in all of them.
+// The texts that give a plan, as they were read: the plan where they give one, and the names in all of them.
 
-use crate::checking::Texts;
 use crate::documents::Document;
 use crate::plans::{Given, Part};
 use brief_tokens::record;
-use given_plans::GivenPlan;
+use given_plans::Provenance;
 use origins::{Kind, NameAt, NamedTexts, Spans};
-use run_values::{Halt, RefusedSource};
+use run_values::RefusedSource;
 use std::alloc::{AllocError, Global};
+use verdicts::Checked;
 
 /// A name, and what it is the name of.
 #[derive(Clone, Copy)]
@@ -19,33 +19,23 @@ pub(crate) struct Word<'a> {
 /// What was read.
 #[derive(Drop)]
 pub(crate) enum Reading {
-    Plan(GivenPlan),
+    Plan(ReadPlan),
     /// A text is refused: the names in all of them.
     Refused(Spans),
 }
 
-impl Reading {
-    /// What these parts give, whose texts these are.
-    ///
-    /// # Errors
-    ///
-    /// Where an allocation fails.
-    pub(crate) fn of(
-        alloc: Global,
-        texts: &mut Texts<'_>,
-        parts: &[Part],
-    ) -> Result<Reading, AllocError> {
-        match texts.find(alloc) {
-            Ok(given) => Ok(Reading::Plan(given)),
-            Err(Halt::Text(_, source)) => Ok(Reading::Refused(names_after(source, parts))),
-            Err(_) => Err(AllocError),
-        }
-    }
+/// A plan that was checked, and what gave it.
+#[derive(Drop)]
+pub(crate) struct ReadPlan {
+    pub(crate) checked: Checked,
+    pub(crate) provenance: Provenance,
+}
 
+impl Reading {
     /// The names that were read.
     pub(crate) fn spans(&self) -> &Spans {
         match self {
-            Reading::Plan(given) => &given.provenance.spans,
+            Reading::Plan(read) => &read.provenance.spans,
             Reading::Refused(spans) => spans,
         }
     }
@@ -107,8 +97,8 @@ pub(crate) fn names_in<'a>(
     Ok(names)
 }
 
-// The names up to the text that is refused, and those of the parts after it, which no reader has come to.
-fn names_after(source: RefusedSource, parts: &[Part]) -> Spans {
+/// The names up to the text that is refused, and those of the parts after it, which no reader has come to.
+pub(crate) fn names_after(source: RefusedSource, parts: &[Part]) -> Spans {
     let refused = source.refused;
     let read = refused.before.len().saturating_add(1);
     let mut spans = refused.spans;

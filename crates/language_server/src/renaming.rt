@@ -1,7 +1,7 @@
 // Whether another name leaves a plan as it is.
 
 use crate::checking::{named, names_after_first, texts_of};
-use crate::plans::Given;
+use crate::knowledge::Known;
 use crate::readings::Reading;
 use crate::references::renamed;
 use origins::{NamedTexts, Span};
@@ -19,20 +19,19 @@ pub(crate) enum Renamed {
     Refused(String),
 }
 
-/// What comes of the texts of a plan with this name in these places.
+/// What comes of the texts of a plan, of which this is known, with this name in these places.
 ///
 /// # Errors
 ///
 /// Where an allocation fails.
 pub(crate) fn renamed_to(
     alloc: Global,
-    given: &Given,
-    reading: &Reading,
+    known: &Known,
     names: &NamedTexts<'_>,
     uses: &[Span],
     name: &str,
 ) -> Result<Renamed, AllocError> {
-    let Reading::Plan(before) = reading else {
+    let Reading::Plan(before) = &known.reading else {
         return refused(alloc, "what is wrong with these texts comes first");
     };
     match Name::new(alloc, name) {
@@ -45,9 +44,9 @@ pub(crate) fn renamed_to(
             );
         }
     }
-    let texts = renamed(alloc, names, uses, given.parts.len(), name)?;
+    let texts = renamed(alloc, names, uses, known.given.parts.len(), name)?;
     let mut parts = Vec::new(alloc);
-    for (part, text) in given.parts.iter().zip(texts) {
+    for (part, text) in known.given.parts.iter().zip(texts) {
         let part = part.with_text(alloc, text)?;
         if parts.push(part).is_err() {
             return Err(AllocError);
@@ -56,7 +55,7 @@ pub(crate) fn renamed_to(
     let files = names_after_first(alloc, parts.as_slice())?;
     let mut texts = texts_of(alloc, parts.as_slice(), files.as_slice())?;
     match texts.find(alloc) {
-        Ok(after) if are_alike(&before.plan, &after.plan) => Ok(Renamed::Same),
+        Ok(after) if are_alike(&before.checked.plan, &after.plan) => Ok(Renamed::Same),
         Ok(_) => refused(alloc, "this name changes what the texts mean"),
         Err(Halt::Text(error, source)) => {
             let refusal = RefusedNamed {
