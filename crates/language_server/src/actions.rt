@@ -10,6 +10,7 @@ use growing_text::Text;
 use offers::{Offers, Shown};
 use origins::Span;
 use std::alloc::{AllocError, Global};
+use std::mem;
 
 /// What can be done about what is wrong in this part of a text, as the protocol has it.
 ///
@@ -178,9 +179,9 @@ impl Actions<'_, '_> {
         self.text.push("}");
     }
 
-    fn finish(self) -> Result<String, AllocError> {
-        let Self { alloc, text, .. } = self;
-        let mut list = Text::new(alloc);
+    fn finish(mut self) -> Result<String, AllocError> {
+        let text = mem::replace(&mut self.text, Text::new(self.alloc));
+        let mut list = Text::new(self.alloc);
         list.push("[");
         list.push_made(text.finish());
         list.push("]");

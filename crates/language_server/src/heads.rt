@@ -7,7 +7,7 @@ use crate::plans::{Further, Given, NoText, Part, given_by, is_further, read};
 use crate::uris::uri_of;
 use board_files::folder_of;
 use plan_text::is_plan;
-use std::alloc::AllocError;
+use std::alloc::{AllocError, Global};
 use std::rt::Files;
 
 // What the first text of a board is called, where nobody has it open.
