@@ -85,9 +85,11 @@ want('a head of 4096 bytes and more without an end', [2, [None, -32700]], heard(
 want('a body of no bytes', [1, [None, -32700], ['a', 'ok']], heard(frame(b'') + hello))
 want('a body of 10 MB', [1, ['a', 'ok'], ['b', -32601]],
      heard(hello + frame({**UNKNOWN, 'params': {'text': 'x' * 10_000_000}})))
-want('a body that is too long', [1, [None, -32600], ['a', 'ok']],
+# (people are told too: by window/showMessage)
+want('a body that is too long', [1, [None, -32600], [None, 'ok'], ['a', 'ok']],
      heard(frame(b'"' + b'x' * (16 * 1024 * 1024 - 1) + b'"') + hello))
-want('the end in a body that is too long', [2, [None, -32600]], heard(b'Content-Length: 999999999999\r\n\r\n' + b'x' * 1000))
+want('the end in a body that is too long', [2, [None, -32600], [None, 'ok']],
+     heard(b'Content-Length: 999999999999\r\n\r\n' + b'x' * 1000))
 
 # ---- messages
 

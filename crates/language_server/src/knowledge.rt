@@ -85,6 +85,12 @@ impl Known {
         self.given.number_of(uri).is_some()
     }
 
+    /// Whether what is wrong with a document is told by this plan.
+    pub(crate) fn tells(&self, uri: &str) -> bool {
+        let parts = self.given.parts.as_slice();
+        parts.iter().any(|part| part.is_told && part.uri.as_str() == uri)
+    }
+
     /// Whether the texts give a plan. What is wrong with it is wrong between two places.
     pub(crate) fn is_plan(&self) -> bool {
         match &self.reading {

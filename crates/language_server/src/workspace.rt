@@ -505,13 +505,12 @@ impl<'a, R: Files + AllocGlobal + Threads + Sync> Workspace<'a, R> {
         }
     }
 
-    // The plan that a document belongs to: it is the first text of it, or another one.
+    // The plan that a document belongs to: it is the first text of it, or another one that is told of there, or anywhere.
     fn known_at(&self, uri: &str) -> Option<usize> {
         let known = self.known.as_slice();
-        match known.iter().position(|one| one.begins_with(uri)) {
-            None => known.iter().position(|one| one.has(uri)),
-            at => at,
-        }
+        let told = known.iter().position(|one| one.tells(uri));
+        let any = known.iter().position(|one| one.has(uri));
+        known.iter().position(|one| one.begins_with(uri)).or(told).or(any)
     }
 
     // What is known of a document that no plan has now, as where the head that named it cannot be read.
