@@ -39,12 +39,17 @@ fn fixes_of(alloc: Global, cause: &Cause, file: u32) -> Result<Vec<Fix>, AllocEr
     for fix in cause.said.fixes() {
         let puts = fix.puts.as_str();
         let does = if fix.start < fix.end { "write" } else { "put" };
+        let place = if fix.end < cause.start {
+            "above"
+        } else {
+            "here"
+        };
         let span = Span {
             file,
             start: fix.start,
             end: fix.end,
         };
-        let title = format!(in alloc; "{does} '{puts}' here")?;
+        let title = format!(in alloc; "{does} '{puts}' {place}")?;
         fixes.push(Fix::of(alloc, title, span, String::from_str(alloc, puts)?)?)?;
     }
     Ok(fixes)

@@ -8,7 +8,7 @@ use crate::marking::{first_line, last_line, push_marked};
 use crate::names::{push_twice, push_unknown};
 use crate::paths::push_path;
 use crate::values::Hints;
-use crate::wording::{bad_count, foreign, push_limit, push_over, push_version};
+use crate::wording::{bad_count, foreign, mend_version, push_limit, push_over, push_version};
 use crate::words::{RANGES, is_like_brief, push_reason, reason_of_characters};
 use brief_tokens::after_head;
 use origins::Spans;
@@ -428,6 +428,7 @@ fn push_fault(alloc: Global, lines: &mut Lines, refused: &RefusedIn<'_>, fault: 
         }
         (Fault::Range(_), _) => {
             lines.say(RANGES);
+            mend_version(lines, refused);
             push_all(alloc, lines, refused, Expected::Count { ranges: false });
         }
         (_, Some(Expected::Version)) => push_version(lines, refused),

@@ -4,6 +4,7 @@ use crate::kinds::LOOKED_AT;
 use crate::lines::Lines;
 use crate::numbers::Number;
 use crate::texts::{RefusedIn, called};
+use crate::wording::mend_version;
 use brief_tokens::is_board_word;
 use plan_core::Name;
 use plan_text::words::count_ends;
@@ -99,6 +100,9 @@ pub(crate) fn push_reason(
     let language = refused.language;
     if let Some(reason) = reason_of(expected, word) {
         lines.say(reason);
+        if expected == (Expected::Item { never: false }) && word == "never" {
+            mend_version(lines, refused);
+        }
     } else if let Some(number) = number_of(language, expected, word) {
         number.tell(lines);
         number.mend(lines, refused, expected);
@@ -338,7 +342,7 @@ fn spelled_digits(
     expected: Expected,
     digits: &str,
 ) -> Result<Option<String>, AllocError> {
-    let fits = !takes_address(expected) || digits.starts_with(is_octal);
+    let fits = !takes_address(expected) || has_seven_bits(digits);
     if digits.len() != 2
         || !fits
         || !digits.chars().all(is_digit)
@@ -353,6 +357,11 @@ fn spelled_digits(
 // Whether bits are open that have to be known there.
 fn is_too_open(expected: Expected, digits: &str) -> bool {
     is_known(expected) && (digits.contains('x') || digits.contains('X'))
+}
+
+// Whether the first of two hex digits has the first three bits of an address, which are not open.
+fn has_seven_bits(digits: &str) -> bool {
+    matches!(digits.as_bytes().first(), Some(b'0'..=b'7'))
 }
 
 fn is_digit(c: char) -> bool {
