@@ -162,8 +162,8 @@ want('what follows an address', True, {'status', 'any', 'wr', 'rd', 'write', 're
      set(completed(BOARD + 'message m write eeprom ')))
 want('frames', ['write', 'read'], completed(BOARD + 'message m '))
 want('messages of a controller', ['page', 'get', 'probe'], completed(BOARD + 'controller x '))
-want('the same after one', ['page', 'get', 'probe'], completed(BOARD + 'controller x page '))
-want('controllers to extend', ['bmc', 'pch'], completed(BOARD + 'extend '))
+want('the same after one, which it lists by then', ['get', 'probe'], completed(BOARD + 'controller x page '))
+want('controllers to extend, where no never names them', ['bmc', 'pch'], completed(BOARD[:BOARD.index('never')] + 'extend '))
 want('whom a never names', ['bmc', 'pch', 'bmc/page_1', 'bmc/page_2', 'bmc/get_psu1', 'pch/page', 'pch/get_psu2', 'pch/probe'],
      completed(BOARD + 'never '))
 want('the same where a label is begun', True, 'bmc/page_2' in completed(BOARD + 'never bmc/pa'))
@@ -178,6 +178,115 @@ want('messages of a plan', ['a'], completed(PLAN + 'controller z '))
 server.change(FIRST, BOARD)
 answer = server.request('textDocument/completion', document(FIRST, **at(8, 0)))['result']
 want('in the middle of a text', True, 'message' in [one['label'] for one in answer])
+
+# ---- the same in each place of an item
+
+
+# What is said of what may be written at the end of this text.
+def meanings(text):
+    server.change(FIRST, text)
+    lines = text.split('\n')
+    return {one['label']: one['detail'] for one in server.at('completion', FIRST, len(lines) - 1, len(lines[-1]))}
+
+
+# The message of a choice makes one for each block: 0x02 and 0x03, 0x04
+CHOICES = BOARD + 'message part write eeprom 0x02..0x04 ;\nmessage rest write psus any but 0x00..0x7F else (read psus 1) ;\n'
+ITEMS = ['device', 'byte', 'group', 'message', 'controller', 'extend', 'interrupt', 'never']
+FIRST_ITEMS = [word for word in ITEMS if word not in ('group', 'extend')]
+
+want('a head', ['with', *ITEMS], completed('brief 2\n'))
+want('a head, where a with is begun', ['with', *ITEMS], completed('brief 2\nwi'))
+want('a head after a with', ['with', *ITEMS], completed('brief 2\nwith "none.brief" ;\n'))
+want('a head after a comment', ['with', *ITEMS], completed('brief 2 # "with\n'))
+want('a head in its own with', [], completed('brief 2\nwith '))
+want('a head after the name of a file', [], completed('brief 2\nwith "none.brief" '))
+want('no with after an item', ITEMS, completed('brief 2\ndevice a 0x50 ;\n'))
+want('no with after one that is refused', ITEMS, completed('brief 2\ndevice a 0x500 ;\n'))
+want('a brief of the first version', FIRST_ITEMS, completed('brief 1\n'))
+want('no byte of the second one there', ['any', 'else', 'write', 'read'], completed('brief 1\nmessage m write 0x50 '))
+
+BYTES = ['status', 'any', 'wr', 'rd', 'pec', 'sum', 'else', 'write', 'read']
+WITH_BUT = ['status', 'any', 'but', 'wr', 'rd', 'pec', 'sum', 'else', 'write', 'read']
+want('a byte', BYTES, completed(BOARD + 'message m write eeprom '))
+want('but after any', WITH_BUT, completed(BOARD + 'message m write eeprom any '))
+want('but where it is begun', WITH_BUT, completed(BOARD + 'message m write eeprom any bu'))
+want('but in what follows an else', WITH_BUT, completed(BOARD + 'message m write eeprom 0x01 else (write eeprom any '))
+want('no but after another byte', BYTES, completed(BOARD + 'message m write eeprom status '))
+want('no but after any that is repeated', BYTES, completed(BOARD + 'message m write eeprom any*2 '))
+want('no but where a message has a range', BYTES, completed(BOARD + 'message m write eeprom 0x01*1..2 any '))
+want('no but where a message has a span', BYTES, completed(BOARD + 'message m write eeprom 0x01..0x02 any '))
+want('no but where a message has a choice', BYTES, completed(BOARD + 'message m write eeprom any but 0x01 any '))
+want('no but in a brief of the first version', ['any', 'else', 'write', 'read'],
+     completed('brief 1\nmessage m write 0x50 any '))
+want('no name after but', [], completed(BOARD + 'message m write eeprom any but '))
+want('frames alone after what is read', ['else', 'write', 'read'], completed(BOARD + 'message m read eeprom 1 '))
+want('frames and bytes after a stop', ['status', 'any', 'wr', 'rd', 'pec', 'sum', 'write', 'read'],
+     completed(BOARD + 'message m write eeprom else stop '))
+want('what follows an else', ['stop'], completed(BOARD + 'message m write eeprom else '))
+want('frames in what follows an else', ['write', 'read'], completed(BOARD + 'message m write eeprom else ('))
+want('no word where a byte is repeated', [], completed(BOARD + 'message m write eeprom any*'))
+want('no word in the place of a count', [], completed(BOARD + 'message m read eeprom '))
+
+want('devices of wr', DEVICES, completed(BOARD + 'message m write eeprom wr('))
+want('devices of rd, where one is begun', DEVICES, completed(BOARD + 'message m write eeprom rd( ps'))
+want('nothing between wr and its bracket', [], completed(BOARD + 'message m write eeprom wr '))
+want('nothing before the bracket that closes it', [], completed(BOARD + 'message m write eeprom wr(eeprom '))
+want('one group in a message', ['eeprom', 'psu1', 'psu2', 'psus'],
+     completed(BOARD + 'group all eeprom psu1 ;\nmessage m write psus wr('))
+want('devices of a group that it has not yet', ['eeprom', 'psu2'], completed(BOARD + 'group g psu1 '))
+want('targets whose addresses are known', ['eeprom', 'psu1', 'psu2'],
+     completed(BOARD + 'device wide 0x1X ;\ndevice open 0b10100xx ;\ninterrupt i '))
+
+want('nothing of a message that is listed', ['get', 'probe'], completed(BOARD + 'controller x page '))
+want('others of a family that is listed by number', ['page_1', 'page_3', 'get', 'probe'],
+     completed(BOARD + 'controller x page_2 '))
+want('others of a group that is listed by device', ['page', 'get_psu2', 'probe'], completed(BOARD + 'controller x get_psu1 '))
+want('those of a family, where the word begins so', ['page', 'page_1', 'page_2', 'page_3', 'get', 'probe'],
+     completed(BOARD + 'controller x page_'))
+want('those of a group, where the word begins so', ['page', 'get', 'get_psu1', 'get_psu2', 'probe'],
+     completed(BOARD + 'controller x get_p'))
+want('what a controller lists that is extended', ['page_3', 'get_psu2', 'probe'],
+     completed(BOARD[:BOARD.index('never')] + 'extend bmc '))
+want('the same after it was extended', ['page_3', 'get_psu2'],
+     completed(BOARD[:BOARD.index('never')] + 'extend bmc probe ;\nextend bmc '))
+want('the blocks of a choice', ['page', 'get', 'probe', 'part_2', 'rest'], completed(CHOICES + 'controller x part_1 '))
+want('the block of all values but some, for each device', ['page', 'get', 'probe', 'part', 'rest_psu2'],
+     completed(CHOICES + 'controller x rest_psu1_1 '))
+want('no controller that a never names is extended', [], completed(BOARD + 'extend '))
+want('no other one', ['x'], completed(BOARD + 'controller x ;\nextend '))
+
+want('labels of a controller that is named', ['bmc/page', 'bmc/page_1', 'bmc/page_2', 'bmc/get', 'bmc/get_psu1'],
+     completed(BOARD + 'never bmc/'))
+want('labels of the other side', ['pch/page', 'pch/page_1', 'pch/page_2', 'pch/page_3', 'pch/get', 'pch/get_psu2', 'pch/probe'],
+     completed(BOARD + 'never bmc pch/'))
+want('no other side of the same controller', ['pch', 'pch/page', 'pch/get_psu2', 'pch/probe'], completed(BOARD + 'never bmc/page_2 '))
+want('none that stands apart from it already', ['pch', 'pch/page', 'pch/get_psu2'], completed(BOARD + 'never bmc/page_1 '))
+want('the same the other way round', ['bmc', 'bmc/page_2', 'bmc/get_psu1'], completed(BOARD + 'never pch/probe '))
+want('no label whose part has the name of a controller', False, 'x/a' in completed(
+    'brief 2\nmessage a write 0x50 ;\ncontroller x a ;\ncontroller x_a ;\nnever '))
+want('no label that is too long', ['x' * 30], completed(
+    f'brief 2\nmessage ab write 0x50 ;\ncontroller {"x" * 30} ab ;\nnever '))
+want('the other side of a plan', ['y'], completed(PLAN + 'never x '))
+want('none that stands apart from it in a plan', [], completed(PLAN + 'never x y ;\nnever x '))
+want('messages that a controller of a plan lists', [], completed(PLAN + 'controller z a '))
+
+want('devices and groups', {'eeprom': '0x50', 'psu1': '0x58', 'psu2': '0x59', 'psus': 'psu1 psu2'},
+     meanings(BOARD + 'message m write '))
+want('bits', '0x79', meanings(BOARD + 'message m write eeprom ')['status'])
+want('what messages stand for', {'page': 'page_1 .. page_3', 'get': 'get_psu1 .. get_psu2', 'probe': 'a message',
+                                 'part': 'part_1 .. part_2', 'rest': 'rest_psu1_1 .. rest_psu2_1'},
+     meanings(CHOICES + 'controller x '))
+want('how many messages controllers list', {'bmc': '3 messages', 'pch': '5 messages', 'x': 'no messages', 'y': '1 message'},
+     {name: said for name, said in meanings(BOARD + 'controller x ;\ncontroller y probe ;\nnever ').items() if '/' not in name})
+want('each word has a meaning', [], [word for text in ('brief 2\n', BOARD + 'message m write eeprom any ', PLAN)
+                                     for word, said in meanings(text).items() if not said])
+
+want('nothing in a comment of an item', [], completed(BOARD + 'message m write # ee'))
+want('nothing in what is no string', [], completed(BOARD + 'message m write "ee'))
+want('nothing in the string of a first version', [], completed('brief 1\nwith "'))
+want('nothing in a string after items', [], completed(BOARD + 'with "'))
+want('no path in a comment', [], completed('brief 2\nwith # "'))
+
 
 # ---- changes in ranges
 
@@ -199,6 +308,31 @@ server.notify('textDocument/didChange', {'textDocument': {'uri': FIRST, 'version
 want('a range that ends before it begins changes nothing', ['bb', 'bb', 'm', 'c'],
      [one['name'] for one in server.result('textDocument/documentSymbol', document(FIRST))])
 want('the end', [0, []], server.stop())
+
+# ---- files that a head names
+
+
+# The answer of a server that tells of several documents meanwhile.
+def answered(server, method, params):
+    message = server.request(method, params)
+    while message is not None and message.get('id') != server.ids:
+        message = server.read()
+    return message['result']
+
+
+server = Server().begin()
+for name, text in (('sub/common', 'brief 1\ndevice eeprom 0x50 ;\n'), ('devices', 'brief 2\nwith "sub/common.brief" ;\n'),
+                   ('board', HEAD := 'brief 2\nwith "devices.brief" ;\nwith "su')):
+    server.notify('textDocument/didOpen', {'textDocument': {
+        'uri': f'file:///board/{name}.brief', 'languageId': 'brief', 'version': 1, 'text': text}})
+answer = answered(server, 'textDocument/completion', document(FIRST, **at(2, 8)))
+want('a file of the board that the head does not name', [['sub/common.brief', 17, [2, 6, 2, 8], 'sub/common.brief']],
+     [[one['label'], one['kind'], spot(one['textEdit']['range']), one['textEdit']['newText']] for one in answer])
+server.notify('textDocument/didChange', {'textDocument': {'uri': FIRST, 'version': 2}, 'contentChanges': [
+    {'text': 'brief 2\nwith "devices.brief" ;\nwith "sub/common.brief" ;\nwith "'}]})
+answer = answered(server, 'textDocument/completion', document(FIRST, **at(3, 6)))
+want('none that it names', [], [one['label'] for one in answer])
+server.stop()
 
 # ---- bytes in the place of units
 
