@@ -102,11 +102,7 @@ fn hover_at(
     document: &Document,
     offset: usize,
 ) -> Result<Told, AllocError> {
-    let word = known.reading.word_at(alloc, &known.given, document, offset)?;
-    let said = match word {
-        Some(word) => hover_of(alloc, known, word)?,
-        None => None,
-    };
+    let said = hover_of(alloc, known, document, offset)?;
     Ok(Told::Answer(hover_on(alloc, said)?))
 }
 
