@@ -48,7 +48,7 @@ pub use likeness::Nearest;
 pub use lines::Lines;
 pub use marking::{first_line, push_marked, push_name, push_quoted};
 pub use names::{Stand, first_stand};
-pub use odd::on_oddity;
+pub use odd::{made_byte, on_oddity};
 pub use paths::file_word;
 pub use plans::on_no_brief;
 pub use safety::{Found, on_checked, on_safe};
@@ -58,4 +58,4 @@ pub use texts::{
     on_text,
 };
 pub use untaken::{OfferAt, Then, Untaken, on_mended, on_untaken};
-pub use values::{Hint, Hints};
+pub use values::{Fix, Hint, Hints};

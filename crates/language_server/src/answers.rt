@@ -79,6 +79,19 @@ impl Answers {
         self.frame(body.finish());
     }
 
+    /// Something that the client is asked for. Its answer is not waited for.
+    pub(crate) fn request(&mut self, method: &'static str, params: &'static str) {
+        let mut body = Text::new(self.alloc);
+        body.push("{\"jsonrpc\":\"2.0\",\"id\":\"");
+        body.push(method);
+        body.push("\",\"method\":\"");
+        body.push(method);
+        body.push("\",\"params\":");
+        body.push(params);
+        body.push("}");
+        self.frame(body.finish());
+    }
+
     /// There was no memory for what would be said.
     pub(crate) fn cut(&mut self) {
         self.text.cut();

@@ -332,6 +332,7 @@ fn not_listed(
     labels: &[Label],
 ) -> Result<Given, AllocError> {
     let mut given = of_list(alloc, before, labels)?;
+    given.ends_early = true;
     let part = part_of(alloc, text, labels)?;
     match why {
         Why::Unread {

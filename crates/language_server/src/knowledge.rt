@@ -2,6 +2,7 @@
 // them is answered by that.
 
 use crate::checking::{Wrong, names_after_first, offered_in, read_and_checked};
+use crate::heads::members_of;
 use crate::lasting::{Lasting, lasting_of};
 use crate::plans::Given;
 use crate::readings::Reading;
@@ -20,6 +21,8 @@ pub(crate) struct Known {
     pub(crate) given: Given,
     /// The URI of the text with which the plan begins. None where the further files stand alone.
     pub(crate) head: Option<String>,
+    /// The URIs of its texts, and of those that a head named before it could no longer be followed.
+    pub(crate) members: Vec<String>,
     pub(crate) reading: Reading,
     /// What is wrong with it.
     pub(crate) wrong: Vec<Diagnostic>,
@@ -51,6 +54,7 @@ impl Known {
         before: Option<Known>,
     ) -> Result<Known, AllocError> {
         let alloc = rt.alloc();
+        let members = members_of(alloc, &given, before.as_ref())?;
         let Wrong { reading, all } = read_and_checked(rt, alloc, &given)?;
         let lasting = match &reading {
             Reading::Plan(_) => lasting_of(alloc, &given, all.as_slice())?,
@@ -59,6 +63,7 @@ impl Known {
         Ok(Known {
             given,
             head,
+            members,
             reading,
             wrong: all,
             lasting,
@@ -73,6 +78,11 @@ impl Known {
             Some(head) => head.as_str() == uri,
             None => false,
         }
+    }
+
+    /// Whether a document is one of its texts.
+    pub(crate) fn has(&self, uri: &str) -> bool {
+        self.given.number_of(uri).is_some()
     }
 
     /// Whether the texts give a plan. What is wrong with it is wrong between two places.

@@ -4,14 +4,17 @@
 //! `diagnostics` has it.
 //!
 //! `frames` cuts the input into frames, `rpc` says what one of them asks, and `answers` writes what is said. `serving` is the
-//! loop, and `handling` does what is asked. `documents` has the texts that are open, `changes` what an editor changes in them,
-//! `uris` their files, and `plans` says which texts give a plan, `boards` with the files that heads name. `checking` finds what
-//! is wrong with them, and `publishing` writes it. `questions` answers what is asked of a place: `readings` has the names of texts
-//! as they were read, `hovers` what is said of them, `references` where they stand, `renaming` whether another one may,
-//! `completions` what may be written, `symbols` what stands in a document, `inlays` and `lenses` what is shown beside it; `frame_rows` has the frames of a message in bytes,
-//! `winners` who wins. `positions` counts as the protocol does.
+//! loop, and `handling` does what is asked. `workspace` has what is open and what is told of it: `documents` the texts, `changes` what
+//! an editor changes in them, `uris` their files; `heads` says which texts begin a plan, `plans` which give it, `boards` with the
+//! files that heads name. `knowledge` keeps what is known of a plan: `readings` has the names of texts as they were read, `checking`
+//! finds what is wrong with them, `lasting` what was unsafe before, and `publishing` writes it. `questions` answers what is asked of a
+//! place: `hovers` has what is said of names, `references` where they stand, `renaming` whether another one may, `rewriting` edits,
+//! `actions` what can be done about what is wrong, `completions` what may be written, `symbols` what stands in a document, `inlays` and
+//! `lenses` what is shown beside it; `frame_rows` has the frames of a message in bytes, `winners` who wins. `positions` counts as the
+//! protocol does.
 #![tactic(auto)]
 
+mod actions;
 mod answers;
 mod boards;
 mod changes;
@@ -24,6 +27,7 @@ mod formatting;
 mod frame_rows;
 mod frames;
 mod handling;
+mod heads;
 mod hover_counts;
 mod hover_words;
 mod hovers;
@@ -41,6 +45,7 @@ mod questions;
 mod readings;
 mod references;
 mod renaming;
+mod rewriting;
 mod rpc;
 mod serving;
 mod side_hovers;
@@ -49,5 +54,6 @@ mod token_hovers;
 mod unsafe_hovers;
 mod uris;
 mod winners;
+mod workspace;
 
 pub use serving::serve;

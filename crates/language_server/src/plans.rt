@@ -1,6 +1,6 @@
 // Which texts give the plan that a document belongs to.
 
-use crate::boards::{is_second_version, with_named};
+use crate::boards::with_named;
 use crate::documents::{Document, Documents};
 use crate::uris::uri_of;
 use files::{FileId, identity_of};
@@ -55,6 +55,8 @@ pub(crate) struct Given {
     pub(crate) parts: Vec<Part>,
     /// The files that cannot be read, which are left out.
     pub(crate) unread: Vec<Unread>,
+    /// Whether a head could not be followed, so that further texts may be missing.
+    pub(crate) ends_early: bool,
     // how many parts stand before the first of these
     before: usize,
 }
@@ -116,87 +118,6 @@ fn path_from_root<R: Env + AllocGlobal>(rt: &R, name: &str) -> Result<String, Al
         },
         Err(_) => String::from_str(alloc, name),
     }
-}
-
-/// The numbers of the open documents that may be the first of several texts: none of the further files, and no plan. What the head
-/// of another one names is told of with that one. Where two name each other that is the one that was opened first.
-///
-/// # Errors
-///
-/// Where an allocation fails.
-pub(crate) fn heads_of<R: Files + AllocGlobal>(
-    rt: &R,
-    documents: &Documents,
-    further: &[Further],
-) -> Result<Vec<usize>, AllocError> {
-    let alloc = rt.alloc();
-    let mut briefs = Vec::new(alloc);
-    for (number, document) in documents.all().iter().enumerate() {
-        if !is_further(rt, document, further) && !is_plan(document.text.as_bytes()) {
-            briefs.push(number)?;
-        }
-    }
-    let naming = namings_of(rt, documents, further, briefs.as_slice())?;
-    let mut heads = Vec::new(alloc);
-    for brief in briefs.iter() {
-        if !is_named(naming.as_slice(), *brief) {
-            heads.push(*brief)?;
-        }
-    }
-    Ok(heads)
-}
-
-// That the list of an open document has another one.
-#[derive(Clone, Copy, PartialEq, Eq)]
-struct Naming {
-    by: usize,
-    named: usize,
-}
-
-// Which of these documents have which of them in their lists.
-fn namings_of<R: Files + AllocGlobal>(
-    rt: &R,
-    documents: &Documents,
-    further: &[Further],
-    briefs: &[usize],
-) -> Result<Vec<Naming>, AllocError> {
-    let mut namings = Vec::new(rt.alloc());
-    for by in briefs {
-        let Some(document) = documents.all().get(*by) else {
-            continue;
-        };
-        if !is_second_version(document.text.as_bytes()) {
-            continue;
-        }
-        let given = given_by(rt, documents, &[], Some(*by), further, false)?;
-        for part in given.parts.iter() {
-            if let Some(named) = documents.number_of(part.uri.as_str()) {
-                if named != *by {
-                    namings.push(Naming { by: *by, named })?;
-                }
-            }
-        }
-    }
-    Ok(namings)
-}
-
-// Whether a document is told of with another one.
-fn is_named(namings: &[Naming], number: usize) -> bool {
-    for naming in namings {
-        if naming.named == number && is_first(namings, *naming) {
-            return true;
-        }
-    }
-    false
-}
-
-// Whether the one that names the other is not named by that, or was opened before it.
-fn is_first(namings: &[Naming], naming: Naming) -> bool {
-    let turned = Naming {
-        by: naming.named,
-        named: naming.by,
-    };
-    naming.by < naming.named || !namings.contains(&turned)
 }
 
 /// Whether a document is one of these files.
@@ -305,6 +226,7 @@ impl Given {
         Given {
             parts: Vec::new(alloc),
             unread: Vec::new(alloc),
+            ends_early: false,
             before: 0,
         }
     }

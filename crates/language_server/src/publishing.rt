@@ -1,10 +1,11 @@
 // What is wrong with texts, as the protocol has it.
 
 use crate::answers::{Answers, json};
-use crate::checking::Found;
+use crate::knowledge::Known;
+use crate::lasting::Lasting;
 use crate::plans::{Given, Unread};
 use crate::positions::{Lines, Position, Range, Units};
-use diagnostics::{Diagnostic, Severity, Span};
+use diagnostics::{About, Diagnostic, Severity, Span};
 use growing_text::{Text, shown};
 use serde::Serialize;
 use std::alloc::{AllocError, Global};
@@ -44,7 +45,12 @@ struct Told<'a, 'b> {
     source: &'static str,
     message: &'a str,
     related_information: Vec<Beside<'b>>,
+    #[serde(skip_serializing_if = "Option::is_none")]
+    tags: Option<&'static [u8]>,
 }
+
+// What nobody uses is shown faded.
+const UNNECESSARY: &[u8] = &[1];
 
 // What stands at the first place of a diagnostic that is told at its other one.
 const FIRST: &str = "the first of the two";
@@ -101,8 +107,7 @@ pub(crate) fn marks_of(
     Ok(marks)
 }
 
-/// Says what was found wrong, document by document, of those that are told of here. The plan begins with the document of this URI, or
-/// with the first text.
+/// Says what was found wrong, document by document, of those that are told of here.
 ///
 /// # Errors
 ///
@@ -110,31 +115,60 @@ pub(crate) fn marks_of(
 pub(crate) fn publish(
     alloc: Global,
     answers: &mut Answers,
-    given: &Given,
-    head: Option<&str>,
-    found: &Found,
+    known: &Known,
     units: Units,
 ) -> Result<(), AllocError> {
+    let given = &known.given;
     let marks = marks_of(alloc, given, units)?;
-    let begins = match head {
-        Some(uri) => given.number_of(uri).unwrap_or(0),
-        None => 0,
-    };
     let mut file = 0u32;
     for part in given.parts.iter() {
         if part.is_told {
-            let place = Place {
-                file,
-                begins: file == begins,
-            };
-            answers.notify(
-                METHOD,
-                params_of(alloc, given, marks.as_slice(), place, found),
-            );
+            let place = place_of(known, file);
+            let list = list_of(alloc, known, marks.as_slice(), place);
+            answers.notify(METHOD, params_with(alloc, part.uri.as_str(), list));
         }
         file = file.saturating_add(1);
     }
     Ok(())
+}
+
+/// What was found wrong with the text of this number, where that is asked for.
+///
+/// # Errors
+///
+/// Where an allocation fails.
+pub(crate) fn report_on(
+    alloc: Global,
+    known: &Known,
+    file: u32,
+    units: Units,
+) -> Result<String, AllocError> {
+    let marks = marks_of(alloc, &known.given, units)?;
+    let list = list_of(alloc, known, marks.as_slice(), place_of(known, file));
+    let mut report = Text::new(alloc);
+    report.push("{\"kind\":\"full\",\"items\":[");
+    report.push_made(list.finish());
+    report.push("]}");
+    report.finish()
+}
+
+/// A diagnostic at its own place, as JSON.
+///
+/// # Errors
+///
+/// Where an allocation fails.
+pub(crate) fn own_json<'a>(
+    alloc: Global,
+    diagnostic: &'a Diagnostic,
+    marks: &'a [Marked<'a>],
+) -> Result<String, AllocError> {
+    let shown = Shown {
+        diagnostic,
+        span: diagnostic.span,
+        own: None,
+        file: None,
+    };
+    told_of(alloc, shown, marks)
 }
 
 // The number of a text, and whether its plan begins with it.
@@ -144,33 +178,40 @@ struct Place {
     begins: bool,
 }
 
+// A plan begins with the document that is its head, or with the first text.
+fn place_of(known: &Known, file: u32) -> Place {
+    let begins = match &known.head {
+        Some(uri) => known.given.number_of(uri.as_str()).unwrap_or(0),
+        None => 0,
+    };
+    Place {
+        file,
+        begins: file == begins,
+    }
+}
+
 /// Says that nothing is wrong with a document any more.
 pub(crate) fn publish_nothing(alloc: Global, answers: &mut Answers, uri: &str) {
     answers.notify(METHOD, params_with(alloc, uri, Text::new(alloc)));
 }
 
-fn params_of(
-    alloc: Global,
-    given: &Given,
-    marks: &[Marked<'_>],
-    place: Place,
-    found: &Found,
-) -> Result<String, AllocError> {
+fn list_of(alloc: Global, known: &Known, marks: &[Marked<'_>], place: Place) -> Text {
     let mut list = List::new(alloc);
-    let uri = match marks.get(place.file as usize) {
-        Some(marked) => {
-            list.add_unread_files(given, marked, place.begins);
-            if place.begins {
-                list.add_beginning(given, found, place.file, marks);
-            }
-            marked.uri
+    let given = &known.given;
+    if let Some(marked) = marks.get(place.file as usize) {
+        list.add_unread_files(given, marked, place.begins);
+        if place.begins {
+            list.add_beginning(known, place.file, marks);
         }
-        None => "",
-    };
-    for diagnostic in found.all.iter() {
-        list.add_places(diagnostic, marks, place.file, found.is_plan);
     }
-    params_with(alloc, uri, list.finish())
+    let is_plan = known.is_plan();
+    for diagnostic in known.wrong.iter() {
+        list.add_places(diagnostic, marks, place.file, is_plan);
+    }
+    if !known.lasting.is_empty() && !is_plan {
+        list.add_lasting(known, place.file, marks);
+    }
+    list.finish()
 }
 
 fn params_with(alloc: Global, uri: &str, list: Text) -> Result<String, AllocError> {
@@ -214,16 +255,16 @@ impl List {
     }
 
     // What is told on the first line of a plan: a refusal in a file that is told of with another plan.
-    fn add_beginning(&mut self, given: &Given, found: &Found, begins: u32, marks: &[Marked<'_>]) {
+    fn add_beginning(&mut self, known: &Known, begins: u32, marks: &[Marked<'_>]) {
         let Some(first) = marks.get(begins as usize) else {
             return;
         };
-        if found.is_plan {
+        if known.is_plan() {
             return;
         }
         // (what else is refused there is told with that one)
-        if let Some(diagnostic) = found.all.first() {
-            if let Some(part) = given.parts.get(diagnostic.span.file as usize) {
+        if let Some(diagnostic) = known.wrong.first() {
+            if let Some(part) = known.given.parts.get(diagnostic.span.file as usize) {
                 if !part.is_told {
                     let shown = Shown {
                         diagnostic,
@@ -249,6 +290,7 @@ impl List {
                     source: SOURCE,
                     message: message.as_str(),
                     related_information: Vec::new(alloc),
+                    tags: None,
                 };
                 self.add(json(alloc, &told));
             }
@@ -286,6 +328,21 @@ impl List {
                     },
                     marks,
                 );
+            }
+        }
+    }
+
+    // What was unsafe before a text was refused, where its names stand in this file now.
+    fn add_lasting(&mut self, known: &Known, file: u32, marks: &[Marked<'_>]) {
+        let alloc = self.alloc;
+        let Ok(names) = known.reading.names(alloc, known.given.parts.as_slice()) else {
+            return self.text.cut();
+        };
+        for lasting in known.lasting.iter() {
+            if let Some(span) = lasting.place(&names) {
+                if span.file == file && self.count < MOST {
+                    self.add(lasting_at(alloc, lasting, location_of(marks, span).range));
+                }
             }
         }
     }
@@ -342,6 +399,23 @@ fn words_of(alloc: Global, told: Shown<'_>) -> Result<String, AllocError> {
     words.finish()
 }
 
+fn lasting_at(alloc: Global, lasting: &Lasting, range: Range) -> Result<String, AllocError> {
+    let mut words = Text::new(alloc);
+    words.push("before a text was refused: ");
+    words.push(lasting.message.as_str());
+    let message = words.finish()?;
+    let told = Told {
+        range,
+        severity: INFORMATION,
+        code: "unsafe",
+        source: SOURCE,
+        message: message.as_str(),
+        related_information: Vec::new(alloc),
+        tags: None,
+    };
+    json(alloc, &told)
+}
+
 fn told_more(alloc: Global, more: usize) -> Result<String, AllocError> {
     let mut words = Text::new(alloc);
     words.push("there are ");
@@ -355,6 +429,7 @@ fn told_more(alloc: Global, more: usize) -> Result<String, AllocError> {
         source: SOURCE,
         message: message.as_str(),
         related_information: Vec::new(alloc),
+        tags: None,
     };
     json(alloc, &told)
 }
@@ -373,6 +448,10 @@ fn told_of<'a>(
         source: SOURCE,
         message: message.as_str(),
         related_information: related_of(alloc, shown, marks)?,
+        tags: match diagnostic.about {
+            About::Unused => Some(UNNECESSARY),
+            _ => None,
+        },
     };
     json(alloc, &told)
 }

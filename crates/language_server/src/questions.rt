@@ -1,5 +1,6 @@
 // What is asked of a place of a document, and the answers.
 
+use crate::actions::actions_in;
 use crate::answers::json;
 use crate::completions::completions_at;
 use crate::documents::Document;
@@ -8,10 +9,11 @@ use crate::inlays::inlays_in;
 use crate::knowledge::Known;
 use crate::lenses::lenses_of;
 use crate::positions::{Lines, Position, Units};
-use crate::publishing::{location_of, marks_of};
+use crate::publishing::{location_of, marks_of, report_on};
 use crate::readings::{Reading, Word, names_in};
-use crate::references::{highlights_of, locations_of, renaming_of, uses_of};
+use crate::references::{highlights_of, locations_of, uses_of};
 use crate::renaming::{Renamed, renamed_to};
+use crate::rewriting::{rewrites_to, rewriting_of};
 use crate::symbols::{folds_in, symbols_in};
 use growing_text::Text;
 use origins::{NameAt, NamedTexts, Span};
@@ -42,6 +44,10 @@ pub(crate) enum Question<'a> {
     Inlays { until: Position },
     /// What stands above its controllers and messages.
     Lenses,
+    /// What can be done about what is wrong there, up to this place.
+    Actions { until: Position },
+    /// What is wrong with the document.
+    Wrong,
 }
 
 /// What is answered.
@@ -76,6 +82,12 @@ pub(crate) fn told_in(
             Ok(Told::Answer(list))
         }
         (Question::Lenses, Some(file)) => lenses_on(alloc, known, document, file, units),
+        (Question::Actions { until }, Some(file)) => {
+            actions_on(alloc, known, document, (file, offset, until), units)
+        }
+        (Question::Wrong, Some(file)) => {
+            Ok(Told::Answer(report_on(alloc, known, file, units)?))
+        }
         (
             Question::Symbols | Question::Folds | Question::Inlays { .. },
             Some(file),
@@ -83,6 +95,8 @@ pub(crate) fn told_in(
         (
             Question::Completions
             | Question::Lenses
+            | Question::Actions { .. }
+            | Question::Wrong
             | Question::Symbols
             | Question::Folds
             | Question::Inlays { .. },
@@ -148,6 +162,25 @@ fn told_of_document(
         }
         _ => folds_in(alloc, spans, text, file, &lines)?,
     }))
+}
+
+// What can be done about what is wrong in a part of the text of this number: after so many bytes, up to a place.
+fn actions_on(
+    alloc: Global,
+    known: &Known,
+    document: &Document,
+    part: (u32, usize, Position),
+    units: Units,
+) -> Result<Told, AllocError> {
+    let (file, start, until) = part;
+    let lines = Lines::of(alloc, document.text.as_bytes(), units)?;
+    let marks = marks_of(alloc, &known.given, units)?;
+    let part = Span {
+        file,
+        start,
+        end: lines.offset(until),
+    };
+    Ok(Told::Answer(actions_in(alloc, known, marks.as_slice(), part)?))
 }
 
 // Nothing, where the texts give no plan.
@@ -267,7 +300,9 @@ fn renamed_on(
     match renamed_to(alloc, known, names, uses.as_slice(), name)? {
         Renamed::Same => {
             let marks = marks_of(alloc, &known.given, units)?;
-            Ok(Told::Answer(renaming_of(alloc, marks.as_slice(), uses.as_slice(), name)?))
+            let rewrites = rewrites_to(alloc, uses.as_slice(), name)?;
+            let edit = rewriting_of(alloc, marks.as_slice(), rewrites.as_slice())?;
+            Ok(Told::Answer(edit))
         }
         Renamed::Refused(why) => Ok(Told::Refusal(why)),
     }

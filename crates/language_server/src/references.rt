@@ -1,7 +1,6 @@
 // Where what has a name is named, and the edits that give it another one.
 
 use crate::answers::json;
-use crate::formatting::Edit;
 use crate::positions::Range;
 use crate::publishing::{Location, Marked, location_of};
 use growing_text::Text;
@@ -146,55 +145,6 @@ pub(crate) fn highlights_of(
         }
     }
     json(alloc, &all)
-}
-
-/// The edits that put this in these places, document by document, as the protocol has them.
-///
-/// # Errors
-///
-/// Where an allocation fails.
-pub(crate) fn renaming_of(
-    alloc: Global,
-    marks: &[Marked<'_>],
-    uses: &[Span],
-    name: &str,
-) -> Result<String, AllocError> {
-    let mut text = Text::new(alloc);
-    text.push("{\"changes\":{");
-    let mut file = 0u32;
-    let mut before = "";
-    for marked in marks {
-        let edits = edits_in(alloc, marks, uses, file, name)?;
-        if !edits.is_empty() {
-            text.push(before);
-            text.push_made(json(alloc, &marked.uri()));
-            text.push(":");
-            text.push_made(json(alloc, &edits));
-            before = ",";
-        }
-        file = file.saturating_add(1);
-    }
-    text.push("}}");
-    text.finish()
-}
-
-fn edits_in<'n>(
-    alloc: Global,
-    marks: &[Marked<'_>],
-    uses: &[Span],
-    file: u32,
-    new_text: &'n str,
-) -> Result<Vec<Edit<'n>>, AllocError> {
-    let mut edits = Vec::new(alloc);
-    for span in uses {
-        if span.file == file {
-            edits.push(Edit {
-                range: location_of(marks, *span).range,
-                new_text,
-            })?;
-        }
-    }
-    Ok(edits)
 }
 
 /// The texts with this name in these places.
