@@ -43,7 +43,8 @@ pub(crate) fn check_hover(
 
 const PEC: &str = "the packet error code of the bytes since START";
 
-const SUM: &str = "what makes the sum of the bytes since START, or since the `sum` before it, 0 modulo 256";
+const SUM: &str =
+    "what makes the sum of the bytes since START, or since the `sum` before it, 0 modulo 256";
 
 fn push_value(text: &mut Text, bits: Pattern) {
     let mut value = 0u8;
@@ -170,11 +171,13 @@ impl<'a> Walk<'a> {
     }
 
     fn pass(&mut self) -> Option<()> {
-        let Next::Payload(Payload::Byte {
-            bits,
-            acked,
-            refused,
-        }) = self.next
+        let Next::Payload(
+            Payload::Byte {
+                bits,
+                acked,
+                refused,
+            },
+        ) = self.next
         else {
             return None;
         };

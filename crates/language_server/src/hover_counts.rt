@@ -182,7 +182,10 @@ fn is_labelled(origins: Option<&Origins>, label: &[u8], name: &str) -> bool {
 }
 
 fn has_message(family: &FamilyOrigin, name: &str) -> bool {
-    family.messages.iter().any(|message| message.as_str() == name)
+    family
+        .messages
+        .iter()
+        .any(|message| message.as_str() == name)
 }
 
 /// In how many pairs some participants are, and how many of these are unsafe.

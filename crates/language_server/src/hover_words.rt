@@ -34,12 +34,7 @@ pub(crate) fn end_list(text: &mut Text, count: usize) {
 }
 
 /// Adds how many there are of what has these names: of one, and of several.
-pub(crate) fn push_counted(
-    text: &mut Text,
-    count: u64,
-    one: &'static str,
-    several: &'static str,
-) {
+pub(crate) fn push_counted(text: &mut Text, count: u64, one: &'static str, several: &'static str) {
     text.push_number(count);
     text.push(" ");
     text.push(if count == 1 { one } else { several });

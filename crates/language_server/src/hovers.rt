@@ -23,7 +23,9 @@ pub(crate) fn hover_of(
     document: &Document,
     offset: usize,
 ) -> Result<Option<String>, AllocError> {
-    let word = known.reading.word_at(alloc, &known.given, document, offset)?;
+    let word = known
+        .reading
+        .word_at(alloc, &known.given, document, offset)?;
     let names = known.reading.names(alloc, known.given.parts.as_slice())?;
     let place = match known.given.number_of(document.uri.as_str()) {
         Some(file) => item_at(known.reading.spans(), file, offset),

@@ -157,7 +157,11 @@ fn reserved_for(address: Bits) -> Option<&'static str> {
 }
 
 const RESERVED: [(u8, u8, &str); 8] = [
-    (0x7F, 0x00, "the general call (to write) and the START byte (to read)"),
+    (
+        0x7F,
+        0x00,
+        "the general call (to write) and the START byte (to read)",
+    ),
     (0x7F, 0x01, "CBUS"),
     (0x7F, 0x02, "another bus format"),
     (0x7F, 0x03, "future purposes"),

@@ -49,7 +49,15 @@ fn hover_in_plan(
     let mut text = begun(alloc, words, messages, name)?;
     if let Reading::Plan(read) = &known.reading {
         let wrong = known.wrong.as_slice();
-        push_unsafe(alloc, &mut text, &read.checked, words, names, wrong, messages)?;
+        push_unsafe(
+            alloc,
+            &mut text,
+            &read.checked,
+            words,
+            names,
+            wrong,
+            messages,
+        )?;
     }
     push_order(alloc, &mut text, words, order, messages)?;
     Ok(Some(text.finish()?))

@@ -22,7 +22,8 @@ pub(crate) fn never_hover(
     item: usize,
 ) -> Result<Option<String>, AllocError> {
     let further = known.further_names(alloc)?;
-    let (Reading::Plan(read), Some(words)) = (&known.reading, known.words(further.as_slice())) else {
+    let (Reading::Plan(read), Some(words)) = (&known.reading, known.words(further.as_slice()))
+    else {
         return Ok(None);
     };
     let Some((one, other)) = sides_in(names, item) else {

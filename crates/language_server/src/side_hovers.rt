@@ -192,7 +192,15 @@ fn push_scores(
             }
             count = count.saturating_add(1);
             if !score.never_wins() {
-                count = push_losers(alloc, text, words, &scores, own, (other, name.as_str()), count)?;
+                count = push_losers(
+                    alloc,
+                    text,
+                    words,
+                    &scores,
+                    own,
+                    (other, name.as_str()),
+                    count,
+                )?;
             }
         }
     }
@@ -249,7 +257,8 @@ pub(crate) fn interrupt_hover(
     name: &[u8],
 ) -> Result<Option<String>, AllocError> {
     let further = known.further_names(alloc)?;
-    let (Reading::Plan(read), Some(words)) = (&known.reading, known.words(further.as_slice())) else {
+    let (Reading::Plan(read), Some(words)) = (&known.reading, known.words(further.as_slice()))
+    else {
         return Ok(None);
     };
     let Some(p) = interrupting(words.plan(), name) else {

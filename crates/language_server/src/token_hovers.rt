@@ -104,5 +104,12 @@ fn check_at(
     let is_sum = matches!(found.symbol, Symbol::Keyword(Keyword::Sum));
     let text = names.text(place.item.span.file);
     let deeds = Deeds::new(text, letters, place.item);
-    check_hover(alloc, known, names, (place.number, place.offset), deeds, is_sum)
+    check_hover(
+        alloc,
+        known,
+        names,
+        (place.number, place.offset),
+        deeds,
+        is_sum,
+    )
 }

@@ -53,9 +53,7 @@ fn places_of(
     let mut places = Vec::new(alloc);
     for p in 0..plan.participants() {
         let given = match words.message_of(p) {
-            Some(message) => {
-                names.given(Kind::Message, words.message_name(message).as_bytes())
-            }
+            Some(message) => { names.given(Kind::Message, words.message_name(message).as_bytes()) }
             None => names.given(Kind::Interrupt, interrupt_name(plan, p).as_bytes()),
         };
         places.push(match given {
