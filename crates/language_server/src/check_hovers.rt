@@ -101,6 +101,20 @@ impl<'a> Next<'a> {
             _ => None,
         }
     }
+
+    // A byte, and what follows its ACK and its NACK.
+    fn byte(self) -> Option<(Pattern, &'a Payload, &'a Tail)> {
+        match self {
+            Next::Payload(
+                Payload::Byte {
+                    bits,
+                    acked,
+                    refused,
+                },
+            ) => Some((*bits, acked, refused)),
+            _ => None,
+        }
+    }
 }
 
 // How far the tokens of a message have come in its tree.
@@ -171,19 +185,10 @@ impl<'a> Walk<'a> {
     }
 
     fn pass(&mut self) -> Option<()> {
-        let Next::Payload(
-            Payload::Byte {
-                bits,
-                acked,
-                refused,
-            },
-        ) = self.next
-        else {
-            return None;
-        };
+        let (bits, acked, refused) = self.next.byte()?;
         self.next = Next::Payload(acked);
         self.refused = Some(refused);
-        self.last = Some(*bits);
+        self.last = Some(bits);
         Some(())
     }
 
