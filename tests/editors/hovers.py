@@ -41,22 +41,20 @@ never idle pch ;
 '''
 server.open(BRIEF, BOARD)
 
-# bmc sends page_2, page_3, page_4 and low, and pch sends high and page_3. Of the pairs of the two the three of bmc/page with pch/page_3
+# bmc sends page_2, page_3, page_4 and low (in the plan its part of bmc/page stands last), and pch sends high and page_3. Of the pairs of the two the three of bmc/page with pch/page_3
 # are left out: so there are 4 * 2 - 3 = 5, and each of the four meets alert.
 bmc = said(BOARD, 'bmc')
-want('what a controller sends', 'controller `bmc`: sends 4 messages: `page_2`, `page_3`, `page_4`, `low`', bmc.splitlines()[0])
-want('in how many pairs', ['in 9 pairs, none of them unsafe'], lines_with(bmc, 'pairs, none'))
+want('what a controller sends', 'controller `bmc`: sends 4 messages: `low`, `page_2`, `page_3`, `page_4`', bmc.splitlines()[0])
+want('in how many pairs', ['in 9 pairs, none unsafe'], lines_with(bmc, 'pairs,'))
 want('whom it never meets', ['- `bmc/page` never meets `pch/page_3`'], lines_with(bmc, 'never meets'))
 # low is sent to 0x10, and high to 0x11: the lower address wins. The pages, to 0x50, lose against high. Of low and page_3
 # the first wins.
 want('against whom it wins', ['- `bmc` against `pch`: 5 pairs; wins 2, loses 3'], lines_with(bmc, '`bmc` against `pch`'))
 # Nobody wins against an interrupt of a lower address: 0x08 is 0001000, and 0x10 is 0010000.
 want('against whom it never does', ['- `bmc` against `!alert`: 4 pairs; loses 4'], lines_with(bmc, '!alert'))
-want('which messages never do',
-     [f'- `bmc/page_{n}` against `pch`: 1 pair; loses 1' for n in (2, 3, 4)], lines_with(bmc, '`bmc/'))[0:0] if False else None
 want('which messages never do', [f'- `bmc/page_{n}` against `pch`: 1 pair; loses 1' for n in (2, 3, 4)],
      lines_with(bmc, '- `bmc/page_', 'against'))
-want('the same from where it is used', bmc, said(BOARD, 'bmc', 'never', shift=1).split('`bmc/page` never meets `pch/page_3`: ')[0].rstrip('\n') + '\n')
+want('the same from where it is used', True, said(BOARD, 'bmc', 'never', shift=1).startswith(bmc))
 pch = said(BOARD, 'pch', 'controller pch')
 want('its own side stands first', ['- `pch/page_3` never meets `bmc/page`', '- `pch` never meets `idle`'],
      lines_with(pch, 'never meets'))
@@ -66,7 +64,7 @@ want('a controller that sends nothing', ['controller `idle`: sends no message', 
 
 alert = said(BOARD, 'alert')
 want('an interrupt: its address', 'interrupt `alert`: address `0x08`, bits `0001000`', alert.splitlines()[0])
-want('its pairs', ['in 6 pairs, none of them unsafe'], lines_with(alert, 'pairs, none'))
+want('its pairs', ['in 6 pairs, none unsafe'], lines_with(alert, 'pairs,'))
 want('who wins', ['- `!alert` against `bmc`: 4 pairs; wins 4', '- `!alert` against `pch`: 2 pairs; wins 2'], lines_with(alert, 'against'))
 
 # 3 messages of one and 1 of the other
@@ -85,7 +83,6 @@ MANY = 'brief 1\n' + ''.join(f'message m{n} write 0x50 any*{n + 1} ;\n' for n in
     'controller a ' + ' '.join(f'm{n}' for n in range(13)) + ' ;\n'
 server.change(BRIEF, MANY)
 want('many messages', 'controller `a`: sends 13 messages: ' + ', '.join(f'`m{n}`' for n in range(10)) + ' and 3 more',
-     said(MANY, 'a', 'controller a', shift=0).splitlines()[0] if MANY.index('a', MANY.index('controller a')) == 0 else
      said(MANY, 'a m0').splitlines()[0])
 
 # ---- labels of families, of devices of a group, and of single messages
@@ -123,14 +120,13 @@ device call 0x00 ;
 byte status 0x90 ;
 message a write 0x48 0x90 0x91 0x01 0b00000001 0b0000000x 0x1X any*3 ;
 message b write 0x78 read 0x7C 2 ;
-message c write 0b111XX00 ;
-'''.replace('0b111XX00', '0b11110xx') + '''message d write 0x2F wr(0x48) rd( 0x07 ) any but 0x91 ;
+message c write 0b11110xx ;
+message d write 0x2F wr(0x48) rd( 0x07 ) any but 0x91 ;
 message e write 0x48 0x01*16 else (read 0x48 1) 0x02..0x03 ;
 interrupt i 0x10 ;
 controller c1 a ;
 controller c2 b ;
-with
-'''.replace('with\n', '')
+'''
 told = server.change(BRIEF, BYTES)
 # (a header is the address and the direction bit: 0x48 * 2 = 0x90)
 TEMP = 'address `0x48` of `temp`, `twin`: `0x90` to write, `0x91` to read'
@@ -191,10 +187,10 @@ for frames, checks, values in CHECKS:
         place = text.index(check, place + 1)
         what = CODE if check == 'pec' else SUM
         if value == 'any':
-            what = f'`any`, since some bytes before it are open: {what}'
+            what = f'`any`, since not all bytes before it are known: {what}'
         elif value:
             what = f'`{value}`, {what}'
-        want(f'{check} of {frames}', f'`{check}`: {what}', said(text[:place] + text[place:], text[place:], shift=0))
+        want(f'{check} of {frames}', f'`{check}`: {what}', said(text, text[place:]))
 server.change(BRIEF, NAMED := 'brief 1\nbyte pec 0x10 ;\nmessage m write 0x50 pec ;\ncontroller c m ;\n')
 want('a byte of that name', 'byte `pec`: bits `0x10`', said(NAMED, 'pec', 'message'))
 
@@ -212,20 +208,19 @@ server.change(BRIEF, UNSAFE)
 limit = said(UNSAFE, 'write_limit')
 # START, then the header and the byte, each with its acknowledge: 18 slots, so they part in slot 18
 want('its frames first', ['message `write_limit`', '', '```text', 'S 48 Wr A 01 A any A P', '```'], limit.splitlines()[:5])
-want('in how many pairs', ['in 1 pair, 1 of them unsafe'], lines_with(limit, 'of them unsafe'))
+want('in how many pairs', ['in 1 pair, 1 unsafe'], lines_with(limit, '1 unsafe'))
 rows = limit.split('```text\n')[2].split('```')[0].splitlines()
 want('the rows', [['bus', 'S', '48', 'Wr', 'A', '01', 'A'],
-                  ['main/write_limit', 'S', '48', 'Wr', 'A', '01', 'A', 'next:', 'data', 'bit'],
-                  ['guard/read_limit', 'S', '48', 'Wr', 'A', '01', 'A', 'next:', 'repeated', 'START']],
+                  ['main/write_limit', 'S', '48', 'Wr', 'A', '01', 'A', 'next:', 'a', 'data', 'bit'],
+                  ['guard/read_limit', 'S', '48', 'Wr', 'A', '01', 'A', 'next:', 'a', 'repeated', 'START']],
      [row.split() for row in rows[:3]])
-want('the slot', 'slot 18, UM10204 3.1.8: data bit meets repeated START. Both send alike until here.', ' '.join(rows[3:]))
+want('the slot', 'slot 18, UM10204 3.1.8: a data bit meets a repeated START. Both send alike until here.', ' '.join(rows[3:]))
 want('who wins stands last', '- `main/write_limit` against `guard`: 1 pair; unsafe 1', limit.splitlines()[-1])
-want('a safe one', [], lines_with(said(UNSAFE, 'safe', 'message safe'), 'of them unsafe'))
-want('its controller', ['in 2 pairs, 1 of them unsafe'], lines_with(said(UNSAFE, 'main'), 'pairs,'))
+want('a safe one', [], lines_with(said(UNSAFE, 'safe', 'message safe'), '1 unsafe'))
+want('its controller', ['in 2 pairs, 1 unsafe'], lines_with(said(UNSAFE, 'main'), 'pairs,'))
 HEADER = 'brief 1\nmessage m read 0x48 1 ;\ncontroller c m ;\ninterrupt i 0x48 ;\n'
 server.change(BRIEF, HEADER)
-want('an interrupt of the same header', ['in 1 pair, 1 of them unsafe'], lines_with(said(HEADER, 'i ', 'interrupt i', shift=0)
-     if False else said(HEADER, 'i 0x48'), 'unsafe')[:1])
+want('an interrupt of the same header', ['in 1 pair, 1 unsafe'], lines_with(said(HEADER, 'i 0x48'), 'in 1 pair'))
 want('by the profile of interrupts', True, 'the profile of interrupts' in said(HEADER, 'm '))
 
 # ---- texts that are refused, and plans

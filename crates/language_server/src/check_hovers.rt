@@ -1,6 +1,7 @@
 // What is said of a `pec` or a `sum`: its value, in the plan that was read.
 
 use crate::deeds::{Deed, Deeds, Found};
+use crate::hover_words::push_byte;
 use crate::knowledge::Known;
 use crate::readings::Reading;
 use brief_tokens::Symbol;
@@ -53,13 +54,12 @@ fn push_value(text: &mut Text, bits: Pattern) {
             Bit::Zero => value << 1,
             Bit::One => value << 1 | 1,
             Bit::Either => {
-                return text.push("`any`, since some bytes before it are open: ");
+                return text.push("`any`, since not all bytes before it are known: ");
             }
         };
     }
-    text.push("`0x");
-    text.push_hex(value);
-    text.push("`, ");
+    push_byte(text, value);
+    text.push(", ");
 }
 
 // The name that this item gives to a message.

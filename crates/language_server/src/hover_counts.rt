@@ -233,10 +233,10 @@ pub(crate) fn push_tally(text: &mut Text, tally: Tally) {
     text.push("in ");
     push_counted(text, pairs, "pair", "pairs");
     if unsafe_pairs == 0 {
-        text.push(", none of them unsafe");
+        text.push(", none unsafe");
     } else {
         text.push(", ");
         text.push_number(unsafe_pairs);
-        text.push(" of them unsafe");
+        text.push(" unsafe");
     }
 }

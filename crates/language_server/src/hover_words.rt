@@ -13,6 +13,23 @@ pub(crate) fn push_code(text: &mut Text, word: &[u8]) {
     text.push("`");
 }
 
+/// Adds a byte as code, as briefs write it.
+pub(crate) fn push_byte(text: &mut Text, byte: u8) {
+    text.push("`0x");
+    push_digit(text, byte >> 4);
+    push_digit(text, byte & 0x0F);
+    text.push("`");
+}
+
+fn push_digit(text: &mut Text, digit: u8) {
+    let at = usize::from(digit);
+    text.push(
+        "0123456789ABCDEF"
+            .get(at..at.saturating_add(1))
+            .unwrap_or(""),
+    );
+}
+
 /// Adds the next name of a list, before which so many stand in it.
 pub(crate) fn push_listed(text: &mut Text, before: usize, word: &[u8]) {
     if before < NAMED {

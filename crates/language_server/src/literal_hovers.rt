@@ -1,6 +1,6 @@
 // What is said of addresses and data bytes that are written as numbers or bits.
 
-use crate::hover_words::{end_list, push_code, push_listed};
+use crate::hover_words::{end_list, push_byte, push_code, push_listed};
 use growing_text::Text;
 use origins::{Kind, NamedTexts};
 use std::alloc::{AllocError, Global};
@@ -50,11 +50,10 @@ pub(crate) fn address_hover(
 // The bytes with which a write and a read begin.
 fn push_headers(text: &mut Text, address: u8) {
     let header = (address & SEVEN) << 1;
-    text.push("`0x");
-    text.push_hex(header);
-    text.push("` to write, `0x");
-    text.push_hex(header | 1);
-    text.push("` to read");
+    push_byte(text, header);
+    text.push(" to write, ");
+    push_byte(text, header | 1);
+    text.push(" to read");
 }
 
 // The devices that may have the address: no bit is known in both and different.
@@ -120,9 +119,7 @@ fn push_made(text: &mut Text, names: &NamedTexts<'_>, byte: u8) -> bool {
 // Its bits, or its value where it is written in bits.
 fn push_other(text: &mut Text, byte: Bits, is_number: bool) {
     if byte.known == EIGHT && !is_number {
-        text.push("`0x");
-        text.push_hex(byte.value);
-        text.push("`");
+        push_byte(text, byte.value);
     } else {
         push_bits(text, byte, 8);
     }

@@ -1,7 +1,7 @@
 // What is said of a controller, and of an interrupt.
 
 use crate::hover_counts::{Senders, Side, is_in_never, push_tally, sides_in, tally_of};
-use crate::hover_words::{end_list, push_against, push_code, push_counted, push_listed};
+use crate::hover_words::{end_list, push_against, push_byte, push_code, push_counted, push_listed};
 use crate::knowledge::Known;
 use crate::never_hovers::push_never_side;
 use crate::readings::{ReadPlan, Reading};
@@ -294,9 +294,9 @@ fn push_address(text: &mut Text, plan: &Plan, p: u32) {
     }
     if let Participant::Interrupt(k) = plan.participant(p) {
         let address = plan.interrupt_address(k);
-        text.push("address `0x");
-        text.push_hex(address);
-        text.push("`, bits `");
+        text.push("address ");
+        push_byte(text, address);
+        text.push(", bits `");
         for place in 0..7u8 {
             let is_one = address >> (6 - place) & 1 == 1;
             text.push(if is_one { "1" } else { "0" });
