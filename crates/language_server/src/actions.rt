@@ -100,7 +100,8 @@ impl Actions<'_, '_> {
         }
         self.begin(fix.title.as_str());
         self.text.push(",\"diagnostics\":[");
-        self.text.push_made(own_json(self.alloc, diagnostic, self.marks));
+        self.text
+            .push_made(own_json(self.alloc, diagnostic, self.marks));
         self.text.push("]");
         if diagnostic.fixes.len() == 1 {
             self.text.push(",\"isPreferred\":true");
@@ -175,7 +176,8 @@ impl Actions<'_, '_> {
 
     fn end(&mut self, rewrites: &[Rewrite<'_>]) {
         self.text.push(",\"edit\":");
-        self.text.push_made(rewriting_of(self.alloc, self.marks, rewrites));
+        self.text
+            .push_made(rewriting_of(self.alloc, self.marks, rewrites));
         self.text.push("}");
     }
 

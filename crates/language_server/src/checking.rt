@@ -176,11 +176,7 @@ fn read_plan<R: Threads + Sync>(
 }
 
 // The plan, and its faults.
-fn checked<R: Threads + Sync>(
-    rt: &R,
-    alloc: Global,
-    plan: Plan,
-) -> Result<Checked, AllocError>
+fn checked<R: Threads + Sync>(rt: &R, alloc: Global, plan: Plan) -> Result<Checked, AllocError>
     ensures { IfOk result (λ it. AreFaults (plan_contents it.plan) (fault_list it.faults)) }
 {
     match check_found(rt, alloc, plan, 1, &NoGate) {

@@ -291,7 +291,11 @@ fn may_watch(params: Option<&Value>) -> bool {
 
 fn registered_in(params: Option<&Value>, of: &str, what: &str) -> Option<bool> {
     let capabilities = params?.get("capabilities")?;
-    capabilities.get(of)?.get(what)?.get("dynamicRegistration")?.as_bool()
+    capabilities
+        .get(of)?
+        .get(what)?
+        .get("dynamicRegistration")?
+        .as_bool()
 }
 
 // Whether a client can be told what is wrong: one that says nothing of that, and cannot ask for it, is taken to.

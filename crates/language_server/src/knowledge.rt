@@ -88,7 +88,9 @@ impl Known {
     /// Whether what is wrong with a document is told by this plan.
     pub(crate) fn tells(&self, uri: &str) -> bool {
         let parts = self.given.parts.as_slice();
-        parts.iter().any(|part| part.is_told && part.uri.as_str() == uri)
+        parts
+            .iter()
+            .any(|part| part.is_told && part.uri.as_str() == uri)
     }
 
     /// Whether the texts give a plan. What is wrong with it is wrong between two places.
@@ -114,7 +116,11 @@ impl Known {
             return None;
         };
         let files = BriefFiles {
-            first: self.given.parts.first().map_or("", |part| part.name.as_str()),
+            first: self
+                .given
+                .parts
+                .first()
+                .map_or("", |part| part.name.as_str()),
             further,
         };
         Some(words_of(files, &read.checked.plan, &read.provenance))

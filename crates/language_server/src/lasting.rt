@@ -16,7 +16,9 @@ impl Lasting {
     /// Where a message or an interrupt has the name now.
     pub(crate) fn place(&self, names: &NamedTexts<'_>) -> Option<Span> {
         let name = self.name.as_str().as_bytes();
-        let given = names.given(Kind::Message, name).or(names.given(Kind::Interrupt, name))?;
+        let given = names
+            .given(Kind::Message, name)
+            .or(names.given(Kind::Interrupt, name))?;
         Some(given.span)
     }
 }
@@ -34,9 +36,21 @@ pub(crate) fn lasting_of(
     let mut lasting = Vec::new(alloc);
     for diagnostic in wrong {
         if let About::Group(_) = diagnostic.about {
-            push_at(alloc, &mut lasting, given, diagnostic.span, diagnostic.message.as_str())?;
+            push_at(
+                alloc,
+                &mut lasting,
+                given,
+                diagnostic.span,
+                diagnostic.message.as_str(),
+            )?;
             for other in diagnostic.related.iter() {
-                push_at(alloc, &mut lasting, given, other.span, diagnostic.message.as_str())?;
+                push_at(
+                    alloc,
+                    &mut lasting,
+                    given,
+                    other.span,
+                    diagnostic.message.as_str(),
+                )?;
             }
         }
     }
@@ -54,7 +68,10 @@ fn push_at(
         return Ok(());
     };
     let one = Lasting {
-        name: String::from_str(alloc, str::from_utf8(span.of(part.text.as_slice())).unwrap_or(""))?,
+        name: String::from_str(
+            alloc,
+            str::from_utf8(span.of(part.text.as_slice())).unwrap_or(""),
+        )?,
         message: String::from_str(alloc, message)?,
     };
     match lasting.push(one) {

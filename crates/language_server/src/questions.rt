@@ -85,13 +85,9 @@ pub(crate) fn told_in(
         (Question::Actions { until }, Some(file)) => {
             actions_on(alloc, known, document, (file, offset, until), units)
         }
-        (Question::Wrong, Some(file)) => {
-            Ok(Told::Answer(report_on(alloc, known, file, units)?))
-        }
-        (
-            Question::Symbols | Question::Folds | Question::Inlays { .. },
-            Some(file),
-        ) => told_of_document(alloc, question, known, document, (file, offset), units),
+        (Question::Wrong, Some(file)) => { Ok(Told::Answer(report_on(alloc, known, file, units)?)) }
+        (Question::Symbols | Question::Folds | Question::Inlays { .. }, Some(file)) =>
+            told_of_document(alloc, question, known, document, (file, offset), units),
         (
             Question::Completions
             | Question::Lenses
@@ -116,11 +112,7 @@ fn hover_at(
     document: &Document,
     offset: usize,
 ) -> Result<Told, AllocError> {
-    let word = known.reading.word_at(alloc, &known.given, document, offset)?;
-    let said = match word {
-        Some(word) => hover_of(alloc, known, word)?,
-        None => None,
-    };
+    let said = hover_of(alloc, known, document, offset)?;
     Ok(Told::Answer(hover_on(alloc, said)?))
 }
 

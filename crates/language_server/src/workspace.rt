@@ -221,7 +221,9 @@ impl<'a, R: Files + AllocGlobal + Threads + Sync> Workspace<'a, R> {
     // Whether something was told of a file that a head names, an open document may name others, or a board names one.
     fn has_boards(&self) -> Result<bool, AllocError> {
         let documents = self.documents.all();
-        let is_second = documents.iter().any(|one| is_second_version(one.text.as_bytes()));
+        let is_second = documents
+            .iter()
+            .any(|one| is_second_version(one.text.as_bytes()));
         Ok(!self.told.is_empty() || is_second || !self.boards(&[])?.is_empty())
     }
 
@@ -305,7 +307,11 @@ impl<'a, R: Files + AllocGlobal + Threads + Sync> Workspace<'a, R> {
             }
         }
         for document in self.documents.all() {
-            if !self.known.iter().any(|known| known.has(document.uri.as_str())) {
+            if !self
+                .known
+                .iter()
+                .any(|known| known.has(document.uri.as_str()))
+            {
                 publish_nothing(alloc, answers, document.uri.as_str());
             }
         }
@@ -510,7 +516,11 @@ impl<'a, R: Files + AllocGlobal + Threads + Sync> Workspace<'a, R> {
         let known = self.known.as_slice();
         let told = known.iter().position(|one| one.tells(uri));
         let any = known.iter().position(|one| one.has(uri));
-        known.iter().position(|one| one.begins_with(uri)).or(told).or(any)
+        known
+            .iter()
+            .position(|one| one.begins_with(uri))
+            .or(told)
+            .or(any)
     }
 
     // What is known of a document that no plan has now, as where the head that named it cannot be read.
