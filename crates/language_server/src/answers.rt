@@ -1,6 +1,7 @@
 // What is said to a client: frames, which are gathered and then written at once.
 
 use crate::rpc::Fault;
+use editor_texts::json;
 use growing_text::Text;
 use serde::Serialize;
 use serde_json::Value;
@@ -113,17 +114,5 @@ impl Answers {
     /// All frames, and none are left.
     pub(crate) fn finish(self) -> Result<String, AllocError> {
         self.text.finish()
-    }
-}
-
-/// A value as JSON.
-///
-/// # Errors
-///
-/// Where an allocation fails. (These values have no text that JSON refuses.)
-pub(crate) fn json<T: Serialize>(alloc: Global, value: &T) -> Result<String, AllocError> {
-    match serde_json::to_string(alloc, value) {
-        Ok(text) => Ok(text),
-        Err(_) => Err(AllocError),
     }
 }

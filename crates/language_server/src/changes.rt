@@ -1,7 +1,7 @@
 // The changes that an editor makes in a document.
 
-use crate::positions::{Lines, Position, Units};
 use crate::rpc::{number_in, text_in};
+use editor_texts::{Lines, Position, Units};
 use growing_text::Text;
 use serde_json::Value;
 use std::alloc::{AllocError, Global};

@@ -1,18 +1,9 @@
 // The layout of a text.
 
-use crate::positions::{Lines, Range, Units};
+use editor_texts::{Edit, Lines, Units};
 use layout::formatted;
 use plan_text::PlanError;
-use serde::Serialize;
 use std::alloc::{AllocError, Global};
-
-/// What is to stand in the place of a part of a document.
-#[derive(Clone, Copy, Serialize)]
-#[serde(rename_all = "camelCase")]
-pub(crate) struct Edit<'a> {
-    pub(crate) range: Range,
-    pub(crate) new_text: &'a str,
-}
 
 /// The whole text, as it is laid out. None where it is so already, or is refused.
 ///

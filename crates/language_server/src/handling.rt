@@ -2,14 +2,13 @@
 
 use crate::answers::Answers;
 use crate::changes::{position_in, range_in};
-use crate::plans::Further;
-use crate::positions::{Position, Units};
 use crate::questions::{Question, Told};
 use crate::rpc::{
     BAD_PARAMS, BEGUN, Call, Fault, Message, NO_JSON, NO_REQUEST, NOT_BEGUN, REFUSED, SHUT_DOWN,
     UNKNOWN, message_of, text_in,
 };
 use crate::workspace::Workspace;
+use editor_texts::{Further, Position, Units};
 use run_parts::Status;
 use serde_json::Value;
 use std::alloc::{AllocError, Global};

@@ -1,20 +1,12 @@
 // What is asked of a place of a document, and the answers.
 
-use crate::actions::actions_in;
-use crate::answers::json;
-use crate::completions::completions_at;
-use crate::documents::Document;
-use crate::hovers::hover_of;
-use crate::inlays::inlays_in;
-use crate::knowledge::Known;
-use crate::lenses::lenses_of;
-use crate::positions::{Lines, Position, Units};
-use crate::publishing::{location_of, marks_of, report_on};
-use crate::readings::{Reading, Word, names_in};
-use crate::references::{highlights_of, locations_of, uses_of};
-use crate::renaming::{Renamed, renamed_to};
-use crate::rewriting::{rewrites_to, rewriting_of};
-use crate::symbols::{folds_in, symbols_in};
+use editor_completions::completions_at;
+use editor_hovers::hover_of;
+use editor_lists::{
+    Renamed, actions_in, folds_in, highlights_of, inlays_in, lenses_of, location_of, locations_of,
+    marks_of, renamed_to, report_on, rewrites_to, rewriting_of, symbols_in, uses_of,
+};
+use editor_texts::{Document, Known, Lines, Position, Reading, Units, Word, json, names_in};
 use growing_text::Text;
 use origins::{NameAt, NamedTexts, Span};
 use std::alloc::{AllocError, Global};

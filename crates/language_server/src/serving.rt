@@ -3,8 +3,8 @@
 use crate::answers::Answers;
 use crate::frames::{Frames, Ready};
 use crate::handling::Server;
-use crate::plans::further_of;
 use crate::rpc::{NO_LENGTH, TOO_LONG};
+use editor_texts::further_of;
 use run_parts::devices::reading::{BLOCK, READS};
 use run_parts::{Input, Output, RunError, Status, write_report};
 use std::alloc::Global;

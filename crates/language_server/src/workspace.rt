@@ -1,17 +1,14 @@
 // The texts that a client has open, what is known of the plans that these give, and what is told of them.
 
-use crate::answers::{Answers, json};
-use crate::boards::is_second_version;
+use crate::answers::Answers;
 use crate::changes::changed_text;
-use crate::documents::{Document, Documents};
 use crate::formatting::{edit_of, laid_out};
-use crate::heads::{FoundBoard, found_boards, given_at, heads_of};
-use crate::knowledge::Known;
-use crate::plans::{Further, Given, given_by, is_further, stands_for};
-use crate::positions::{Lines, Position, Units};
-use crate::publishing::{publish, publish_nothing};
 use crate::questions::{Question, Told, told_in};
-use crate::uris::{path_of, uri_of};
+use crate::telling::{publish, publish_nothing};
+use editor_texts::{
+    Document, Documents, FoundBoard, Further, Given, Known, Lines, Position, Units, found_boards,
+    given_at, given_by, heads_of, is_further, is_second_version, json, path_of, stands_for, uri_of,
+};
 use plan_text::is_plan;
 use serde_json::Value;
 use std::alloc::{AllocError, Global};
