@@ -6,7 +6,7 @@ if ! type -P python3 >found; then
     echo "there is no python3: twire lsp is not tried"
     finish
 fi
-for cases in client names; do
+for cases in client names states hovers; do
     python3 -B "$tests/editors/$cases.py" "$twire" "$tests" >said 2>&1
     count said
 done
