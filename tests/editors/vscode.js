@@ -233,8 +233,15 @@ async function oneBrief() {
     want('where nothing is', null, await ask('Definition', 'provideDefinition', document, at(0, 9)));
     await lists(document);
 
+    const offers = await fixes(document, 3, 10);
+    want('what mends an unsafe message', true, offers.length > 0 && offers.every(({ title }) => /^0\.\d /.test(title)));
+    want('nothing mends what is well', [], await fixes(document, 1, 8));
+
     replaced(document, 'read_limit ;', 'read_limt ;');
-    await becomes('a change after a character of two units', [['P8', 0, 6, 17, 6, 26]], () => shown(document));
+    await becomes('a change after a character of two units', ['P8', 0, 6, 17, 6, 26], () => shown(document)[0]);
+    const [fix] = await fixes(document, 6, 20);
+    want('a name that is near', ["write 'read_limit' here", [['a b.brief', [[6, 17, 6, 26, 'read_limit']]]], ['P8']],
+        [fix.title, fix.edits, fix.codes]);
     replaced(document, 'controller guard read_limt ;', 'controller guard    read_limit ;\nnever main   guard;');
     await becomes('a change that mends', [], () => shown(document));
     const options = { tabSize: 4, insertSpaces: true };
@@ -247,6 +254,17 @@ async function oneBrief() {
     await becomes('a change after that', 2, () => shown(document).length);
     stub.close(document);
     await becomes('a document that is closed', [], () => shown(document));
+}
+
+// What can be done about what is wrong there: its words, its edits by document, and what it mends.
+async function fixes(document, line, character) {
+    const range = new stub.api.Range(line, character, line, character);
+    return (await ask('CodeActions', 'provideCodeActions', document, range, { diagnostics: [] }) || [])
+        .map(({ title, edit, diagnostics }) => ({
+            title,
+            edits: edit.texts.map(([uri, edits]) => [path.basename(uri.fsPath), edits.map(one => [...spot(one.range), one.newText])]),
+            codes: diagnostics.map(({ code }) => code),
+        }));
 }
 
 // What is answered by lists.

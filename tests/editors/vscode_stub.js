@@ -213,7 +213,7 @@ const languages = {
     },
 };
 for (const name of ['Hover', 'Definition', 'Reference', 'DocumentHighlight', 'Rename', 'CompletionItem', 'DocumentSymbol',
-    'FoldingRange', 'DocumentFormattingEdit', 'CodeLens', 'InlayHints']) {
+    'FoldingRange', 'DocumentFormattingEdit', 'CodeActions', 'CodeLens', 'InlayHints']) {
     languages[`register${name}Provider`] = registers(name);
 }
 
@@ -279,6 +279,8 @@ const api = {
     CompletionItem: record('label', 'kind'),
     FoldingRange: record('start', 'end', 'kind'),
     FoldingRangeKind: { Comment: 1, Imports: 2, Region: 3 },
+    CodeAction: record('title', 'kind'),
+    CodeActionKind: { QuickFix: 'quickfix' },
     CodeLens: record('range', 'command'),
     InlayHint: record('position', 'label', 'kind'),
     languages, workspace, window, commands,

@@ -101,6 +101,13 @@ function documentFormattingProvider(server) {
     });
 }
 
+function codeActionProvider(server) {
+    return languages.registerCodeActionsProvider(SELECTOR, {
+        provideCodeActions: (document, range, context, token) => server.askEach('textDocument/codeAction',
+            whole(document, { range: values.writtenRange(range), context: { diagnostics: [] } }), values.action, token),
+    }, { providedCodeActionKinds: [vscode.CodeActionKind.QuickFix] });
+}
+
 function codeLensProvider(server) {
     return languages.registerCodeLensProvider(SELECTOR, {
         onDidChangeCodeLenses: server.told.event,
@@ -124,8 +131,8 @@ function inlayHintProvider(server) {
 
 const FEATURES = {
     hoverProvider, definitionProvider, referencesProvider, documentHighlightProvider, renameProvider,
-    completionProvider, documentSymbolProvider, foldingRangeProvider, documentFormattingProvider, codeLensProvider,
-    inlayHintProvider,
+    completionProvider, documentSymbolProvider, foldingRangeProvider, documentFormattingProvider, codeActionProvider,
+    codeLensProvider, inlayHintProvider,
 };
 
 // Registers what is both known here and offered there: `true`, or what is said of it.

@@ -67,6 +67,15 @@ function fold({ startLine, endLine, kind }) {
     return new vscode.FoldingRange(startLine, endLine, kinds[kind]);
 }
 
+// (all of them are quick fixes)
+function action({ title, edit: made, diagnostics, isPreferred }) {
+    const value = new vscode.CodeAction(title, vscode.CodeActionKind.QuickFix);
+    value.edit = workspaceEdit(made);
+    value.diagnostics = (diagnostics || []).map(diagnostic);
+    value.isPreferred = isPreferred;
+    return value;
+}
+
 function lens({ range: place, command }) {
     return new vscode.CodeLens(range(place), command);
 }
@@ -79,5 +88,5 @@ function hint({ position, label, paddingLeft }) {
 
 module.exports = {
     writtenPosition, writtenRange, range, location, diagnostic, hover, highlight, edit, workspaceEdit, completion, symbol,
-    fold, lens, hint,
+    fold, action, lens, hint,
 };
