@@ -1,4 +1,4 @@
-# Made-up boards of several files, in the editor: what is completed at each token of their items, held against `twire check`, and
+# Made-up boards of several files, in the editor: what is completed at tokens of their items, held against `twire check`, and
 # names with others in their places, held against `twire expand`. The first argument is the program, the second a seed, and the
 # third how many boards are made. The last line is 'N passed, M failed'.
 import os
@@ -11,10 +11,10 @@ import tempfile
 from protocol import TWIRE, Server, counts, finish, spot, want
 
 SEED = int(sys.argv[2]) if len(sys.argv) > 2 else 74
-BOARDS = int(sys.argv[3]) if len(sys.argv) > 3 else 4
+BOARDS = int(sys.argv[3]) if len(sys.argv) > 3 else 2
 # How many completions, and how many words that may or may not stand somewhere, are tried in each file
-TRIED = 8
-WORDS = 6
+TRIED = 5
+WORDS = 4
 STEMS = ['a', 'b', 'a_b', 'psu', 'fan', 'page', 'get', 'set', 'm', 'bmc', 'pch', 'x1', 'x']
 # Words of a `brief 2`, which are names in a `brief 1`
 SECOND = ['with', 'group', 'extend', 'but', 'wr', 'rd', 'pec', 'sum']
@@ -379,10 +379,12 @@ class Editor:
 # ---- what is tried
 
 
-# What is completed at each token of a text, before it and after it.
+# What is completed at every other token of a text, before it and after it.
 def completes(editor, board, name, text, places, chance):
     tried = []
     for place, (start, word, kind) in enumerate(places):
+        if chance.randrange(2) == 0:
+            continue
         before = places[place - 1] if place else None
         here = f'{name}:{position(text, start)["line"] + 1}: {word!r}'
         offered = editor.completed(name, start)
