@@ -8,6 +8,10 @@ export PYTHONDONTWRITEBYTECODE=1
 python3 "$tests/editors/grammar.py" "$top" >grammar 2>&1
 count grammar
 
+# Completion and other names over boards that are made up.
+python3 "$tests/editors/models.py" "$twire" >models 2>&1
+count models
+
 for editor in vim nvim; do
     if program=$(type -P "$editor"); then
         python3 "$tests/editors/syntax.py" "$top" "$program" >syntax 2>&1
