@@ -76,15 +76,15 @@ fn without(
 fn with_lines(text: &[u8], span: Span) -> Span {
     let before = last_line(text.get(..span.start).unwrap_or(&[]));
     let after = text.get(span.end..).unwrap_or(&[]);
-    let blanks = first_line(after).len();
-    if !is_blank(before) || !is_blank(first_line(after)) {
+    let rest = first_line(after);
+    if !is_blank(before) || !is_blank(rest) {
         return span;
     }
     // (with the line feed, where there is one)
-    let rest = blanks.saturating_add(1).min(after.len());
+    let length = rest.len().saturating_add(1).min(after.len());
     Span {
         start: span.start.saturating_sub(before.len()),
-        end: span.end.saturating_add(rest),
+        end: span.end.saturating_add(length),
         ..span
     }
 }

@@ -11,8 +11,8 @@
 //! is said of dumps is a crate of its own, `dump_hints`, which puts its hints together by the parts below.
 //!
 //! `values` has the hints, and the edits that mend what they speak of. It writes the hints as lines: it puts the word `hint:`
-//! before each, and breaks sentences for 80 columns. `lines` puts hints together from parts, `marking` shows a place in its line, and `paths` writes names of
-//! files as a shell takes them. `kinds` tells by its first bytes what a file is that stands in the place of another,
+//! before each, and breaks sentences for 80 columns. `lines` puts hints together from parts, `marking` shows a place in its
+//! line, and `paths` writes names of files as a shell takes them. `kinds` tells by its first bytes what a file is that stands in the place of another,
 //! and `likeness` which names are nearest to one that is not there.
 #![tactic(auto)]
 

@@ -290,12 +290,22 @@ fn push_spelled(
 ) {
     let spelled = match refused.language {
         Language::Plan => spelled_bits(alloc, expected, "", word),
+        // (of two slips a reason names one)
+        Language::Brief if has_two_slips(word) => Ok(None),
         Language::Brief => spelled_in_brief(alloc, expected, word),
     };
     match spelled {
         Ok(Some(spelled)) => refused.mend(lines, spelled.as_str()),
         Ok(None) => {}
         Err(_) => lines.fail(),
+    }
+}
+
+// Whether both what stands before digits or bits and an open one are of the other size.
+fn has_two_slips(word: &str) -> bool {
+    match word.strip_prefix("0X") {
+        Some(digits) => digits.contains('x'),
+        None => word.starts_with("0B") && word.contains('X'),
     }
 }
 
