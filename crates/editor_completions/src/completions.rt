@@ -1,6 +1,6 @@
 // What may be written at a place of a document: what the reader would take there.
 
-use crate::paths::{HeadPlace, end_in_head, other_paths, start_of_path};
+use crate::paths::{HeadPlace, end_in_head, other_paths, paths_on_disk, start_of_path};
 use crate::sendings::{
     Listed, Sending, all_sendings, count_listed, group_in, has_word, listed_at, listed_of,
     words_listed,
@@ -22,6 +22,7 @@ use run_values::{Halt, RefusedSource};
 use serde::Serialize;
 use std::alloc::{AllocError, Global};
 use std::mem;
+use std::rt::Files;
 
 // A word that stands nowhere. The reader says what it would have taken in its place.
 const NOTHING: &[u8] = b" ?";
@@ -48,6 +49,8 @@ const ENUM: u8 = 13;
 const KEYWORD: u8 = 14;
 
 const FILE: u8 = 17;
+
+const FOLDER: u8 = 19;
 
 const CONSTANT: u8 = 21;
 
@@ -76,13 +79,14 @@ impl<'a> At<'a> {
 /// # Errors
 ///
 /// Where an allocation fails.
-pub fn completions_at(
-    alloc: Global,
+pub fn completions_at<R: Files + AllocGlobal>(
+    rt: &R,
     given: &Given,
     file: u32,
     offset: usize,
     units: Units,
 ) -> Result<String, AllocError> {
+    let alloc = rt.alloc();
     let number = file as usize;
     let Some(part) = given.parts.get(number) else {
         return nothing(alloc);
@@ -96,7 +100,7 @@ pub fn completions_at(
         end: offset,
     };
     if path.is_some() {
-        paths_at(alloc, given.parts.as_slice(), at, units)
+        paths_at(rt, given.parts.as_slice(), at, units)
     } else {
         words_at(alloc, given.parts.as_slice(), at, units)
     }
@@ -106,12 +110,26 @@ fn nothing(alloc: Global) -> Result<String, AllocError> {
     String::from_str(alloc, "[]")
 }
 
-// The files that the head may name there.
-fn paths_at(alloc: Global, parts: &[Part], at: At<'_>, units: Units) -> Result<String, AllocError> {
+// The files that the head may name there: those on disk, and others of the board.
+fn paths_at<R: Files + AllocGlobal>(
+    rt: &R,
+    parts: &[Part],
+    at: At<'_>,
+    units: Units,
+) -> Result<String, AllocError> {
+    let alloc = rt.alloc();
     let lines = Lines::of(alloc, at.text, units)?;
     let mut rows = Rows::new(alloc, lines.range(at.start, at.end));
+    let uri = parts.get(at.number).map_or("", |part| part.uri.as_str());
+    let written = str::from_utf8(at.typed()).unwrap_or("");
+    let on_disk = paths_on_disk(rt, uri, written)?;
+    for path in on_disk.iter() {
+        rows.add_path(path.as_str());
+    }
     for path in other_paths(alloc, parts, at.number)?.iter() {
-        rows.add(path.as_str(), FILE, "a file of this board");
+        if !on_disk.iter().any(|one| one.as_str() == path.as_str()) {
+            rows.add(path.as_str(), FILE, "a file of this board");
+        }
     }
     rows.finish()
 }
@@ -324,6 +342,15 @@ impl Rows {
         self.text.push(self.before);
         self.text.push_made(json(self.alloc, &completion));
         self.before = ",";
+    }
+
+    // A file on disk, or a folder.
+    fn add_path(&mut self, path: &str) {
+        if path.ends_with('/') {
+            self.add(path, FOLDER, "a folder");
+        } else {
+            self.add(path, FILE, "a file");
+        }
     }
 
     fn finish(mut self) -> Result<String, AllocError> {

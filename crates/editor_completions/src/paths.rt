@@ -4,7 +4,11 @@ use brief_tokens::{Keyword, Symbol, begin};
 use editor_texts::{Part, path_of, uri_of};
 use growing_text::Text;
 use lexer::Letters;
+use run_parts::devices::reading::READS;
+use run_parts::{RunError, Watched, read_within};
 use std::alloc::{AllocError, Global};
+use std::fs;
+use std::rt::Files;
 
 /// A place in the head of a brief of the second version.
 #[derive(Clone, Copy, PartialEq, Eq)]
@@ -195,4 +199,90 @@ fn path_from(alloc: Global, folder: &str, path: &str) -> Result<String, AllocErr
         above = folder_in(above.strip_suffix("/").unwrap_or(""));
     }
     String::from_str(alloc, path)
+}
+
+// ---- files on disk
+
+// So many names of a folder are looked at.
+const MOST: usize = 1_000;
+
+/// What a head of the document with this URI may name that stands on disk, in the folder that the part written so far names: briefs,
+/// but the document itself, and folders.
+///
+/// # Errors
+///
+/// Where an allocation fails.
+pub(crate) fn paths_on_disk<R: Files + AllocGlobal>(
+    rt: &R,
+    uri: &str,
+    written: &str,
+) -> Result<Vec<String>, AllocError> {
+    let alloc = rt.alloc();
+    let mut paths = Vec::new(alloc);
+    let Some(own) = path_of(alloc, uri)? else {
+        return Ok(paths);
+    };
+    let own = own.as_str();
+    let front = folder_in(written);
+    let above = if front.starts_with('/') {
+        ""
+    } else {
+        folder_in(own)
+    };
+    let folder = format!(in alloc; "{above}{front}")?;
+    let names = names_in_folder(rt, folder.as_str())?;
+    for name in names.as_slice().split(|byte| *byte == 0).take(MOST) {
+        let name = str::from_utf8(name).unwrap_or("");
+        push_named(rt, &mut paths, own, (folder.as_str(), front), name)?;
+    }
+    Ok(paths)
+}
+
+// The names in a folder, each with a NUL after it. None, where it cannot be read.
+fn names_in_folder<R: Files + AllocGlobal>(rt: &R, folder: &str) -> Result<Vec<u8>, AllocError> {
+    let alloc = rt.alloc();
+    let Ok(names) = rt.open_dir(folder) else {
+        return Ok(Vec::new(alloc));
+    };
+    match read_within(alloc, &mut Watched::new(names), READS) {
+        Ok(names) => Ok(names),
+        Err(RunError::NoMemory) => Err(AllocError),
+        Err(_) => Ok(Vec::new(alloc)),
+    }
+}
+
+// What has this name in a folder, where a head may name it or leads to such files by it. The folder is also given as it is written.
+fn push_named<R: Files + AllocGlobal>(
+    rt: &R,
+    paths: &mut Vec<String>,
+    own: &str,
+    folder: (&str, &str),
+    name: &str,
+) -> Result<(), AllocError> {
+    if name.is_empty() || name.starts_with('.') {
+        return Ok(());
+    }
+    let alloc = rt.alloc();
+    let (folder, front) = folder;
+    let path = format!(in alloc; "{folder}{name}")?;
+    let Some(after) = end_of_name(rt, path.as_str(), own, name) else {
+        return Ok(());
+    };
+    let path = format!(in alloc; "{front}{name}{after}")?;
+    if !is_string(path.as_bytes()) {
+        return Ok(());
+    }
+    match paths.push(path) {
+        Ok(()) => Ok(()),
+        Err(_) => Err(AllocError),
+    }
+}
+
+// What stands after the name of what is at this path: `/` after that of a folder, nothing after that of a brief. None of others.
+fn end_of_name<R: Files>(rt: &R, path: &str, own: &str, name: &str) -> Option<&'static str> {
+    let found = fs::metadata(rt, path).ok()?;
+    if found.is_dir() {
+        return Some("/");
+    }
+    (found.is_file() && name.ends_with(".brief") && path != own).then_some("")
 }

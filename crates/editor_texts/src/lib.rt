@@ -26,7 +26,8 @@ pub use json::json;
 pub use knowledge::{Known, Offered};
 pub use lasting::Lasting;
 pub use plans::{
-    Further, Given, Part, Unread, UnreadAt, further_of, given_by, is_further, stands_for,
+    Further, Given, Part, Unread, UnreadAt, further_of, given_alone, given_by, is_further,
+    stands_for,
 };
 pub use positions::{Edit, Lines, Position, Range, Units};
 pub use readings::{ReadPlan, Reading, Word, names_in, names_of_item};

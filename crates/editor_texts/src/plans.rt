@@ -216,6 +216,17 @@ fn given_texts<R: Files + AllocGlobal>(
     Ok(given)
 }
 
+/// A document alone, whatever its head names.
+///
+/// # Errors
+///
+/// Where an allocation fails.
+pub fn given_alone(alloc: Global, document: &Document) -> Result<Given, AllocError> {
+    let mut given = Given::new(alloc);
+    given.add(part_of(alloc, document, file_name_of(document), true)?)?;
+    Ok(given)
+}
+
 fn head_among(documents: &Documents, head: Option<usize>) -> Option<&Document> {
     documents.all().get(head?)
 }

@@ -10,6 +10,7 @@ use editor_texts::{Document, Known, Lines, Position, Reading, Units, Word, json,
 use growing_text::Text;
 use origins::{NameAt, NamedTexts, Span};
 use std::alloc::{AllocError, Global};
+use std::rt::Files;
 
 /// What is asked.
 #[derive(Clone, Copy)]
@@ -58,19 +59,20 @@ const NULL: &str = "null";
 /// # Errors
 ///
 /// Where an allocation fails.
-pub(crate) fn told_in(
-    alloc: Global,
+pub(crate) fn told_in<R: Files + AllocGlobal>(
+    rt: &R,
     question: Question<'_>,
     known: &Known,
     document: &Document,
     offset: usize,
     units: Units,
 ) -> Result<Told, AllocError> {
+    let alloc = rt.alloc();
     let file = known.given.number_of(document.uri.as_str());
     match (question, file) {
         (Question::Hover, _) => hover_at(alloc, known, document, offset),
         (Question::Completions, Some(file)) => {
-            let list = completions_at(alloc, &known.given, file, offset, units)?;
+            let list = completions_at(rt, &known.given, file, offset, units)?;
             Ok(Told::Answer(list))
         }
         (Question::Lenses, Some(file)) => lenses_on(alloc, known, document, file, units),

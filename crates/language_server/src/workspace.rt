@@ -7,7 +7,8 @@ use crate::questions::{Question, Told, told_in};
 use crate::telling::{publish, publish_nothing};
 use editor_texts::{
     Document, Documents, FoundBoard, Further, Given, Known, Lines, Position, Units, found_boards,
-    given_at, given_by, heads_of, is_further, is_second_version, json, path_of, stands_for, uri_of,
+    given_alone, given_at, given_by, heads_of, is_further, is_second_version, json, path_of,
+    stands_for, uri_of,
 };
 use plan_text::is_plan;
 use serde_json::Value;
@@ -492,7 +493,7 @@ impl<'a, R: Files + AllocGlobal + Threads + Sync> Workspace<'a, R> {
             (Some(document), Some(known)) => {
                 let lines = Lines::of(alloc, document.text.as_bytes(), self.units)?;
                 let offset = lines.offset(position);
-                told_in(alloc, question, known, document, offset, self.units)
+                told_in(self.rt, question, known, document, offset, self.units)
             }
             _ => Ok(Told::Answer(String::from_str(alloc, NULL)?)),
         }
@@ -511,20 +512,19 @@ impl<'a, R: Files + AllocGlobal + Threads + Sync> Workspace<'a, R> {
     // The plan that a document belongs to: it is the first text of it, or another one that is told of there, or anywhere.
     fn known_at(&self, uri: &str) -> Option<usize> {
         let known = self.known.as_slice();
+        let own = known
+            .iter()
+            .position(|one| one.begins_with(uri) && one.has(uri));
         let told = known.iter().position(|one| one.tells(uri));
         let any = known.iter().position(|one| one.has(uri));
-        known
-            .iter()
-            .position(|one| one.begins_with(uri))
-            .or(told)
-            .or(any)
+        own.or(told).or(any)
     }
 
     // What is known of a document that no plan has now, as where the head that named it cannot be read.
     fn know_alone(&mut self, uri: &str) -> Result<usize, AllocError> {
         let at = self.known.len();
-        if let Some(number) = self.documents.number_of(uri) {
-            let given = self.given_by(&[], Some(number), true)?;
+        if let Some(document) = self.documents.find(uri) {
+            let given = given_alone(self.rt.alloc(), document)?;
             let known = Known::of(self.rt, given, None, None)?;
             push(&mut self.known, known)?;
         }
