@@ -304,7 +304,7 @@ def said(line, character):
 
 want('a device', 'device `eeprom`: address `0x50`', said(3, 20))
 want('a byte', 'byte `page`: bits `0x10`', said(4, 27))
-want('a controller', None, said(5, 12))
+want('a controller', True, said(5, 12).startswith('controller `bmc`: sends 3 messages: '))
 want('the frames of a message', True, '```text\nS 50 Wr A 10 A Sr 50 Rd A (2 read) NA P\n```\n' in said(3, 9))
 family = said(4, 9)
 want('a family', True, 'S 50 Wr A 10*2 A any A P\n' in family and 'S 50 Wr A 10*2 A any*2 A P\n' in family)

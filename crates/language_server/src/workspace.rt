@@ -410,11 +410,26 @@ impl<'a, R: Files + AllocGlobal + Threads + Sync> Workspace<'a, R> {
             Some(uri) => Some(String::from_str(self.rt.alloc(), uri)?),
             None => None,
         };
+        if tells_further {
+            self.drop_headless();
+        }
         let is_plan = self.tell(given, uri, before, answers)?;
         if tells_further {
             self.before = self.before_of(head, is_plan)?;
         }
         Ok(())
+    }
+
+    // The further files are told of with another text than before.
+    fn drop_headless(&mut self) {
+        for _ in 0..self.known.len() {
+            match self.known.iter().position(|one| one.head.is_none()) {
+                Some(at) if at < self.known.len() => {
+                    let _dropped = self.known.remove(at);
+                }
+                _ => break,
+            }
+        }
     }
 
     // Tells what is wrong with these texts, and keeps what is known of them: whether they give a plan.
