@@ -545,8 +545,11 @@ want('it is closed', [], server.told(ON_SHELF['none']))
 want('and is not there again', [['read', 1, 3, 0, 3, 19]], each_told(server, *ALL)['board'])
 server.notify('textDocument/didClose', {'textDocument': {'uri': ON_SHELF['board']}})
 want('the board is closed', [], server.told(ON_SHELF['board']))
+want('its files are told of with the one on disk', {name: [] for name in ALL}, each_told(server, *ALL))
+os.rename('shelf/board.brief', 'shelf/away.brief')
+server.notify('textDocument/didSave', {'textDocument': {'uri': ON_SHELF['pch']}})
 want('its file is alone', {'pch': [['P8', 1, 1, 18, 1, 24]]}, each_told(server, 'pch'))
-want('nothing is wrong with the others', {'devices': [], 'bmc': []}, each_told(server, 'devices', 'bmc'))
+want('nothing is wrong with the others', {'devices': [], 'bmc': [], 'board': []}, each_told(server, 'devices', 'bmc', 'board'))
 want('the end of a board', [0, []], server.stop())
 
 # two that name each other are told of with the one that was opened first
