@@ -473,12 +473,6 @@ def renames(editor, folder, texts, name, places, chance):
     check(f'the plan, where {word!r} of {name} is renamed', plan(folder, texts), plan(folder, changed))
 
 
-# Whether some of what a choice makes is named in a board. The server does not know these names yet: only those of ranges.
-def names_a_choice(board):
-    return any(token and token[1] == 'name' and token[0].split('/')[-1] in board.chosen
-               for _, _, tokens in board.files for token in tokens)
-
-
 def edited(text, edits):
     lines = text.split('\n')
     for edit in sorted(edits, key=lambda edit: spot(edit['range']), reverse=True):
@@ -499,7 +493,7 @@ def tries(board, chance, folder):
             check(f'{name}: {label!r} is taken in the place of {word!r}, after {text[:start][-60:]!r}', False,
                   is_refused(folder, texts, name, changed, before, start, label))
         takes(editor, board, folder, texts, name, text, places, chance)
-        for _ in range(0 if names_a_choice(board) else 3):
+        for _ in range(3):
             renames(editor, folder, texts, name, places, chance)
     editor.end()
     return True

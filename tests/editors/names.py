@@ -106,6 +106,15 @@ want('no name at all', [-32803] * 4, [refused(12, 8, name) for name in ('', '1st
 want('a name that is too long', -32803, refused(12, 8, 'x' * 33))
 want('without a name', -32602, server.code('textDocument/rename', document(FIRST, **at(4, 8))))
 want('the same name', BOARD, renamed(server, FIRST, BOARD, 4, 8, 'psu1'))
+
+# members that a choice makes: 0x02..0x04 is cut into 0x02 and 0x03, and 0x04 (PLANS: blocks of a power of two)
+CHOICE = 'brief 2\nmessage b write 0x50 0x02..0x04 ;\nmessage b_c write 0x51 any ;\ncontroller c b_2 ;\ncontroller d b b_c ;\n'
+CHOSEN = 'file:///nowhere/choice.brief'
+want('a choice', [], [one for one in server.open(CHOSEN, CHOICE) if one['code'].startswith('P')])
+want('where the member of a choice gets its name', [1, 8, 1, 9],
+     spot(server.at('definition', CHOSEN, 3, 14)['range']))
+want('another name of a choice', CHOICE.replace(' b ', ' x ').replace('b_2', 'x_2'), renamed(server, CHOSEN, CHOICE, 1, 8, 'x'))
+want('of its member', CHOICE.replace(' b ', ' x ').replace('b_2', 'x_2'), renamed(server, CHOSEN, CHOICE, 3, 14, 'x'))
 server.change(FIRST, BOARD + 'controller x none ;\n')
 want('texts that are refused', -32803, refused(4, 8, 'left'))
 server.change(FIRST, BOARD)

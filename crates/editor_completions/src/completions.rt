@@ -2,8 +2,7 @@
 
 use crate::paths::{HeadPlace, end_in_head, other_paths, paths_on_disk, start_of_path};
 use crate::sendings::{
-    Listed, Sending, all_sendings, count_listed, group_in, has_word, listed_at, listed_of,
-    words_listed,
+    Listed, Sending, all_sendings, count_listed, has_word, listed_at, listed_of, words_listed,
 };
 use crate::sides::{
     Side, all_sides, controller_of, first_side, has_pair, has_side_of, is_part_taken,
@@ -11,8 +10,8 @@ use crate::sides::{
 use brief_text::slips_in;
 use brief_tokens::is_board_word;
 use editor_texts::{
-    Edit, Given, Lines, Part, Range, Units, json, names_after_first, names_in, names_of_item,
-    texts_of,
+    Edit, Given, Lines, Part, Range, Units, group_in, json, names_after_first, names_in,
+    names_of_item, texts_of,
 };
 use growing_text::Text;
 use origins::{ItemKind, Kind, Language, NameAt, NamedTexts, Role, Spans, halves};

@@ -1,8 +1,6 @@
 // The names by which a controller may list messages: those of messages, and what a message makes by a range, a choice or a group.
 
-use brief_tokens::{Keyword, Symbol, Tokens};
-use editor_texts::names_of_item;
-use lexer::Letters;
+use editor_texts::{group_in, names_of_item, numbers_of};
 use origins::{Item, ItemKind, Kind, Language, NameAt, NamedTexts, Role, Spans};
 use std::alloc::{AllocError, Global};
 
@@ -141,113 +139,6 @@ fn first_message(all: &[Sending], number: usize) -> Option<usize> {
         Some(ends) => Some(ends.first),
         None => Some(next),
     }
-}
-
-/// The group of devices that stands among these names of a message.
-pub(crate) fn group_in(names: &NamedTexts<'_>, own: &[NameAt]) -> Option<NameAt> {
-    for at in own {
-        if at.kind == Kind::Device && at.role == Role::Used {
-            if let Some(group) = names.group(names.word(*at)) {
-                return Some(group);
-            }
-        }
-    }
-    None
-}
-
-// ---- numbers
-
-// The numbers of the messages that a message makes by a range or a choice.
-fn numbers_of(names: &NamedTexts<'_>, spans: &Spans, at: NameAt) -> Option<(u32, u32)> {
-    let range = names.range(at);
-    if !range.is_empty() {
-        return ends_of(range);
-    }
-    let item = spans.item(at)?;
-    let letters = letters_of(spans, at.span.file)?;
-    let text = names.text(item.span.file).get(..item.span.end)?;
-    let mut tokens = Tokens::from(text, letters, item.span.start, 1);
-    let blocks = blocks_of(&mut tokens, item.span.end)?;
-    Some((1, blocks))
-}
-
-// The letters of a brief that may have choices.
-fn letters_of(spans: &Spans, file: u32) -> Option<Letters> {
-    let head = spans.head(file)?;
-    (head.language == Language::Brief && head.version == 2).then_some(Letters::Board)
-}
-
-// The ends of a range.
-fn ends_of(range: &[u8]) -> Option<(u32, u32)> {
-    let (least, greatest) = str::from_utf8(range).ok()?.split_once("..")?;
-    let least = least.parse::<u8>().ok()?;
-    let greatest = greatest.parse::<u8>().ok()?;
-    Some((least as u32, greatest as u32))
-}
-
-// Into how many blocks the choice is cut that stands among these tokens.
-fn blocks_of(tokens: &mut Tokens<'_>, most: usize) -> Option<u32> {
-    for _ in 0..most {
-        match tokens.next().symbol {
-            Symbol::Span { least, greatest } => {
-                return Some(blocks_from(least as u32, greatest as u32 + 1));
-            }
-            Symbol::Keyword(Keyword::But) => return blocks_but(tokens.next().symbol),
-            Symbol::End | Symbol::Stray | Symbol::Foreign => return None,
-            _ => {}
-        }
-    }
-    None
-}
-
-// The blocks of all values but these.
-fn blocks_but(symbol: Symbol<'_>) -> Option<u32> {
-    let (least, greatest) = match symbol {
-        Symbol::Span { least, greatest } => (least, greatest),
-        Symbol::Word(word) => {
-            let value = value_of(str::from_utf8(word).ok()?)?;
-            (value, value)
-        }
-        _ => return None,
-    };
-    let before = blocks_from(0, least as u32);
-    let after = blocks_from(greatest as u32 + 1, 256);
-    Some(before.saturating_add(after))
-}
-
-// The value of a byte of which all bits are known.
-fn value_of(word: &str) -> Option<u8> {
-    if let Some(digits) = word.strip_prefix("0x") {
-        return u8::from_str_radix(digits, 16).ok();
-    }
-    u8::from_str_radix(word.strip_prefix("0b")?, 2).ok()
-}
-
-// The fewest blocks that have the values from one up to the one before another.
-fn blocks_from(least: u32, end: u32) -> u32 {
-    let mut from = least;
-    let mut blocks = 0u32;
-    for _ in 0..256 {
-        if from >= end {
-            break;
-        }
-        from = from.saturating_add(block_at(from, end));
-        blocks = blocks.saturating_add(1);
-    }
-    blocks
-}
-
-// How many values the greatest block has that begins here and ends before there.
-fn block_at(from: u32, end: u32) -> u32 {
-    let mut size = 1u32;
-    for _ in 0..8 {
-        let double = size.saturating_mul(2);
-        if from & double.saturating_sub(1) != 0 || end < from.saturating_add(double) {
-            break;
-        }
-        size = double;
-    }
-    size
 }
 
 // ---- lists

@@ -1,9 +1,9 @@
 // Where what has a name is named, and the edits that give it another one.
 
 use crate::publishing::{Location, Marked, location_of};
-use editor_texts::{Range, json};
+use editor_texts::{Range, definition_in, json};
 use growing_text::Text;
-use origins::{Kind, NameAt, NamedTexts, Role, Span};
+use origins::{Kind, NameAt, NamedTexts, Role, Span, Spans};
 use serde::Serialize;
 use std::alloc::{AllocError, Global};
 
@@ -16,44 +16,45 @@ use std::alloc::{AllocError, Global};
 pub fn uses_of(
     alloc: Global,
     names: &NamedTexts<'_>,
+    spans: &Spans,
     definition: NameAt,
 ) -> Result<Vec<Span>, AllocError> {
     let mut uses = Vec::new(alloc);
     for at in names.names() {
-        if let Some(span) = use_at(names, definition, *at) {
+        if let Some(span) = use_at(names, spans, definition, *at) {
             uses.push(span)?;
         }
     }
     Ok(uses)
 }
 
-fn use_at(names: &NamedTexts<'_>, definition: NameAt, at: NameAt) -> Option<Span> {
+fn use_at(names: &NamedTexts<'_>, spans: &Spans, definition: NameAt, at: NameAt) -> Option<Span> {
     let name = names.word(definition);
     let word = names.word(at);
-    if at.kind == definition.kind && (word == name || is_member(names, definition, at)) {
+    if at.kind == definition.kind && (word == name || is_member(names, spans, definition, at)) {
         let end = at.span.start.saturating_add(name.len());
         return Some(Span { end, ..at.span });
     }
     if definition.kind == Kind::Device && at.kind == Kind::Message {
-        return device_in(names, name, at);
+        return device_in(names, spans, name, at);
     }
     None
 }
 
 // Whether a message that is named there is one that the message of this place makes.
-fn is_member(names: &NamedTexts<'_>, definition: NameAt, at: NameAt) -> bool {
+fn is_member(names: &NamedTexts<'_>, spans: &Spans, definition: NameAt, at: NameAt) -> bool {
     if at.kind != Kind::Message || !names.word(at).starts_with(names.word(definition)) {
         return false;
     }
-    match names.definition(Kind::Message, names.word(at)) {
+    match definition_in(names, spans, Kind::Message, names.word(at)) {
         Some(found) => found.span == definition.span,
         None => false,
     }
 }
 
 // Where this device stands in the name of a message that a group makes.
-fn device_in(names: &NamedTexts<'_>, device: &[u8], at: NameAt) -> Option<Span> {
-    let made = names.definition(Kind::Message, names.word(at))?;
+fn device_in(names: &NamedTexts<'_>, spans: &Spans, device: &[u8], at: NameAt) -> Option<Span> {
+    let made = definition_in(names, spans, Kind::Message, names.word(at))?;
     if made.span == at.span || !has_group_with(names, made, device) {
         return None;
     }

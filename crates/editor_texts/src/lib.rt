@@ -2,13 +2,14 @@
 //!
 //! `documents` has the texts that are open, and `uris` their files; `positions` counts as the Language Server Protocol does. `heads`
 //! says which texts begin a plan, `plans` which give it, and `boards` has the files that heads name. `knowledge` keeps what is known of
-//! a plan: `checking` finds what is wrong with it, `readings` has the names of its texts as they were read, and `lasting` what was
-//! unsafe before. `json` writes values.
+//! a plan: `checking` finds what is wrong with it, `readings` has the names of its texts as they were read, `families` where a
+//! name gets what it stands for, and `lasting` what was unsafe before. `json` writes values.
 #![tactic(auto)]
 
 mod boards;
 mod checking;
 mod documents;
+mod families;
 mod heads;
 mod json;
 mod knowledge;
@@ -21,6 +22,7 @@ mod uris;
 pub use boards::is_second_version;
 pub use checking::{Texts, named, names_after_first, texts_of};
 pub use documents::{Document, Documents};
+pub use families::{definition_in, group_in, numbers_of};
 pub use heads::{FoundBoard, found_boards, given_at, heads_of};
 pub use json::json;
 pub use knowledge::{Known, Offered};

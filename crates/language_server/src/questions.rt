@@ -6,7 +6,9 @@ use editor_lists::{
     Renamed, actions_in, folds_in, highlights_of, inlays_in, lenses_of, location_of, locations_of,
     marks_of, renamed_to, report_on, rewrites_to, rewriting_of, symbols_in, uses_of,
 };
-use editor_texts::{Document, Known, Lines, Position, Reading, Units, Word, json, names_in};
+use editor_texts::{
+    Document, Known, Lines, Position, Reading, Units, definition_in, json, names_in,
+};
 use growing_text::Text;
 use origins::{NameAt, NamedTexts, Span};
 use std::alloc::{AllocError, Global};
@@ -209,7 +211,7 @@ fn told_of_name(
         return nothing(alloc);
     };
     let names = reading.names(alloc, given.parts.as_slice())?;
-    let Some(definition) = definition_of(&names, word) else {
+    let Some(definition) = definition_in(&names, reading.spans(), word.kind, word.bytes) else {
         return nothing(alloc);
     };
     let place = Place {
@@ -220,10 +222,6 @@ fn told_of_name(
         Question::Rename(name) => renamed_on(alloc, known, &names, (definition, name), units),
         _ => Ok(Told::Answer(named_on(alloc, question, known, &names, definition, place, units)?)),
     }
-}
-
-fn definition_of(names: &NamedTexts<'_>, word: Word<'_>) -> Option<NameAt> {
-    names.definition(word.kind, word.bytes)
 }
 
 // Where it is asked. No number, where the document is none of the plan.
@@ -247,7 +245,7 @@ fn named_on(
     if let Question::Definition = question {
         return json(alloc, &location_of(marks, definition.span));
     }
-    let uses = uses_of(alloc, names, definition)?;
+    let uses = uses_of(alloc, names, known.reading.spans(), definition)?;
     let uses = uses.as_slice();
     match (question, place.file) {
         (Question::References { with_given }, _) => {
@@ -286,7 +284,7 @@ fn renamed_on(
     units: Units,
 ) -> Result<Told, AllocError> {
     let (definition, name) = to;
-    let uses = uses_of(alloc, names, definition)?;
+    let uses = uses_of(alloc, names, known.reading.spans(), definition)?;
     match renamed_to(alloc, known, names, uses.as_slice(), name)? {
         Renamed::Same => {
             let marks = marks_of(alloc, &known.given, units)?;
