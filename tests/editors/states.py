@@ -211,6 +211,29 @@ shown = [line.split()[0] for line in explained.split('\n') if line.startswith(' 
 want('the offers of check --explain', shown, [one['title'].split()[0] for one in actions(server, plan, 2, 9)])
 server.stop()
 
+# ---- files that a head may name
+
+def completed(server, uri, line, character):
+    found = server.result('textDocument/completion', {'textDocument': {'uri': uri}, 'position': {'line': line, 'character': character}})
+    return sorted([one['label'], one['detail'], spot(one['textEdit']['range'])] for one in found)
+
+
+file('project/notes.txt', 'none\n')
+file('project/.hidden.brief', 'brief 2\n')
+server = begun()
+opened(server, board, 'brief 2\nwith "')
+want('the files and the folders beside it', [['parts/', 'a folder', [1, 6, 1, 6]], ['pch.brief', 'a file', [1, 6, 1, 6]]],
+     completed(server, board, 1, 6))
+changed(server, board, 'brief 2\nwith "parts/d')
+want('those in a folder', [[f'parts/{name}.brief', 'a file', [1, 6, 1, 13]] for name in ('bmc', 'devices', 'lone')],
+     completed(server, board, 1, 13))
+changed(server, board, 'brief 2\nwith "none/')
+want('in a folder that is not there', [], completed(server, board, 1, 11))
+opened(server, bmc, 'brief 2\nwith "../')
+want('above it', [['../board.brief', 'a file', [1, 6, 1, 9]], ['../parts/', 'a folder', [1, 6, 1, 9]], ['../pch.brief', 'a file', [1, 6, 1, 9]]],
+     completed(server, bmc, 1, 9))
+server.stop()
+
 # over all files of a board
 server = begun(workspaceFolders=[{'uri': root, 'name': 'project'}])
 opened(server, bmc, BMC)
