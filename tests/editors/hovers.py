@@ -217,6 +217,22 @@ want('the slot', 'slot 18, UM10204 3.1.8: a data bit meets a repeated START. Bot
 want('who wins stands last', '- `main/write_limit` against `guard`: 1 pair; unsafe 1', limit.splitlines()[-1])
 want('a safe one', [], lines_with(said(UNSAFE, 'safe', 'message safe'), '1 unsafe'))
 want('its controller', ['in 2 pairs, 1 unsafe'], lines_with(said(UNSAFE, 'main'), 'pairs,'))
+# Of the unsafe pairs of a, that with p stands first. But with r it has two, of one cause, and the group of more pairs comes first.
+GROUPS = '''brief 1
+message a write 0x48 0x01 any ;
+message p write 0x48 ;
+message r write 0x48 0x01 read 0x48 1 ;
+controller main a ;
+controller x p ;
+controller y r ;
+controller z r ;
+'''
+server.change(BRIEF, GROUPS)
+for message, both in [('a', ['main/a', 'y/r']), ('p', ['x/p', 'y/r']), ('r', ['x/p', 'y/r'])]:
+    found = said(GROUPS, f'{message} write')
+    rows = found.split('```text\n')[2].splitlines()
+    want(f'the first group of {message}', both, [row.split()[0] for row in rows[1:3]])
+want('all of its pairs', ['in 3 pairs, 3 unsafe'], lines_with(said(GROUPS, 'a write'), 'in 3 pairs'))
 HEADER = 'brief 1\nmessage m read 0x48 1 ;\ncontroller c m ;\ninterrupt i 0x48 ;\n'
 server.change(BRIEF, HEADER)
 want('an interrupt of the same header', ['in 1 pair, 1 unsafe'], lines_with(said(HEADER, 'i 0x48'), 'in 1 pair'))
