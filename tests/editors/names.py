@@ -110,11 +110,14 @@ want('the same name', BOARD, renamed(server, FIRST, BOARD, 4, 8, 'psu1'))
 # members that a choice makes: 0x02..0x04 is cut into 0x02 and 0x03, and 0x04 (PLANS: blocks of a power of two)
 CHOICE = 'brief 2\nmessage b write 0x50 0x02..0x04 ;\nmessage b_c write 0x51 any ;\ncontroller c b_2 ;\ncontroller d b b_c ;\n'
 CHOSEN = 'file:///nowhere/choice.brief'
-want('a choice', [], [one for one in server.open(CHOSEN, CHOICE) if one['code'].startswith('P')])
+other = Server().begin()
+want('a choice', [], [one for one in other.open(CHOSEN, CHOICE) if one['code'].startswith('P')])
 want('where the member of a choice gets its name', [1, 8, 1, 9],
-     spot(server.at('definition', CHOSEN, 3, 14)['range']))
-want('another name of a choice', CHOICE.replace(' b ', ' x ').replace('b_2', 'x_2'), renamed(server, CHOSEN, CHOICE, 1, 8, 'x'))
-want('of its member', CHOICE.replace(' b ', ' x ').replace('b_2', 'x_2'), renamed(server, CHOSEN, CHOICE, 3, 14, 'x'))
+     spot(other.at('definition', CHOSEN, 3, 14)['range']))
+want('another name of a choice', CHOICE.replace(' b ', ' x ').replace('b_2', 'x_2'), renamed(other, CHOSEN, CHOICE, 1, 8, 'x'))
+want('of its member', CHOICE.replace(' b ', ' x ').replace('b_2', 'x_2'), renamed(other, CHOSEN, CHOICE, 3, 14, 'x'))
+other.stop()
+
 server.change(FIRST, BOARD + 'controller x none ;\n')
 want('texts that are refused', -32803, refused(4, 8, 'left'))
 server.change(FIRST, BOARD)
