@@ -12,6 +12,7 @@ use given_plans::{GivenPlan, Provenance};
 use hints::Named;
 use lint::oddities;
 use offers::{Offers, Reasons, Shown, advice_for_group, reasons_of};
+use origins::Spans;
 use plan_core::Plan;
 use plan_words::{BriefFiles, PlanWords};
 use report::check_found;
@@ -30,6 +31,15 @@ pub type Texts<'a> = Sources<'a, Watched<&'a [u8]>>;
 pub(crate) struct Wrong {
     pub(crate) reading: Reading,
     pub(crate) all: Vec<Diagnostic>,
+}
+
+impl Wrong {
+    fn is_refused(&self) -> bool {
+        match &self.reading {
+            Reading::Plan(_) => false,
+            Reading::Refused(_) => true,
+        }
+    }
 }
 
 /// What people call the texts after the first one.
@@ -89,7 +99,7 @@ pub(crate) fn read_and_checked<R: Threads + Sync>(
     let mut all = Vec::new(alloc);
     if !known.is_empty() {
         let before = read_parts(rt, alloc, known)?;
-        if let Reading::Refused(_) = before.reading {
+        if before.is_refused() {
             all = before.all;
         }
     }
@@ -107,17 +117,30 @@ fn read_parts<R: Threads + Sync>(
     let mut texts = texts_of(alloc, parts, names.as_slice())?;
     match texts.find(alloc) {
         Ok(given) => read_plan(rt, alloc, given, texts.files),
-        Err(mut halt) => {
-            texts.read_on(alloc, &mut halt);
-            let all = refusals_of(alloc, &halt, named(&texts))?;
-            match halt {
-                Halt::Text(_, source) => Ok(Wrong {
-                    reading: Reading::Refused(names_after(source, parts)),
-                    all,
-                }),
-                _ => Err(AllocError),
-            }
-        }
+        Err(halt) => read_refused(alloc, &mut texts, halt, parts),
+    }
+}
+
+// What is refused in these parts, where the first refusal is this one.
+fn read_refused(
+    alloc: Global,
+    texts: &mut Texts<'_>,
+    mut halt: Halt,
+    parts: &[Part],
+) -> Result<Wrong, AllocError> {
+    texts.read_on(alloc, &mut halt);
+    let all = refusals_of(alloc, &halt, named(texts))?;
+    let spans = names_at(halt, parts)?;
+    Ok(Wrong {
+        reading: Reading::Refused(spans),
+        all,
+    })
+}
+
+fn names_at(halt: Halt, parts: &[Part]) -> Result<Spans, AllocError> {
+    match halt {
+        Halt::Text(_error, source) => Ok(names_after(source, parts)),
+        _other => Err(AllocError),
     }
 }
 
