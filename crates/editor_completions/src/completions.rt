@@ -20,7 +20,6 @@ use plan_text::places::Further;
 use run_values::{Halt, RefusedSource};
 use serde::Serialize;
 use std::alloc::{AllocError, Global};
-use std::mem;
 use std::rt::Files;
 
 // A word that stands nowhere. The reader says what it would have taken in its place.
@@ -299,23 +298,12 @@ fn wanted_after(
 // ---- the answer
 
 // What is offered in the place of one range.
+#[derive(Drop)]
 struct Rows {
     alloc: Global,
     range: Range,
     text: Text,
     before: &'static str,
-}
-
-// Written out, so that one call lets it go.
-impl Drop for Rows {
-    fn drop(self) {
-        let Self {
-            alloc: _,
-            range: _,
-            text: _,
-            before: _,
-        } = self;
-    }
 }
 
 impl Rows {
@@ -352,9 +340,9 @@ impl Rows {
         }
     }
 
-    fn finish(mut self) -> Result<String, AllocError> {
-        let text = mem::replace(&mut self.text, Text::new(self.alloc));
-        let mut list = Text::new(self.alloc);
+    fn finish(self) -> Result<String, AllocError> {
+        let Self { alloc, text, .. } = self;
+        let mut list = Text::new(alloc);
         list.push("[");
         list.push_made(text.finish());
         list.push("]");
@@ -364,6 +352,7 @@ impl Rows {
 
 // ---- the list
 
+#[derive(Drop)]
 struct List<'n, 'a> {
     alloc: Global,
     names: &'n NamedTexts<'a>,
@@ -380,25 +369,6 @@ struct List<'n, 'a> {
     is_first: bool,
     takes_but: bool,
     rows: Rows,
-}
-
-// Written out, so that one call lets it go.
-impl Drop for List<'_, '_> {
-    fn drop(self) {
-        let Self {
-            alloc: _,
-            names: _,
-            spans: _,
-            own: _,
-            item: _,
-            typed: _,
-            is_second: _,
-            is_head: _,
-            is_first: _,
-            takes_but: _,
-            rows: _,
-        } = self;
-    }
 }
 
 // A word of the languages, and what it means.
@@ -474,24 +444,32 @@ impl<'n, 'a> List<'n, 'a> {
         }
     }
 
-    fn finish(mut self) -> Result<String, AllocError> {
-        let empty = Rows::new(self.alloc, self.rows.range);
-        mem::replace(&mut self.rows, empty).finish()
+    fn finish(self) -> Result<String, AllocError> {
+        let Self { rows, .. } = self;
+        rows.finish()
     }
 
     // ---- words
 
     fn add_plan_items(&mut self, never: bool) {
         self.add_words(PLAN_ITEMS);
-        self.add_words(if never { &[NEVER] } else { &[] });
+        if never {
+            self.add_words(&[NEVER]);
+        }
     }
 
     fn add_brief_items(&mut self) {
-        self.add_words(if self.is_head { &[WITH] } else { &[] });
+        if self.is_head {
+            self.add_words(&[WITH]);
+        }
         self.add_words(FIRST_ITEMS);
-        self.add_words(if self.is_second { &[GROUP] } else { &[] });
+        if self.is_second {
+            self.add_words(&[GROUP]);
+        }
         self.add_words(&[MESSAGE, CONTROLLER]);
-        self.add_words(if self.is_second { &[EXTEND] } else { &[] });
+        if self.is_second {
+            self.add_words(&[EXTEND]);
+        }
         self.add_words(&[INTERRUPT, NEVER]);
     }
 
@@ -500,7 +478,9 @@ impl<'n, 'a> List<'n, 'a> {
             self.add_bytes();
             self.add_words(&[ANY]);
         }
-        self.add_words(if self.takes_but { &[BUT] } else { &[] });
+        if self.takes_but {
+            self.add_words(&[BUT]);
+        }
         if further.bytes && further.made {
             self.add_words(MADE);
         }

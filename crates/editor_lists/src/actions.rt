@@ -9,7 +9,6 @@ use growing_text::Text;
 use offers::{Offers, Shown};
 use origins::Span;
 use std::alloc::{AllocError, Global};
-use std::mem;
 
 /// What can be done about what is wrong in this part of a text, as the protocol has it.
 ///
@@ -62,23 +61,12 @@ fn touch(one: Span, other: Span) -> bool {
     one.file == other.file && one.start <= other.end && other.start <= one.end
 }
 
+#[derive(Drop)]
 struct Actions<'m, 'a> {
     alloc: Global,
     marks: &'m [Marked<'a>],
     text: Text,
     count: usize,
-}
-
-// Written out, so that one call lets it go.
-impl Drop for Actions<'_, '_> {
-    fn drop(self) {
-        let Self {
-            alloc: _,
-            marks: _,
-            text: _,
-            count: _,
-        } = self;
-    }
 }
 
 impl Actions<'_, '_> {
@@ -138,14 +126,12 @@ impl Actions<'_, '_> {
         title.push(" of ");
         title.push_number(all as u64);
         title.push(" unsafe pairs by ");
-        let mut before = "";
-        for place in together.places.iter() {
+        for (k, place) in together.places.iter().enumerate() {
             if let Some(offer) = offers.all.get(*place) {
-                title.push(before);
+                title.push(if k == 0 { "" } else { ", " });
                 title.push_number(offer.group as u64);
                 title.push(".");
                 title.push_number(offer.number as u64);
-                before = ", ";
             }
         }
         let title = title.finish()?;
@@ -180,9 +166,9 @@ impl Actions<'_, '_> {
         self.text.push("}");
     }
 
-    fn finish(mut self) -> Result<String, AllocError> {
-        let text = mem::replace(&mut self.text, Text::new(self.alloc));
-        let mut list = Text::new(self.alloc);
+    fn finish(self) -> Result<String, AllocError> {
+        let Self { alloc, text, .. } = self;
+        let mut list = Text::new(alloc);
         list.push("[");
         list.push_made(text.finish());
         list.push("]");

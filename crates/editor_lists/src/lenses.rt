@@ -45,17 +45,17 @@ pub fn lenses_of(
     let given = given_in(alloc, names)?;
     let owners = owners_of(alloc, words, names, given.as_slice())?;
     let counts = counts_of(alloc, checked, owners.as_slice(), given.len())?;
-    let mut text = Text::new(alloc);
-    let mut before = "[";
+    let mut list = Text::new(alloc);
+    let mut is_empty = true;
     for (at, count) in given.iter().zip(counts.iter()) {
         if at.span.file == file {
-            text.push(before);
-            text.push_made(lens_of(alloc, lines, at.span, *count));
-            before = ",";
+            list.push(if is_empty { "[" } else { "," });
+            list.push_made(lens_of(alloc, lines, at.span, *count));
+            is_empty = false;
         }
     }
-    text.push(if before == "[" { "[]" } else { "]" });
-    text.finish()
+    list.push(if is_empty { "[]" } else { "]" });
+    list.finish()
 }
 
 fn lens_of(

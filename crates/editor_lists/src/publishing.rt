@@ -487,7 +487,7 @@ const NOWHERE: Range = Range {
 };
 
 /// Where this part of one of these texts stands.
-pub fn location_of<'a>(marks: &'a [Marked<'a>], span: Span) -> Location<'a> {
+pub fn location_of<'a>(marks: &[Marked<'a>], span: Span) -> Location<'a> {
     match marks.get(span.file as usize) {
         Some(marked) => Location {
             uri: marked.uri,

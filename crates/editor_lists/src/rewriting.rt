@@ -26,15 +26,15 @@ pub fn rewriting_of(
     let mut text = Text::new(alloc);
     text.push("{\"changes\":{");
     let mut file = 0u32;
-    let mut before = "";
+    let mut is_first = true;
     for marked in marks {
         let edits = edits_in(alloc, marks, rewrites, file)?;
         if !edits.is_empty() {
-            text.push(before);
+            text.push(if is_first { "" } else { "," });
             text.push_made(json(alloc, &marked.uri()));
             text.push(":");
             text.push_made(json(alloc, &edits));
-            before = ",";
+            is_first = false;
         }
         file = file.saturating_add(1);
     }
