@@ -222,7 +222,11 @@ impl<'a, R: Files + AllocGlobal + Threads + Sync> Workspace<'a, R> {
         let is_second = documents
             .iter()
             .any(|one| is_second_version(one.text.as_bytes()));
-        Ok(!self.told.is_empty() || is_second || !self.boards(&[])?.is_empty())
+        if !self.told.is_empty() || is_second {
+            return Ok(true);
+        }
+        let boards = self.boards(&[])?;
+        Ok(!boards.is_empty())
     }
 
     fn boards(&self, before: &[Known]) -> Result<Vec<FoundBoard>, AllocError> {
@@ -338,8 +342,8 @@ impl<'a, R: Files + AllocGlobal + Threads + Sync> Workspace<'a, R> {
         answers: &mut Answers,
     ) -> Result<(), AllocError> {
         let given = self.given_by(heads, head, tells_further)?;
-        let before = match head_uri(&self.documents, head) {
-            Some(uri) => take_with(&mut self.known, uri),
+        let before = match self.uri_of_head(head)? {
+            Some(uri) => take_with(&mut self.known, uri.as_str()),
             None => None,
         };
         self.tell_given(given, head, tells_further, before, answers)
@@ -406,10 +410,7 @@ impl<'a, R: Files + AllocGlobal + Threads + Sync> Workspace<'a, R> {
         before: Option<Known>,
         answers: &mut Answers,
     ) -> Result<(), AllocError> {
-        let uri = match head_uri(&self.documents, head) {
-            Some(uri) => Some(String::from_str(self.rt.alloc(), uri)?),
-            None => None,
-        };
+        let uri = self.uri_of_head(head)?;
         if tells_further {
             self.drop_headless();
         }
@@ -429,6 +430,13 @@ impl<'a, R: Files + AllocGlobal + Threads + Sync> Workspace<'a, R> {
                 }
                 _ => break,
             }
+        }
+    }
+
+    fn uri_of_head(&self, head: Option<usize>) -> Result<Option<String>, AllocError> {
+        match head_uri(&self.documents, head) {
+            Some(uri) => Ok(Some(String::from_str(self.rt.alloc(), uri)?)),
+            None => Ok(None),
         }
     }
 
@@ -517,9 +525,12 @@ impl<'a, R: Files + AllocGlobal + Threads + Sync> Workspace<'a, R> {
     // Finds out what only this question asks for.
     fn prepare(&mut self, question: Question<'_>, at: usize) -> Result<(), AllocError> {
         let rt = self.rt;
-        match (question, self.known.get_mut(at)) {
-            (Question::Hover, Some(known)) => known.put_in_order(rt.alloc()),
-            (Question::Actions { .. }, Some(known)) => known.seek_offers(rt),
+        let Some(known) = self.known.get_mut(at) else {
+            return Ok(());
+        };
+        match question {
+            Question::Hover => known.put_in_order(rt.alloc()),
+            Question::Actions { .. } => known.seek_offers(rt),
             _ => Ok(()),
         }
     }
