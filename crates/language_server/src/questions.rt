@@ -184,7 +184,7 @@ fn lenses_on(
     units: Units,
 ) -> Result<Told, AllocError> {
     let further = known.further_names(alloc)?;
-    match (&known.reading, known.words(further.as_slice())) {
+    match (&known.reading, (&*known).words(further.as_slice())) {
         (Reading::Plan(read), Some(words)) => {
             let lines = Lines::of(alloc, document.text.as_bytes(), units)?;
             let parts = known.given.parts.as_slice();

@@ -269,8 +269,12 @@ impl<'a, R: Files + AllocGlobal + Threads + Sync> Workspace<'a, R> {
     fn keep_plans(&mut self, before: &mut Vec<Known>) -> Result<(), AllocError> {
         for number in 0..self.documents.all().len() {
             if self.is_plan_alone(number) {
-                let uri = head_uri(&self.documents, Some(number)).unwrap_or("");
-                if let Some(known) = take_with(before, uri) {
+                let uri = self.uri_of_head(Some(number))?;
+                let known = match uri {
+                    Some(uri) => take_with(before, uri.as_str()),
+                    None => None,
+                };
+                if let Some(known) = known {
                     push(&mut self.known, known)?;
                 }
             }
