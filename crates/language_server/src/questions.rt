@@ -7,10 +7,11 @@ use editor_lists::{
     marks_of, renamed_to, report_on, rewrites_to, rewriting_of, symbols_in, uses_of,
 };
 use editor_texts::{
-    Document, Known, Lines, Position, Reading, Units, definition_in, json, names_in,
+    Document, Known, Lines, Position, ReadPlan, Reading, Units, definition_in, json, names_in,
 };
 use growing_text::Text;
 use origins::{NameAt, NamedTexts, Span};
+use plan_words::PlanWords;
 use std::alloc::{AllocError, Global};
 use std::rt::Files;
 
@@ -184,16 +185,28 @@ fn lenses_on(
     units: Units,
 ) -> Result<Told, AllocError> {
     let further = known.further_names(alloc)?;
-    match (&known.reading, (&*known).words(further.as_slice())) {
+    match (&known.reading, known.words(further.as_slice())) {
         (Reading::Plan(read), Some(words)) => {
-            let lines = Lines::of(alloc, document.text.as_bytes(), units)?;
-            let parts = known.given.parts.as_slice();
-            let names = names_in(alloc, &read.provenance.spans, parts)?;
-            let list = lenses_of(alloc, &read.checked, words, &names, file, &lines)?;
+            let list = lenses_in(alloc, known, read, words, (document, file), units)?;
             Ok(Told::Answer(list))
         }
         _ => nothing(alloc),
     }
+}
+
+fn lenses_in(
+    alloc: Global,
+    known: &Known,
+    read: &ReadPlan,
+    words: PlanWords<'_>,
+    text: (&Document, u32),
+    units: Units,
+) -> Result<String, AllocError> {
+    let (document, file) = text;
+    let lines = Lines::of(alloc, document.text.as_bytes(), units)?;
+    let parts = known.given.parts.as_slice();
+    let names = names_in(alloc, &read.provenance.spans, parts)?;
+    lenses_of(alloc, &read.checked, words, &names, file, &lines)
 }
 
 // ---- a name
