@@ -159,7 +159,7 @@ impl<'a, R: Files + AllocGlobal + Threads + Sync> Workspace<'a, R> {
             return Ok(());
         }
         publish_nothing(self.rt.alloc(), answers, uri);
-        let _closed = take_with(&mut self.known, uri);
+        let _closed = take_with(&mut self.known, Some(uri));
         if self.further.is_empty() && !self.has_boards()? {
             return Ok(());
         }
@@ -269,12 +269,8 @@ impl<'a, R: Files + AllocGlobal + Threads + Sync> Workspace<'a, R> {
     fn keep_plans(&mut self, before: &mut Vec<Known>) -> Result<(), AllocError> {
         for number in 0..self.documents.all().len() {
             if self.is_plan_alone(number) {
-                let uri = self.uri_of_head(Some(number))?;
-                let known = match uri {
-                    Some(uri) => take_with(before, uri.as_str()),
-                    None => None,
-                };
-                if let Some(known) = known {
+                let head = head_uri(&self.documents, Some(number));
+                if let Some(known) = take_with(before, head) {
                     push(&mut self.known, known)?;
                 }
             }
@@ -346,10 +342,8 @@ impl<'a, R: Files + AllocGlobal + Threads + Sync> Workspace<'a, R> {
         answers: &mut Answers,
     ) -> Result<(), AllocError> {
         let given = self.given_by(heads, head, tells_further)?;
-        let before = match self.uri_of_head(head)? {
-            Some(uri) => take_with(&mut self.known, uri.as_str()),
-            None => None,
-        };
+        let uri = self.uri_of_head(head)?;
+        let before = take_with(&mut self.known, text_of(&uri));
         self.tell_given(given, head, tells_further, before, answers)
     }
 
@@ -364,10 +358,7 @@ impl<'a, R: Files + AllocGlobal + Threads + Sync> Workspace<'a, R> {
     ) -> Result<(), AllocError> {
         let mut given = self.given_by(heads, head, tells_further)?;
         self.note_told(&mut given)?;
-        let known = match head_uri(&self.documents, head) {
-            Some(uri) => take_with(before, uri),
-            None => None,
-        };
+        let known = take_with(before, head_uri(&self.documents, head));
         self.tell_given(given, head, tells_further, known, answers)
     }
 
@@ -385,7 +376,7 @@ impl<'a, R: Files + AllocGlobal + Threads + Sync> Workspace<'a, R> {
         };
         self.note_told(&mut given)?;
         let uri = uri_of(self.rt.alloc(), path)?;
-        let known = take_with(before, uri.as_str());
+        let known = take_with(before, Some(uri.as_str()));
         self.tell(given, Some(uri), known, answers)?;
         Ok(())
     }
@@ -574,10 +565,21 @@ fn has(uris: &[String], uri: &str) -> bool {
 }
 
 // What is known of the plan that begins with this document, which is taken out.
-fn take_with(known: &mut Vec<Known>, uri: &str) -> Option<Known> {
-    match known.iter().position(|one| one.begins_with(uri)) {
+fn take_with(known: &mut Vec<Known>, head: Option<&str>) -> Option<Known> {
+    let found = match head {
+        Some(uri) => known.iter().position(|one| one.begins_with(uri)),
+        None => known.iter().position(|one| one.head.is_none()),
+    };
+    match found {
         Some(at) if at < known.len() => Some(known.remove(at)),
         _ => None,
+    }
+}
+
+fn text_of(uri: &Option<String>) -> Option<&str> {
+    match uri {
+        Some(uri) => Some(uri.as_str()),
+        None => None,
     }
 }
 
