@@ -194,6 +194,27 @@ changed(server, plan, text)
 found = actions(server, plan, 5, 16)
 want('a name that is near', ["write 'get' here"], [one['title'] for one in found][:1])
 want('is the right one then', PLAN, edited(text, found[0], plan))
+# A name that another file has: the head of a `brief 2` may name that.
+lone = 'brief 1\ndevice sensor 0x48 ;\nmessage page write sensor any*1..3 ;\n'
+below = file('with/parts/lone.brief', lone)
+above = file('above.brief', lone.replace('sensor', 'timer'))
+text = '# the host\nbrief 2\n# reads\nmessage get read sensor 1 ;\ncontroller pch get page_2 ;\n'
+host = file('with/host.brief', text)
+opened(server, below, lone)
+opened(server, above, lone.replace('sensor', 'timer'))
+opened(server, host, text)
+found = actions(server, host, 3, 20)
+want('a name that another file has', ['with "parts/lone.brief" ; has \'sensor\''], [one['title'] for one in found])
+new = edited(text, found[0], host)
+want('its head names that file', text.replace('message get', 'with "parts/lone.brief" ;\nmessage get'), new)
+want('and nothing is wrong then', [], codes(changed(server, host, new)).get('host.brief'))
+changed(server, host, text.replace('sensor', '0x48'))
+want('a message of a family that another file has', ['with "parts/lone.brief" ; has \'page_2\''],
+     [one['title'] for one in actions(server, host, 4, 22)])
+changed(server, host, text.replace('sensor', 'timer').replace('page_2', ''))
+want('no file that stands above', [], actions(server, host, 3, 20))
+changed(server, host, text.replace('brief 2', 'brief 1'))
+want('a `brief 1` names no file', [], actions(server, host, 3, 20))
 text = PLAN + 'device spare 0x20 ;\nbyte none 0x01 ;\n'
 changed(server, plan, text)
 found = actions(server, plan, 6, 8)

@@ -1,5 +1,6 @@
 // What can be done about what is wrong: quick fixes, and offers that mend an unsafe plan.
 
+use crate::joining::joinings;
 use crate::publishing::{Marked, own_json};
 use crate::rewriting::{Rewrite, rewriting_of};
 use diagnostics::{About, Diagnostic, Fix};
@@ -10,7 +11,7 @@ use offers::{Offers, Shown};
 use origins::Span;
 use std::alloc::{AllocError, Global};
 
-/// What can be done about what is wrong in this part of a text, as the protocol has it.
+/// What can be done about what is wrong in this part of a text, as the protocol has it. What its plan does not know other plans may.
 ///
 /// # Errors
 ///
@@ -18,6 +19,7 @@ use std::alloc::{AllocError, Global};
 pub fn actions_in(
     alloc: Global,
     known: &Known,
+    plans: &[Known],
     marks: &[Marked<'_>],
     part: Span,
 ) -> Result<String, AllocError> {
@@ -30,7 +32,13 @@ pub fn actions_in(
     let mut groups = Vec::new(alloc);
     for diagnostic in known.wrong.iter() {
         if is_in(diagnostic, part) {
-            actions.add_fixes(diagnostic)?;
+            actions.add_fixes(
+                diagnostic,
+                diagnostic.fixes.as_slice(),
+                diagnostic.fixes.len() == 1,
+            )?;
+            let others = joinings(alloc, known, plans, diagnostic)?;
+            actions.add_fixes(diagnostic, others.as_slice(), false)?;
             match diagnostic.about {
                 About::Group(g) if !groups.contains(&g) => groups.push(g)?,
                 _ => {}
@@ -70,14 +78,24 @@ struct Actions<'m, 'a> {
 }
 
 impl Actions<'_, '_> {
-    fn add_fixes(&mut self, diagnostic: &Diagnostic) -> Result<(), AllocError> {
-        for fix in diagnostic.fixes.iter() {
-            self.add_fix(diagnostic, fix)?;
+    fn add_fixes(
+        &mut self,
+        diagnostic: &Diagnostic,
+        fixes: &[Fix],
+        is_preferred: bool,
+    ) -> Result<(), AllocError> {
+        for fix in fixes {
+            self.add_fix(diagnostic, fix, is_preferred)?;
         }
         Ok(())
     }
 
-    fn add_fix(&mut self, diagnostic: &Diagnostic, fix: &Fix) -> Result<(), AllocError> {
+    fn add_fix(
+        &mut self,
+        diagnostic: &Diagnostic,
+        fix: &Fix,
+        is_preferred: bool,
+    ) -> Result<(), AllocError> {
         let mut rewrites = Vec::new(self.alloc);
         for edit in fix.edits.iter() {
             rewrites.push(Rewrite {
@@ -90,7 +108,7 @@ impl Actions<'_, '_> {
         self.text
             .push_made(own_json(self.alloc, diagnostic, self.marks));
         self.text.push("]");
-        if diagnostic.fixes.len() == 1 {
+        if is_preferred {
             self.text.push(",\"isPreferred\":true");
         }
         self.end(rewrites.as_slice());

@@ -1,11 +1,12 @@
 //! What an editor lists of a text: what is wrong, what can be done about that, and where names stand.
 //!
-//! `publishing` has what is wrong, and `actions` what can be done about it. `references` has where a name stands, `renaming` whether
+//! `publishing` has what is wrong, and `actions` what can be done about it, with `joining` for what other files have. `references` has where a name stands, `renaming` whether
 //! another one may, and `rewriting` writes edits. `symbols` has what stands in a text, `inlays` and `lenses` what is shown beside it.
 #![tactic(auto)]
 
 mod actions;
 mod inlays;
+mod joining;
 mod lenses;
 mod publishing;
 mod references;

@@ -57,7 +57,7 @@ pub(crate) enum Told {
 
 const NULL: &str = "null";
 
-/// What is answered to a question that is asked after so many bytes of a document, of which this is known.
+/// What is answered to a question that is asked after so many bytes of a document, of which this is known, as it is of these plans.
 ///
 /// # Errors
 ///
@@ -66,6 +66,7 @@ pub(crate) fn told_in<R: Files + AllocGlobal>(
     rt: &R,
     question: Question<'_>,
     known: &Known,
+    plans: &[Known],
     document: &Document,
     offset: usize,
     units: Units,
@@ -80,7 +81,7 @@ pub(crate) fn told_in<R: Files + AllocGlobal>(
         }
         (Question::Lenses, Some(file)) => lenses_on(alloc, known, document, file, units),
         (Question::Actions { until }, Some(file)) => {
-            actions_on(alloc, known, document, (file, offset, until), units)
+            actions_on(alloc, known, plans, document, (file, offset, until), units)
         }
         (Question::Wrong, Some(file)) => { Ok(Told::Answer(report_on(alloc, known, file, units)?)) }
         (Question::Symbols | Question::Folds | Question::Inlays { .. }, Some(file)) =>
@@ -161,6 +162,7 @@ fn told_of_document(
 fn actions_on(
     alloc: Global,
     known: &Known,
+    plans: &[Known],
     document: &Document,
     part: (u32, usize, Position),
     units: Units,
@@ -173,7 +175,7 @@ fn actions_on(
         start,
         end: lines.offset(until),
     };
-    Ok(Told::Answer(actions_in(alloc, known, marks.as_slice(), part)?))
+    Ok(Told::Answer(actions_in(alloc, known, plans, marks.as_slice(), part)?))
 }
 
 // Nothing, where the texts give no plan.

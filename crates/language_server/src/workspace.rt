@@ -511,7 +511,15 @@ impl<'a, R: Files + AllocGlobal + Threads + Sync> Workspace<'a, R> {
             (Some(document), Some(known)) => {
                 let lines = Lines::of(alloc, document.text.as_bytes(), self.units)?;
                 let offset = lines.offset(position);
-                told_in(self.rt, question, known, document, offset, self.units)
+                told_in(
+                    self.rt,
+                    question,
+                    known,
+                    self.known.as_slice(),
+                    document,
+                    offset,
+                    self.units,
+                )
             }
             _ => Ok(Told::Answer(String::from_str(alloc, NULL)?)),
         }
