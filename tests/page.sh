@@ -523,7 +523,7 @@ said() {
 if type -P python3 >python; then
     "$twire" page board.brief --capture board.vcd -o page.html
     lanes='say:[...document.querySelectorAll(".times svg > g text title")].map(one => one.textContent).join(" ")'
-    same "the lanes" "main/get guard/get guard/put unexplained cut/unfinished" "$(said "$lanes")"
+    same "the lanes: those of nobody first" "unexplained cut/unfinished main/get guard/get guard/put" "$(said "$lanes")"
     # Two readings are blocks in two lanes; the other three have one block each.
     blocks='say:["seen", "odd", "cut"].map(one => document.querySelectorAll(".times ." + one).length).join(" ")'
     same "the blocks" "5 1 1" "$(said "$blocks")"
@@ -533,8 +533,21 @@ if type -P python3 >python; then
     same "it is not, in true time" "" "$(said 'click:.bar input' "$idle")"
     title='say:document.querySelector("#wire h3").textContent'
     at='say:document.querySelector(".times").getAttribute("aria-activedescendant")'
-    same "a key goes to the next transaction" "option-1" "$(said 'say:document.querySelector(".times").focus()' ArrowRight "$at" | tail -n 1)"
-    same "the last one, and no further" "option-4" "$(said 'say:document.querySelector(".times").focus()' End ArrowRight "$at" | tail -n 1)"
+    # ended FOCUS KEY..: the transaction that is chosen after these keys.
+    chosen() {
+        said 'say:document.querySelector(".times").focus()' "$@" "$at" | tail -n 1
+    }
+    # Of the five the fourth is unexplained, and the fifth cut.
+    same "what nobody explains is chosen first, and drawn" "option-3 unexplained" \
+        "$(chosen) $(said 'say:document.querySelector("#wire h3").textContent' | grep -o '[a-z]*$')"
+    same "a key goes to the next transaction" "option-1" "$(chosen Home ArrowRight)"
+    same "the last one, and no further" "option-4" "$(chosen End ArrowRight)"
+    # From the third, a put: no lane is below its own; the lane above is guard/get, whose nearest is the second, and above that is
+    # main/get, to which it belongs too; then the lane of the cut one.
+    same "keys go from lane to lane" "option-2 option-1 option-1 option-4" \
+        "$(chosen Home ArrowRight ArrowRight ArrowDown) $(chosen Home ArrowRight ArrowRight ArrowUp) $(chosen Home ArrowRight ArrowRight ArrowUp ArrowUp) $(chosen Home ArrowRight ArrowRight ArrowUp ArrowUp ArrowUp)"
+    same "keys go along a lane, and no further" "option-1 option-1 option-0" \
+        "$(chosen Home Shift+ArrowRight) $(chosen Home Shift+ArrowRight Shift+ArrowRight) $(chosen Home Shift+ArrowLeft)"
     span='say:Math.round(100 * [...document.querySelectorAll(".times .seen")].reduce((most, one) => Math.max(most, one.getAttribute("width")), 0))'
     sizes=($(said 'say:document.querySelector(".times").focus()' "$span" + "$span" - "$span" | grep -E '^[0-9]+$'))
     same "keys zoom: twice as wide, and back again" "yes" \
@@ -549,11 +562,28 @@ slot 2, guard/put: it sends 1, the bus has 0" "$(said 'click:.times .odd' 'say:d
     same "what is told of a wire" 'status "" live=polite
 region "The wire of a transaction"
 image "SCL and SDA as recorded: S 48 Wr A 01 A Sr 48 Rd A 12 NA P"' \
-        "$(said 'say:document.querySelector(".times").focus()' Enter >/dev/null; sed -n '/status "" live/,$p' tree | grep -oE '(status|region|image) .*' | tail -n 3)"
+        "$(said 'say:document.querySelector(".times").focus()' Home Enter >/dev/null; sed -n '/status "" live/,$p' tree | grep -oE '(status|region|image) .*' | tail -n 3)"
     # (START falls 5 us after 40; a bit takes 10 us, and START, a repeated START and STOP take 7, 15 and 8 until the bus moves on)
     same "what is told of the lanes" 'listbox "Transactions of the capture" focused=True
 option "45-435 main/get guard/get: S 48 Wr A 01 A Sr 48 Rd A 12 NA P"' \
         "$(sed -n '/listbox "T/,$p' tree | grep -oE '(listbox|option) .*' | head -n 2)"
+    # Three lengths of a write are one lane, and one row in each table, below which a button shows its own.
+    cat >family.brief <<'BRIEF'
+brief 1
+message page write 0x48 any*1..3 ;
+message probe write 0x50 ;
+controller main page ;
+controller guard probe ;
+BRIEF
+    "$top/tools/dump" 100100000000000010,101000000,100100000000000010000000110 3 alone >family.vcd
+    "$twire" page family.brief --capture family.vcd -o page.html
+    same "the lanes are of families" "main/page_* guard/probe" "$(said "$lanes")"
+    rows='say:[..."totals sent".split(" ")].map(id => [...document.querySelectorAll("#" + id + " tbody tr:not([hidden]) th")].map(one => one.textContent).join(" ")).join("\n")'
+    same "the tables are of families" "main/page_* (3) guard/probe
+page_* (3) probe" "$(said "$rows")"
+    same "a button shows the messages of a family" "page_* (3) page_1 page_2 page_3 probe" \
+        "$(said 'click:#sent button' "$rows" | tail -n 1)"
+    "$twire" page board.brief --capture board.vcd -o page.html
     same "the capture in print" "" "$("$tests/browser" print "$browser" page.html 2>&1 | grep 'cut off')"
 fi
 

@@ -73,14 +73,22 @@ function firstFrom(numbers, least) {
   return low;
 }
 
-// The lanes: { name, fate }, and of each transaction the numbers of its own.
+// What a lane is called that is of nobody.
+const ODD_LANES = { odd: 'unexplained', cut: 'cut/unfinished' };
+
+const laneNames = one => fateOf(one) === 'seen' ? [...new Set(one.by.map(number => participants[number].party))] : [ODD_LANES[fateOf(one)]];
+
+// The lanes: { name, fate, own } with the numbers of their transactions, and of each transaction the numbers of its lanes. First
+// come those of nobody, and then each family of each controller in the order of the plan.
 function lanesOf(list) {
-  const known = [...new Set(list.flatMap(one => one.end === 'stop' ? one.by : []))].sort((one, other) => one - other);
-  const lanes = [...known.map(number => ({ name: participants[number].label, fate: 'seen' })),
-    { name: 'unexplained', fate: 'odd' }, { name: 'cut/unfinished', fate: 'cut' }];
-  const place = new Map(known.map((number, k) => [number, k]));
+  const used = new Set(list.flatMap(laneNames));
+  const lanes = [...Object.entries(ODD_LANES).map(([fate, name]) => ({ name, fate })),
+    ...[...new Set(participants.map(one => one.party))].map(name => ({ name, fate: 'seen' }))]
+    .filter(lane => used.has(lane.name)).map(lane => ({ ...lane, own: [] }));
+  const place = new Map(lanes.map((lane, k) => [lane.name, k]));
   for (const one of list) {
-    one.lanes = { seen: one.by.map(number => place.get(number)), odd: [known.length], cut: [known.length + 1] }[fateOf(one)];
+    one.lanes = laneNames(one).map(name => place.get(name));
+    for (const lane of one.lanes) lanes[lane].own.push(one.number);
   }
   return lanes;
 }
@@ -147,20 +155,23 @@ const clipped = (text, width) => {
 };
 
 function drawLine(line) {
-  const { svg, lanes, course, view } = line;
-  const width = Math.max(240, line.box.clientWidth), height = AXIS + lanes.length * LANE + 4;
+  const { svg, axis, lanes, course, view } = line;
+  const width = Math.max(240, line.box.clientWidth), height = lanes.length * LANE + 4;
   const names = Math.min(8 + 7.4 * Math.max(...lanes.map(lane => lane.name.length)), width * .34, 8 + 7.4 * LABEL);
   line.left = names;
   line.scale = (width - names - 8) / view.span;
   const { scale } = line;
-  svg.setAttribute('viewBox', '0 0 ' + width + ' ' + height);
-  svg.setAttribute('width', width);
-  svg.setAttribute('height', height);
+  for (const [one, tall] of [[axis, AXIS], [svg, height]]) {
+    one.setAttribute('viewBox', '0 0 ' + width + ' ' + tall);
+    one.setAttribute('width', width);
+    one.setAttribute('height', tall);
+  }
+  const above = element('svg:svg', { x: names, y: 0, width: width - names, height: AXIS });
   const room = element('svg:svg', { x: names, y: 0, width: width - names, height });
   const add = (to, name, attributes, text) => to.append(element('svg:' + name, attributes, ...(text === undefined ? [] : [text])));
   const rows = element('svg:g', {});
   lanes.forEach((lane, k) => {
-    const y = AXIS + k * LANE;
+    const y = k * LANE;
     add(rows, 'line', { x1: 0, x2: width, y1: y, y2: y, class: 'grid' });
     const text = element('svg:text', { x: 2, y: y + 16 }, clipped(lane.name, names - 8) || lane.name.slice(0, 4));
     text.append(element('svg:title', {}, lane.name));
@@ -168,10 +179,11 @@ function drawLine(line) {
   });
   add(rows, 'line', { x1: 0, x2: width, y1: height - 4, y2: height - 4, class: 'grid' });
   for (const tick of ticksOf(line)) {
-    add(room, 'line', { x1: tick.x, x2: tick.x, y1: 3, y2: height - 4, class: 'grid' });
-    if (tick.x + 7.4 * tick.text.length < width - names) add(room, 'text', { x: tick.x + 3, y: 13, class: 'faint' }, tick.text);
+    add(above, 'line', { x1: tick.x, x2: tick.x, y1: 3, y2: AXIS, class: 'grid' });
+    add(room, 'line', { x1: tick.x, x2: tick.x, y1: 0, y2: height - 4, class: 'grid' });
+    if (tick.x + 7.4 * tick.text.length < width - names) add(above, 'text', { x: tick.x + 3, y: 13, class: 'faint' }, tick.text);
   }
-  let last = -Infinity, told = -Infinity, drawn = 0;
+  let last = -Infinity, told = -6, drawn = 0;
   for (let k = firstFrom(course.foldEnds, view.from); k < course.folds.length; k++) {
     const fold = course.folds[k], x = (fold.at - view.from) * scale, size = fold.size * scale;
     if (x > width || drawn > MOST_FOLDS) break;
@@ -180,16 +192,18 @@ function drawLine(line) {
     last = x + Math.max(size, 2);
     const idle = toldTime(BigInt(Math.round(fold.idle)), line.step), text = idle + ' idle';
     const mark = element('svg:g', { class: 'folded', 'data-idle': idle });
-    add(mark, 'rect', { x: x + 1, y: AXIS - 4, width: Math.max(size - 2, 1), height: height - AXIS + 2, class: 'fold' });
-    if (x + size / 2 - 3.7 * text.length > told + 6) {
-      add(mark, 'text', { x: x + size / 2, y: AXIS - 7, 'text-anchor': 'middle', class: 'faint' }, text);
-      told = x + size / 2 + 3.7 * text.length;
-    }
+    add(mark, 'rect', { x: x + 1, y: 0, width: Math.max(size - 2, 1), height: height - 4, class: 'fold' });
     mark.append(element('svg:title', {}, text + ', folded'));
     room.append(mark);
+    // (it stands above the fold, and within the room)
+    const middle = Math.min(Math.max(x + size / 2, 3.7 * text.length), width - names - 3.7 * text.length);
+    if (middle - 3.7 * text.length > told + 6 && Math.abs(middle - x - size / 2) <= size / 2 + 3.7 * text.length) {
+      add(above, 'text', { x: middle, y: AXIS - 7, 'text-anchor': 'middle', class: 'faint' }, text);
+      told = middle + 3.7 * text.length;
+    }
   }
   for (const { lane, left, right, count, one } of blocksOf(line)) {
-    const y = AXIS + lane * LANE + (LANE - BLOCK) / 2, size = right - left;
+    const y = lane * LANE + (LANE - BLOCK) / 2, size = right - left;
     const block = element('svg:rect', { x: left, y, width: size, height: BLOCK, class: lanes[lane].fate, 'data-count': count });
     block.append(element('svg:title', {}, count === 1 ? timesOf(one) + ' ' + one.bytes : count + ' transactions'));
     room.append(block);
@@ -199,10 +213,13 @@ function drawLine(line) {
   const one = line.list[line.active];
   if (one) {
     const left = (course.begin[one.number] - view.from) * scale, right = (course.end[one.number] - view.from) * scale;
+    const middle = (left + right) / 2;
+    add(above, 'path', { d: 'M' + (middle - 5) + ' ' + (AXIS - 6) + ' l10 0 l-5 6 z', class: 'chosen' });
     for (const lane of one.lanes) {
-      add(room, 'rect', { x: left - 3, y: AXIS + lane * LANE + 1, width: Math.max(2, right - left) + 6, height: LANE - 2, class: 'active' });
+      add(room, 'rect', { x: left - 3, y: lane * LANE + 1, width: Math.max(2, right - left) + 6, height: LANE - 2, class: 'active' });
     }
   }
+  axis.replaceChildren(above);
   svg.replaceChildren(rows, room);
 }
 
@@ -242,10 +259,13 @@ function middleOf(line) {
   return at >= from && at <= from + span ? at : from + span / 2;
 }
 
-// Chooses a transaction: it is told, and comes into view.
-function choose(line, number) {
+// Chooses a transaction, in this lane where it is in several: it is told, and comes into view.
+function choose(line, number, lane) {
   const { list, course, view } = line;
   line.active = Math.min(list.length - 1, Math.max(0, number));
+  const { lanes } = list[line.active];
+  line.lane = [lane, line.lane].find(one => lanes.includes(one)) ?? lanes[0];
+  showLane(line);
   const near = list.slice(Math.max(0, line.active - 1), line.active + 2);
   line.told.replaceChildren(...near.map(one => element('div', { role: 'option', id: 'option-' + one.number,
     'aria-posinset': one.number + 1, 'aria-setsize': list.length, 'aria-selected': one.number === line.active ? 'true' : 'false' },
@@ -256,14 +276,40 @@ function choose(line, number) {
   else redraw(line);
 }
 
-function openWire(line, number) {
-  choose(line, number);
+// The lane of the chosen transaction comes into view, below the times.
+function showLane({ box, lane }) {
+  const top = lane * LANE, room = box.clientHeight - AXIS - LANE;
+  box.scrollTop = Math.min(top, Math.max(box.scrollTop, top - room));
+}
+
+// Chooses the transaction of another lane that begins nearest to the chosen one: so many lanes below.
+function chooseLane(line, step) {
+  const { lanes, list, active } = line, to = line.lane + step;
+  if (!lanes[to]) return;
+  const { own } = lanes[to], k = firstFrom(own, active), time = list[active].from;
+  const far = number => number === undefined ? null : list[number].from > time ? list[number].from - time : time - list[number].from;
+  const [before, after] = [far(own[k - 1]), far(own[k])];
+  choose(line, after === null || before !== null && before < after ? own[k - 1] : own[k], to);
+}
+
+// Chooses the transaction of its lane that is so many behind the chosen one.
+function chooseAlong(line, step) {
+  const { own } = line.lanes[line.lane], to = own[firstFrom(own, line.active) + step];
+  if (to !== undefined) choose(line, to);
+}
+
+function openWire(line, number, lane) {
+  choose(line, number, lane);
+  showWire(line);
+  line.shown.scrollIntoView({ block: 'nearest' });
+}
+
+function showWire(line) {
   const one = line.list[line.active];
   line.shown.replaceChildren(shownTransaction(one, line.step));
   scrollToEnds(line.shown);
   line.note.textContent = 'Drawn below: transaction ' + (one.number + 1) + ' of ' + line.list.length + ', ' + timesOf(one) + ' '
     + whoOf(one) + '.';
-  line.shown.scrollIntoView({ block: 'nearest' });
 }
 
 function nextOdd(line) {
@@ -275,10 +321,12 @@ function nextOdd(line) {
 const KEYS = {
   ArrowRight: line => choose(line, line.active + 1),
   ArrowLeft: line => choose(line, line.active - 1),
+  ArrowDown: line => chooseLane(line, 1),
+  ArrowUp: line => chooseLane(line, -1),
+  'Shift ArrowRight': line => chooseAlong(line, 1),
+  'Shift ArrowLeft': line => chooseAlong(line, -1),
   PageDown: line => pan(line, .8),
   PageUp: line => pan(line, -.8),
-  ArrowDown: line => pan(line, .25),
-  ArrowUp: line => pan(line, -.25),
   Home: line => choose(line, 0),
   End: line => choose(line, line.list.length - 1),
   '+': line => zoom(line, 2),
@@ -292,7 +340,7 @@ const KEYS = {
 // The transaction at a place of the line: in this lane, where there is one near.
 function hitBy(line, x, y) {
   const { course, view, scale, list } = line;
-  const at = view.from + (x - line.left) / scale, reach = 4 / scale, lane = Math.floor((y - AXIS) / LANE);
+  const at = view.from + (x - line.left) / scale, reach = 4 / scale, lane = Math.floor(y / LANE);
   let found = null;
   for (let k = firstFrom(course.end, at - reach); k < list.length && course.begin[k] <= at + reach; k++) {
     if (list[k].lanes.includes(lane)) return k;
@@ -309,7 +357,7 @@ function listen(line) {
     return { x: event.clientX - frame.left, y: event.clientY - frame.top };
   };
   box.addEventListener('keydown', event => {
-    const act = KEYS[event.key];
+    const act = KEYS[event.shiftKey && event.key.startsWith('Arrow') ? 'Shift ' + event.key : event.key];
     if (!act || event.ctrlKey || event.metaKey || event.altKey) return;
     event.preventDefault();
     act(line);
@@ -336,7 +384,7 @@ function listen(line) {
     const moved = drag?.moved, { x, y } = placeOf(event);
     if (drag && !moved) {
       const found = hitBy(line, x, y);
-      if (found !== null) openWire(line, found);
+      if (found !== null) openWire(line, found, Math.floor(y / LANE));
     }
     drag = null;
   });
@@ -344,10 +392,11 @@ function listen(line) {
 }
 
 function lineOf(list, step) {
-  const svg = element('svg:svg', { 'aria-hidden': 'true' }), told = element('div', { class: 'only-told' });
+  const svg = element('svg:svg', { 'aria-hidden': 'true' }), axis = element('svg:svg', { 'aria-hidden': 'true', class: 'axis' });
+  const told = element('div', { class: 'only-told' });
   const box = element('div', { class: 'times', role: 'listbox', tabindex: '0', 'aria-label': 'Transactions of the capture',
-    'aria-describedby': 'capture-keys' }, told, svg);
-  const line = { list, step, svg, told, box, lanes: lanesOf(list), course: courseOf(list, true), active: 0, view: {}, scale: 1, left: 0,
+    'aria-describedby': 'capture-keys' }, told, axis, svg);
+  const line = { list, step, svg, axis, told, box, lanes: lanesOf(list), course: courseOf(list, true), active: 0, lane: 0, view: {}, scale: 1, left: 0,
     note: element('p', { role: 'status', class: 'hint' }),
     shown: element('section', { id: 'wire', 'aria-label': 'The wire of a transaction' }) };
   line.view = { from: -line.course.total * .01, span: line.course.total * 1.02 };
@@ -398,13 +447,15 @@ function captureOf({ stopped, unexplained, step, transactions }) {
   const line = lineOf(list, step);
   listen(line);
   parts.push(barOf(line), line.box, element('p', { id: 'capture-keys', class: 'hint' },
-    'Arrow keys left and right go from transaction to transaction, Enter shows its wire; + and - zoom, up and down and Page keys pan, '
-    + 'Home and End lead to the first and the last, 0 shows all. A wheel zooms with Control and pans with Shift; dragging pans too.'),
+    'Arrow keys left and right go from transaction to transaction, with Shift within its lane, up and down from lane to lane; Enter '
+    + 'shows its wire; + and - zoom, Page keys pan, Home and End lead to the first and the last, 0 shows all. A wheel zooms with '
+    + 'Control and pans with Shift; dragging pans too.'),
   line.note, line.shown, ...oddOf(line).filter(part => part !== null));
   return {
     parts,
     draw: () => {
-      choose(line, 0);
+      choose(line, Math.max(0, list.findIndex(one => fateOf(one) === 'odd')));
+      showWire(line);
       drawLine(line);
       document.documentElement.dataset.drawn = Math.round(performance.now());
     },

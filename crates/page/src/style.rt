@@ -78,6 +78,7 @@ select, button { font: inherit; color: inherit; background: var(--soft); border:
 pre.rows { border: 0; background: none; padding: 0; margin: .4rem 0; max-height: none; }
 .times { overflow: auto; max-height: 32rem; border: 1px solid var(--rule); touch-action: pan-y; cursor: grab; user-select: none; }
 .times > svg { max-width: 100%; }
+.times > .axis { position: sticky; top: 0; background: var(--paper); border-bottom: 1px solid var(--rule); }
 .only-told { position: absolute; width: 1px; height: 1px; overflow: hidden; clip-path: inset(50%); }
 .bar { display: flex; flex-wrap: wrap; gap: .4rem; align-items: center; margin: .6rem 0; }
 .bar button { min-width: 2rem; }
@@ -97,6 +98,7 @@ svg .odd { fill: var(--unsafe); stroke: var(--ink); stroke-width: 1.5; }
 svg .call { fill: var(--soft); stroke: var(--rule); }
 svg .break { fill: none; stroke: var(--paper); stroke-width: 3; }
 svg .active { fill: none; stroke: var(--mark); stroke-width: 2; }
+svg .chosen { fill: var(--mark); }
 svg .inside { pointer-events: none; }
 svg .cut { fill: var(--apart); stroke: var(--faint); stroke-dasharray: 3 2; }
 details { margin: .4rem 0; }
@@ -120,6 +122,8 @@ summary { cursor: pointer; }
   .drawn svg { flex: var(--part) 1 0; min-width: 0; width: auto; height: auto; }
   .drawn .names { position: static; }
   .lines td, .lines th { overflow-wrap: anywhere; }
+  .lines tr[hidden] { display: table-row; }
+  .lines button { border: 0; padding: 0; }
   * { print-color-adjust: exact; -webkit-print-color-adjust: exact; }
 }
 "#;
