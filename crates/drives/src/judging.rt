@@ -293,7 +293,11 @@ impl Line<'_> {
     // What it says that the controller sends in a slot, or else, if no message does that.
     fn says(self, slot: usize) -> Option<(Item, Item)> {
         let rise = self.drove.pulls_at_rise(self.number, slot);
-        match (*self.marks.get(slot)?, rise, self.drove.pulls(self.number, slot)) {
+        match (
+            *self.marks.get(slot)?,
+            rise,
+            self.drove.pulls(self.number, slot),
+        ) {
             (Mark::Level(false), true, true) => Some((Item::Sent(false), Item::Stop)),
             (Mark::Level(false), true, false) | (Mark::Stop, true, _) => {
                 Some((Item::Stop, Item::Stop))
@@ -379,9 +383,7 @@ impl Line<'_> {
             },
             Does::Departs { slot, .. } => Does::Meets {
                 slot,
-                again: self
-                    .drove
-                    .first_pull(self.number, slot.saturating_add(1)),
+                again: self.drove.first_pull(self.number, slot.saturating_add(1)),
             },
             does => does,
         }

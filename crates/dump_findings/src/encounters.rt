@@ -67,7 +67,10 @@ fn pairs_of(
 fn met_by(pair: u32, first: Leaves, second: Leaves, marks: &[Mark]) -> Option<Met> {
     let slot = first.slot.min(second.slot);
     let mark = *marks.get(slot)?;
-    let (one, other) = (offered_in(first, slot, mark), offered_in(second, slot, mark));
+    let (one, other) = (
+        offered_in(first, slot, mark),
+        offered_in(second, slot, mark),
+    );
     if !can_show(one, other, mark) {
         return None;
     }

@@ -72,7 +72,13 @@ fn met_line(alloc: Global, judging: &Judging<'_>, met: Met) -> Result<String, Al
         Part::Name(judging.controller(met.second.number)),
         Part::Words(named(met.second.kind)),
     ];
-    tell_met(alloc, &mut lines, met, "slot {}: {}'s {} meets {}'s {}", &parts);
+    tell_met(
+        alloc,
+        &mut lines,
+        met,
+        "slot {}: {}'s {} meets {}'s {}",
+        &parts,
+    );
     lines.finish()
 }
 
