@@ -191,12 +191,11 @@ impl<'a> Judging<'a> {
             drove,
             number,
         };
-        if let Some(slot) = slot_of(met, number)
+        let slot = slot_of(met, number);
+        if slot.is_some()
             && let Some(sendings) = self.sendings.get(number)
-            && let Some(item) = line.sent(plan, sendings.as_slice(), slot)
         {
-            let at = Some((slot, item));
-            judged.does = line.since(best_of(plan, sendings.as_slice(), line, at));
+            judged.does = line.since(best_of(plan, sendings.as_slice(), line, slot));
         }
     }
 
@@ -310,20 +309,17 @@ impl Line<'_> {
         }
     }
 
-    // What the controller sends in a slot, which has started: one of these sendings does so there.
-    fn sent(self, plan: &Plan, sendings: &[u32], slot: usize) -> Option<Item> {
+    // What one of these sendings sends in a slot, if the line says that it does.
+    fn sent_by(self, plan: &Plan, p: u32, slot: usize) -> Option<Item> {
         let (first, other) = self.says(slot)?;
-        let mut found = None;
-        for p in sendings {
-            let offered = self.offered_by(plan, *p, slot);
-            if offered.allows(first) {
-                return Some(first);
-            }
-            if offered.allows(other) {
-                found = Some(other);
-            }
+        let offered = self.offered_by(plan, p, slot);
+        if offered.allows(first) {
+            Some(first)
+        } else if offered.allows(other) {
+            Some(other)
+        } else {
+            None
         }
-        found
     }
 
     // What a sending offers in a slot, if it has put before what the line did, and the wire has.
@@ -347,7 +343,8 @@ impl Line<'_> {
         Offered::Nothing
     }
 
-    // Puts down which of these sendings of the controller send what it sends in a slot, if it has started.
+    // Puts down what these sendings of the controller send in a slot, if it has started: what the line says first, if any of
+    // them does so.
     fn put_parties(
         self,
         plan: &Plan,
@@ -355,20 +352,24 @@ impl Line<'_> {
         slot: usize,
         parties: &mut [Option<Party>],
     ) {
-        if !self.drove.has_started(self.number) {
-            return;
-        }
-        let Some(item) = self.sent(plan, sendings, slot) else {
+        let Some((first, other)) = self.says(slot) else {
             return;
         };
+        let mut is_first = false;
         for p in sendings {
-            if self.offered_by(plan, *p, slot).allows(item)
+            is_first = is_first || self.offered_by(plan, *p, slot).allows(first);
+        }
+        let first = if is_first { first.kind() } else { other.kind() };
+        for p in sendings {
+            if self.drove.has_started(self.number)
+                && let Some(item) = self.sent_by(plan, *p, slot)
                 && let Some(party) = parties.get_mut(*p as usize)
             {
                 *party = Some(Party {
                     participant: *p,
                     number: self.number,
                     kind: item.kind(),
+                    first,
                 });
             }
         }
@@ -422,8 +423,8 @@ fn judge(
     Some(Judged { number, does })
 }
 
-// What it did as the sending with which that fits best: of all, or of those that put this item in a slot.
-fn best_of(plan: &Plan, sendings: &[u32], line: Line<'_>, at: Option<(usize, Item)>) -> Does {
+// What it did as the sending with which that fits best: of all, or of those that meet another one in this slot.
+fn best_of(plan: &Plan, sendings: &[u32], line: Line<'_>, meets: Option<usize>) -> Does {
     let Line {
         marks,
         drove,
@@ -434,8 +435,8 @@ fn best_of(plan: &Plan, sendings: &[u32], line: Line<'_>, at: Option<(usize, Ite
         pulls: drove.pulls(number, 0),
     };
     for p in sendings {
-        let is_meant = match at {
-            Some((slot, item)) => line.offered_by(plan, *p, slot).allows(item),
+        let is_meant = match meets {
+            Some(slot) => line.sent_by(plan, *p, slot).is_some(),
             None => true,
         };
         if is_meant && *p < plan.participants() {

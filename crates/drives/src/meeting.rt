@@ -11,6 +11,8 @@ pub struct Party {
     /// Its controller, by its number among those that are followed; 0 where none is.
     pub number: usize,
     pub kind: Kind,
+    /// What the controller sends, if it is not a STOP or a repeated START that looks like a bit of another message.
+    pub first: Kind,
 }
 
 /// Two that meet in a slot, or could have: the first pair of them in the plan, and how many more there are.
@@ -21,16 +23,21 @@ pub struct Met {
     pub first: Party,
     pub second: Party,
     pub more: u32,
+    /// Whether it stands for another one of the same two controllers, which looks the same.
+    pub is_other: bool,
 }
 
 impl Met {
-    // Whether both are pairs of the same two controllers and kinds.
+    // Whether both are pairs of the same two controllers.
+    fn is_of(&self, other: &Met) -> bool {
+        (self.first.number, self.second.number) == (other.first.number, other.second.number)
+    }
+
+    // Whether both have the same kinds.
     fn is_like(&self, other: &Met) -> bool {
-        let numbers = (self.first.number, self.second.number);
         let kinds = (self.first.kind, self.second.kind);
-        numbers == (other.first.number, other.second.number)
-            && (kinds == (other.first.kind, other.second.kind)
-                || kinds == (other.second.kind, other.first.kind))
+        kinds == (other.first.kind, other.second.kind)
+            || kinds == (other.second.kind, other.first.kind)
     }
 }
 
@@ -39,11 +46,14 @@ impl Met {
 /// # Errors
 ///
 /// Where an allocation fails.
-pub fn add_met(all: &mut Vec<Met>, met: Met) -> Result<(), AllocError> {
+pub fn add_met(all: &mut Vec<Met>, mut met: Met) -> Result<(), AllocError> {
     for other in all.as_mut_slice() {
-        if other.is_like(&met) {
-            other.more = other.more.saturating_add(1);
-            return Ok(());
+        if other.is_of(&met) {
+            met.is_other = true;
+            if other.is_like(&met) {
+                other.more = other.more.saturating_add(1);
+                return Ok(());
+            }
         }
     }
     all.push(met)
@@ -65,6 +75,7 @@ pub(crate) fn meetings_of(
         let (x, y) = plan.pair(pair);
         if let Some(first) = party_of(parties, x)
             && let Some(second) = party_of(parties, y)
+            && first.first != second.first
             && first.kind != second.kind
         {
             let met = Met {
@@ -73,6 +84,7 @@ pub(crate) fn meetings_of(
                 first,
                 second,
                 more: 0,
+                is_other: false,
             };
             add_met(&mut all, met)?;
         }

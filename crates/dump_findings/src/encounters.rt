@@ -80,6 +80,7 @@ fn met_by(pair: u32, first: Leaves, second: Leaves, marks: &[Mark]) -> Option<Me
         first: party_of(first.participant, one)?,
         second: party_of(second.participant, other)?,
         more: 0,
+        is_other: false,
     })
 }
 
@@ -127,5 +128,6 @@ fn party_of(participant: u32, offered: Offered) -> Option<Party> {
         participant,
         number: 0,
         kind,
+        first: kind,
     })
 }

@@ -5,7 +5,7 @@ use drives::Met;
 use growing_text::{Lines, Part, Sentence};
 use std::alloc::Global;
 
-/// That two meet, in these words, and which pair of the plan that is.
+/// That two meet, in these words, and which pair of the plan that is; after `or`, if it stands for another one.
 pub(crate) fn tell_met(
     alloc: Global,
     lines: &mut Lines,
@@ -13,7 +13,8 @@ pub(crate) fn tell_met(
     template: &'static str,
     parts: &[Part<'_>],
 ) {
-    let mut said = Sentence::of(alloc, template, parts);
+    let mut said = Sentence::of(alloc, if met.is_other { "or " } else { "" }, &[]);
+    said.tell(template, parts);
     let pair = Part::Number(u64::from(met.pair));
     said.tell(", undefined by UM10204 3.1.8, pair {} of the plan", &[pair]);
     if met.more != 0 {

@@ -6,7 +6,7 @@ use super::lines::Lines;
 use super::meetings::{met_in, sent, Met};
 use super::participants::{Participant, Participants};
 use super::senders::{Place, Sender};
-use super::wires::Item;
+use super::wires::{Item, Kind};
 
 /// What a controller did, in the order of the page. Slots are counted from 0.
 #[derive(Clone, Copy, Debug, PartialEq, Eq)]
@@ -66,7 +66,7 @@ impl Driven {
             let senders = own(line).map(|(one, _)| one.sender);
             let all: Vec<Does> = match meets {
                 Some(Met { slot, .. }) => {
-                    let sending = senders.filter(|sender| self.sends(plan, &lines, line, sender, *slot).is_some());
+                    let sending = senders.filter(|sender| self.sends(line, sender, *slot).is_some());
                     sending.map(|sender| met_by(follow(sender, &self.transaction.marks, &pulls), &pulls)).collect()
                 }
                 None => senders.map(|sender| follow(sender, &self.transaction.marks, &pulls)).collect(),
@@ -77,36 +77,31 @@ impl Driven {
         (met, all)
     }
 
-    // The pairs that meet in a slot, once for each two lines.
+    // The pairs that meet in a slot, once for each two lines and kinds.
     fn met_in<'a>(&self, plan: &'a Participants<'a>, lines: &[Option<usize>], slot: usize) -> Vec<Met<'a>> {
         let all = plan.all.iter().zip(lines);
-        let sends: Vec<Option<Item>> =
-            all.map(|(one, line)| self.sends(plan, lines, (*line)?, one.sender, slot)).collect();
+        let sends: Vec<Option<Item>> = all.map(|(one, line)| self.sends((*line)?, one.sender, slot)).collect();
+        // what a controller is taken to send: the bit, if a message of it sends one
+        let first = |line: Option<usize>| {
+            let own = sends.iter().zip(lines).filter(|(_, other)| **other == line).filter_map(|(item, _)| *item);
+            own.max_by_key(|item| item.kind() == Kind::Sent).map(Item::kind)
+        };
         met_in(plan, &plan.all, slot, |x, y| {
             let kinds = [sends[x]?.kind(), sends[y]?.kind()];
-            (kinds[0] != kinds[1]).then_some((kinds, (lines[x], lines[y])))
+            let meet = kinds[0] != kinds[1] && first(lines[x]) != first(lines[y]);
+            meet.then_some((kinds, (lines[x], lines[y], kinds)))
         })
     }
 
     // What a message of the controller with this line sends in a slot, if it has done the same before, and does so there.
-    fn sends(
-        &self,
-        plan: &Participants,
-        lines: &[Option<usize>],
-        line: usize,
-        sender: &Sender,
-        slot: usize,
-    ) -> Option<Item> {
+    fn sends(&self, line: usize, sender: &Sender, slot: usize) -> Option<Item> {
         if !self.start[line] {
             return None;
         }
-        let pulls = self.pulls_of(line);
-        let stands = |sender: &Sender| place_after(sender, &self.transaction.marks[..slot], &pulls);
-        let own = plan.all.iter().zip(lines).filter(|(_, other)| **other == Some(line));
-        let may: Vec<Item> =
-            own.filter_map(|(one, _)| Some(one.sender.offers(stands(one.sender)?))).flatten().copied().collect();
-        let item = sent(self.transaction.marks[slot], (self.rises[slot][line], pulls[slot]), &may)?;
-        sender.may_put(stands(sender)?, item).then_some(item)
+        let (marks, pulls) = (&self.transaction.marks, self.pulls_of(line));
+        let place = place_after(sender, &marks[..slot], &pulls)?;
+        let sent = sent(marks[slot], self.rises[slot][line], pulls[slot]);
+        sent.iter().find(|item| sender.may_put(place, **item)).copied()
     }
 
     fn pulls_of(&self, line: usize) -> Vec<bool> {

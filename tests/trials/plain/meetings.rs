@@ -15,16 +15,15 @@ pub struct Met<'a> {
     pub more: usize,
 }
 
-/// The item that a controller sends in a slot: what its line does when SCL rises and at the end, and what its messages may send.
-pub fn sent(mark: Mark, pulls: (bool, bool), may: &[Item]) -> Option<Item> {
-    let (first, other) = match (mark, pulls) {
-        (Mark::Level(false), (true, true)) => (Item::Sent(false), Item::Stop),
-        (Mark::Level(false), (true, false)) | (Mark::Stop, (true, _)) => (Item::Stop, Item::Stop),
-        (Mark::Level(false) | Mark::Again | Mark::Stop, (false, true)) => (Item::Again, Item::Again),
-        (_, (false, false)) => (Item::Sent(true), Item::Again),
-        _ => return None,
-    };
-    [first, other].into_iter().find(|item| may.contains(item))
+/// What a controller can send in a slot, by whether its line pulls SDA when SCL rises, and at the end.
+pub fn sent(mark: Mark, rise: bool, end: bool) -> &'static [Item] {
+    match (mark, rise, end) {
+        (Mark::Level(false), true, true) => &[Item::Sent(false), Item::Stop],
+        (Mark::Level(false), true, false) | (Mark::Stop, true, _) => &[Item::Stop],
+        (Mark::Level(false) | Mark::Again | Mark::Stop, false, true) => &[Item::Again],
+        (_, false, false) => &[Item::Sent(true), Item::Again],
+        _ => &[],
+    }
 }
 
 /// The pairs of a plan whose two meet in a slot: `kinds` says what the two send there. Those with the same `key` are put together.

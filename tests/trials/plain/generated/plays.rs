@@ -24,6 +24,7 @@ pub struct Plays {
 
 /// A slot in which some met, which kind each controller put there, and whether SCL fell too early for one of them.
 #[derive(Clone, Debug)]
+#[cfg_attr(not(test), expect(dead_code))]
 pub struct Encounter {
     pub slot: usize,
     pub kinds: Vec<(String, Kind)>,
