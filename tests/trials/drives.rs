@@ -7,15 +7,15 @@ use crate::desks::Desk;
 use crate::dice::Dice;
 use crate::disagreements::{Disagreement, Score};
 use crate::json::Value;
-use crate::objects::{meetings_of, of_explained, of_kind};
+use crate::objects::{meetings_of, of_capture, of_explained, of_kind};
 use crate::plain::before::Before;
 use crate::plain::captures::{Mark, Transaction, Until};
 use crate::plain::drives::{driven, Does, Driven, DrivesRefusal};
-use crate::plain::found::explainers;
+use crate::plain::found::{decoded, explainers};
 use crate::plain::generated::{self, Plays};
 use crate::plain::learned::{learned_of, Data, Shares};
 use crate::plain::lines::Lines;
-use crate::plain::meetings::Met;
+use crate::plain::meetings::{possible, Met};
 use crate::plain::{brief, with_plan, Answer, Level, Participant, Participants};
 use crate::seeds::mixed;
 use crate::tallies::Tallies;
@@ -91,12 +91,21 @@ fn compare(desk: &mut Desk, name: &str, plan: &str, plays: &Plays) -> io::Result
     let found = driven(plays.dump.as_bytes(), &lines, pulls);
     let (plan, dump) = (plan.as_bytes(), plays.dump.as_bytes());
     let of_plan = |plan: &Participants| captured(plan, plays, &found);
-    let (kinds, wanted) = with_plan(plan, of_plan).expect("a plan");
+    let (mut kinds, wanted) = with_plan(plan, of_plan).expect("a plan");
     let mut options = options_of("capture", plays);
     options.push("--format=json".to_owned());
     let told = format!("{name}: {options:?}\n{}\n{}", plan_of(plan), plays.dump);
     let said = desk.say(plan, dump, options, NAMES.to_vec())?;
     let fault = disagreement(&told, plan, dump, wanted, &with_report_of(said, &found.1));
+    if fault.is_some() {
+        return Ok((kinds, fault));
+    }
+    let (could, wanted) = with_plan(plan, |plan| explained(plan, dump)).expect("a plan");
+    kinds.extend(could.then(|| "could have met".to_owned()));
+    let options = ["capture", "--explain", "--format=json"].map(str::to_owned);
+    let told = format!("{name}: {options:?}\n{}\n{}", plan_of(plan), plays.dump);
+    let said = desk.say(plan, dump, options.to_vec(), NAMES.to_vec())?;
+    let fault = disagreement(&told, plan, dump, wanted, &said);
     if fault.is_some() {
         return Ok((kinds, fault));
     }
@@ -110,6 +119,19 @@ fn compare(desk: &mut Desk, name: &str, plan: &str, plays: &Plays) -> io::Result
         }
     }
     Ok((kinds, None))
+}
+
+// What is said of them without lines of controllers, and whether two could have met.
+fn explained(plan: &Participants, dump: &[u8]) -> (bool, Answer) {
+    let Ok(decoded) = decoded(dump, "scl", "sda") else {
+        panic!("the dump of a play is refused");
+    };
+    let is_odd = |it: &&Transaction| matches!(it.until, Until::Stopped(_)) && explainers(plan, it).is_empty();
+    let mut odd = decoded.transactions.iter().filter(is_odd).peekable();
+    let status = u8::from(odd.peek().is_some());
+    let could = odd.any(|it| !possible(plan, &it.marks).is_empty());
+    let out = of_capture(plan, &decoded, true).iter().map(|object| format!("{object}\n")).collect();
+    (could, Answer { status, out, refusal: String::new() })
 }
 
 // What is learned of plays: with these names of the controllers, perhaps beside a brief.
@@ -165,6 +187,8 @@ impl Lesson<'_> {
 fn options_of(command: &str, plays: &Plays) -> Vec<String> {
     let mut options = vec![command.to_owned(), format!("--pulls={}", u8::from(plays.pulls))];
     options.extend(plays.drives.iter().map(|(name, place)| format!("--drives={name}={place}")));
+    // (no level is shorter than this, so nothing is left out)
+    options.extend((plays.dump.len() % 2 == 0).then(|| "--min-pulse=1".to_owned()));
     options
 }
 

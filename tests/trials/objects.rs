@@ -238,7 +238,8 @@ fn of_bench(plan: &Participants, starters: &str, fill: bool, answers: &str, expl
     vec![of_kind("wire", fields), of_kind("won", vec![("participants", won)])]
 }
 
-fn of_capture(plan: &Participants, decoded: &Decoded, explain: bool) -> Vec<Value> {
+/// The objects of a capture.
+pub fn of_capture(plan: &Participants, decoded: &Decoded, explain: bool) -> Vec<Value> {
     let behind: Vec<usize> = decoded.transactions.iter().map(|it| bits_behind(it, &decoded.events)).collect();
     let mut objects = Vec::new();
     let mut unexplained = 0;
