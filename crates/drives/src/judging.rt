@@ -104,7 +104,7 @@ impl<'a> Judging<'a> {
         let marks = transaction.marks.as_slice();
         let mut all = self.judge_all(alloc, plan, marks, drove)?;
         let met = self.meet(alloc, plan, marks, drove, all.as_slice())?;
-        for judged in all.as_mut_slice() {
+        for judged in all.iter_mut() {
             self.judge_again(plan, marks, drove, met.as_slice(), judged);
         }
         let verdict = Verdict {

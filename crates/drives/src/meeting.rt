@@ -30,14 +30,14 @@ pub struct Met {
 impl Met {
     // Whether both are pairs of the same two controllers.
     fn is_of(&self, other: &Met) -> bool {
-        (self.first.number, self.second.number) == (other.first.number, other.second.number)
+        self.first.number == other.first.number && self.second.number == other.second.number
     }
 
     // Whether both have the same kinds.
     fn is_like(&self, other: &Met) -> bool {
-        let kinds = (self.first.kind, self.second.kind);
-        kinds == (other.first.kind, other.second.kind)
-            || kinds == (other.second.kind, other.first.kind)
+        let (one, two) = (self.first.kind, self.second.kind);
+        let (first, second) = (other.first.kind, other.second.kind);
+        one == first && two == second || one == second && two == first
     }
 }
 
@@ -47,7 +47,7 @@ impl Met {
 ///
 /// Where an allocation fails.
 pub fn add_met(all: &mut Vec<Met>, mut met: Met) -> Result<(), AllocError> {
-    for other in all.as_mut_slice() {
+    for other in all.iter_mut() {
         if other.is_of(&met) {
             met.is_other = true;
             if other.is_like(&met) {
