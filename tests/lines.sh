@@ -227,6 +227,117 @@ expect "what others sent" 0 "5-295 b/high
     sent 1
 1 transactions, 0 unexplained" "" capture two.brief other --drives a=oa
 
+# ---- two that meet
+
+# Each message of a is alike to each of b up to slot 9. What each line of the report says of which slot is told by meetings.v.
+"$twire" expand "$examples/meetings.brief" >meetings.plan
+meet=(capture meetings.plan "$examples/meetings.vcd")
+by=(--drives a=a_o --drives b=b_o)
+expect "two that meet" 1 "1000-19400 b/low
+    a starts, is within its message up to slot 9, and pulls SDA no more
+    b starts, and goes on to the end
+    slot 9: a's STOP meets b's data bit, undefined by UM10204 3.1.8, pair 0 of
+    the plan
+23400-32200 a/probe
+    a starts, and goes on to the end
+    b starts, is within its message up to slot 9, and pulls SDA no more
+    slot 9: a's STOP meets b's data bit, undefined by UM10204 3.1.8, pair 1 of
+    the plan
+    or slot 9: a's STOP meets b's repeated START, undefined by UM10204 3.1.8,
+    pair 2 of the plan
+36450-54900 b/low
+    a starts, is within its message up to slot 9, and pulls SDA no more
+    b starts, and goes on to the end
+    slot 9: a's repeated START meets b's data bit, undefined by UM10204 3.1.8,
+    pair 3 of the plan
+58900-83650 a/poll b/poll
+    a starts, and goes on to the end
+    b starts, is within its message up to slot 9, and pulls SDA no more
+    slot 9: a's repeated START meets b's data bit, undefined by UM10204 3.1.8,
+    pair 4 of the plan
+87650-96450 a/probe
+    a starts, and goes on to the end
+    b starts, is within its message up to slot 9, and pulls SDA no more
+    slot 9: a's STOP meets b's data bit, undefined by UM10204 3.1.8, pair 1 of
+    the plan
+    or slot 9: a's STOP meets b's repeated START, undefined by UM10204 3.1.8,
+    pair 2 of the plan
+96650-116400 unexplained
+    b starts, and in slot 7 releases SDA, which no message of it does there:
+    against the plan
+120400-138700 unexplained
+    a starts, is within its message up to slot 9, and pulls SDA no more
+    b starts, is within its message up to slot 9, and then pulls SDA in slot 11
+    slot 9: a's STOP meets b's repeated START, undefined by UM10204 3.1.8, pair
+    2 of the plan
+140700-157100 b/low
+    a starts, is within its message up to slot 9, and pulls SDA no more
+    b starts, and goes on to the end
+    slot 9: a's STOP meets b's data bit, undefined by UM10204 3.1.8, pair 0 of
+    the plan
+161100-177800 b/low
+    a starts, is within its message up to slot 9, and pulls SDA no more
+    b starts, and goes on to the end
+    slot 9: a's repeated START meets b's data bit, undefined by UM10204 3.1.8,
+    pair 3 of the plan
+181800-201550 unexplained
+    a starts, is within its message up to slot 9, and then pulls SDA in slot 11
+    b starts, and loses in slot 11: it sends 1, the bus has 0
+    slot 9: a's repeated START meets b's data bit, undefined by UM10204 3.1.8,
+    pair 4 of the plan
+    who drove: in 0 transactions as the rules of the plan give, not in 10;
+    others sent 0
+    in 9 of these two met: the plan is unsafe
+10 transactions, 3 unexplained" "" "${meet[@]}" "${by[@]}"
+expect "a STOP and a repeated START, as objects" 1 '{"kind":"transaction","from":120400,"to":138700,"end":"stop","participants":[],"drives":[{"controller":"a","does":"meets","slot":9},{"controller":"b","does":"meets","slot":9,"again":11}],"meetings":[{"slot":9,"pair":2,"participants":["a/probe","b/poll"],"meet":["stop","restart"],"more":0}]}
+{"kind":"transactions","transactions":1,"unexplained":1,"drives":{"right":0,"wrong":1,"others":0,"met":1}}' "" \
+    "${meet[@]}" "${by[@]}" --from 120400 --to 120400 --format json
+expect "who could have met" 1 '{"kind":"transaction","from":120400,"to":138700,"end":"stop","participants":[],"explain":{"bytes":"S 48 Wr A 48(cut) P","idle":0,"cuts":[{"by":"stop","bits":8}],"nearest":[{"participant":"b/low","slot":10,"does":"0","wire":"1"},{"participant":"a/probe","slot":9,"does":"stop","wire":"0"},{"participant":"a/poll","slot":9,"does":"restart","wire":"0"}],"meetings":[{"slot":9,"pair":0,"participants":["a/probe","b/low"],"meet":["stop","data"],"more":1},{"slot":9,"pair":2,"participants":["a/probe","b/poll"],"meet":["stop","restart"],"more":0},{"slot":9,"pair":3,"participants":["a/poll","b/low"],"meet":["restart","data"],"more":0}]}}
+{"kind":"transactions","transactions":1,"unexplained":1,"explain":{"idle":0,"short":0}}' "" \
+    "${meet[@]}" --from 120400 --to 120400 --explain --format json
+expect "who could have met, for people" 1 "120400-138700 unexplained
+    bus      S 48 Wr A 48(cut) P
+    b/low    S 48 Wr A 0f  next: a data bit
+    a/probe  S 48 Wr A P   next: a STOP
+    a/poll   S 48 Wr A Sr  next: a repeated START
+    the STOP comes after 8 of a byte's nine bits: is it a glitch?
+    slot 10, b/low: it sends 0, the bus has 1
+    slot 9, a/probe: it sends a STOP, the bus has 0
+    slot 9, a/poll: it sends a repeated START, the bus has 0
+    slot 9: a STOP may have met a data bit, undefined by UM10204 3.1.8, pair 0
+    of the plan and 1 more
+    or slot 9: a STOP may have met a repeated START, undefined by UM10204 3.1.8,
+    pair 2 of the plan
+    or slot 9: a repeated START may have met a data bit, undefined by UM10204
+    3.1.8, pair 3 of the plan
+1 transactions, 1 unexplained" "" "${meet[@]}" --from 120400 --to 120400 --explain
+same "nothing could have met where who drove is known" 0 \
+    "$("$twire" "${meet[@]}" "${by[@]}" --explain | grep -c 'may have met')"
+same "a safe plan has nobody who meets" 0 "$("$twire" capture two.brief pulls_on --explain | grep -c met)"
+same "the same with short levels left out, of which there are none" "$("$twire" "${meet[@]}" "${by[@]}")" \
+    "$("$twire" "${meet[@]}" "${by[@]}" --min-pulse 1)"
+same "the same from a START on, which several transactions follow" "$("$twire" "${meet[@]}" "${by[@]}" | grep -v '^ ')" \
+    "$("$twire" "${meet[@]}")"
+
+# ---- short levels
+
+# SCL has the other level for 1 us in each of its periods. The dump is longer than what is read at a time.
+glitches() {
+    awk '{ print } / [01]!$/ { split($1, at, "#"); level = substr($NF, 1, 1)
+        print "#" (at[2] + 1) " " (1 - level) "!"; print "#" (at[2] + 2) " " level "!" }'
+}
+{
+    heads
+    for ((k = 0; k < 300; k++)); do drove "${header}1000011111" "${header}1001111111" $target Aab $((400 * k + 5)); done
+} >long
+glitches <long >short
+"$twire" capture two.brief long "${both[@]}" >wanted
+"$twire" capture two.brief short "${both[@]}" --min-pulse 2 >found
+same "lines of controllers where short levels are left out" "$(sed 's/^[0-9-]* //' wanted)" "$(sed 's/^[0-9-]* //' found)"
+same "they are many" 300 "$(grep -c '^    b starts, and loses in slot 11: it sends 1, the bus has 0$' found)"
+same "a lesson where short levels are left out" "$("$twire" learn long "${both[@]}" | sed 's/first at [0-9]*/first/')" \
+    "$("$twire" learn short "${both[@]}" --min-pulse 2 | sed 's/first at [0-9]*/first/')"
+
 # ---- messages shared out
 
 { heads; drove "${header}1000011111" "${header}1001111111" $target Aab; drove "${rest}1111111111" "${header}1001100111" $target b 300; } >lesson
@@ -438,8 +549,6 @@ refuses "no equals sign" "'--drives' takes NAME=WHERE, as bmc=top.bmc.sda_o" cap
 refuses "a level of no line" "the following required arguments were not provided:" capture plan arbitrated --pulls 1
 refuses "a level of no line, learned" "the following required arguments were not provided:" learn arbitrated --pulls 0
 refuses "a controller twice" "'--drives' names a controller twice: it has one line" learn arbitrated --drives a=oa --drives a=ob
-refuses "short pulses" "'--min-pulse' leaves out levels, and '--drives' looks at all of them" \
-    capture plan arbitrated --drives a=oa --min-pulse 5
 refuses "counts alone" "'--summary' leaves no transactions for '--drives'" capture plan arbitrated --drives a=oa --summary
 
 finish

@@ -7,14 +7,15 @@ use crate::desks::Desk;
 use crate::dice::Dice;
 use crate::disagreements::{Disagreement, Score};
 use crate::json::Value;
-use crate::objects::{of_explained, of_kind};
+use crate::objects::{meetings_of, of_capture, of_explained, of_kind};
 use crate::plain::before::Before;
-use crate::plain::captures::{Transaction, Until};
+use crate::plain::captures::{Mark, Transaction, Until};
 use crate::plain::drives::{driven, Does, Driven, DrivesRefusal};
-use crate::plain::found::explainers;
+use crate::plain::found::{decoded, explainers};
 use crate::plain::generated::{self, Plays};
 use crate::plain::learned::{learned_of, Data, Shares};
 use crate::plain::lines::Lines;
+use crate::plain::meetings::{possible, Met};
 use crate::plain::{brief, with_plan, Answer, Level, Participant, Participants};
 use crate::seeds::mixed;
 use crate::tallies::Tallies;
@@ -26,7 +27,24 @@ use std::io;
 const LOTS: [(&str, u32, u64); 2] = [("plays by the rules", 1, 100), ("plays with faults", 8, 200)];
 
 // Each of these is to come up.
-const WANTED: [&str; 7] = ["goes on", "loses", "pulls on", "departs", "joins late", "is SDA", "is not on the bus"];
+const WANTED: [&str; 16] = [
+    "goes on",
+    "loses",
+    "pulls on",
+    "meets",
+    "departs",
+    "joins late",
+    "is SDA",
+    "is not on the bus",
+    "data, stop: 0",
+    "data, stop: stop",
+    "data, restart: 0",
+    "data, restart: 1",
+    "data, restart: restart",
+    "restart, stop: 0",
+    "restart, stop: stop",
+    "could have met",
+];
 
 /// Tells who drove in such dumps, and learns of them, one of so many.
 pub fn try_drives(crew: &mut Crew, score: &mut Score, seed: u64, step: usize) -> io::Result<()> {
@@ -73,12 +91,21 @@ fn compare(desk: &mut Desk, name: &str, plan: &str, plays: &Plays) -> io::Result
     let found = driven(plays.dump.as_bytes(), &lines, pulls);
     let (plan, dump) = (plan.as_bytes(), plays.dump.as_bytes());
     let of_plan = |plan: &Participants| captured(plan, plays, &found);
-    let (kinds, wanted) = with_plan(plan, of_plan).expect("a plan");
+    let (mut kinds, wanted) = with_plan(plan, of_plan).expect("a plan");
     let mut options = options_of("capture", plays);
     options.push("--format=json".to_owned());
     let told = format!("{name}: {options:?}\n{}\n{}", plan_of(plan), plays.dump);
     let said = desk.say(plan, dump, options, NAMES.to_vec())?;
     let fault = disagreement(&told, plan, dump, wanted, &with_report_of(said, &found.1));
+    if fault.is_some() {
+        return Ok((kinds, fault));
+    }
+    let (could, wanted) = with_plan(plan, |plan| explained(plan, dump)).expect("a plan");
+    kinds.extend(could.then(|| "could have met".to_owned()));
+    let options = ["capture", "--explain", "--format=json"].map(str::to_owned);
+    let told = format!("{name}: {options:?}\n{}\n{}", plan_of(plan), plays.dump);
+    let said = desk.say(plan, dump, options.to_vec(), NAMES.to_vec())?;
+    let fault = disagreement(&told, plan, dump, wanted, &said);
     if fault.is_some() {
         return Ok((kinds, fault));
     }
@@ -92,6 +119,19 @@ fn compare(desk: &mut Desk, name: &str, plan: &str, plays: &Plays) -> io::Result
         }
     }
     Ok((kinds, None))
+}
+
+// What is said of them without lines of controllers, and whether two could have met.
+fn explained(plan: &Participants, dump: &[u8]) -> (bool, Answer) {
+    let Ok(decoded) = decoded(dump, "scl", "sda") else {
+        panic!("the dump of a play is refused");
+    };
+    let is_odd = |it: &&Transaction| matches!(it.until, Until::Stopped(_)) && explainers(plan, it).is_empty();
+    let mut odd = decoded.transactions.iter().filter(is_odd).peekable();
+    let status = u8::from(odd.peek().is_some());
+    let could = odd.any(|it| !possible(plan, &it.marks).is_empty());
+    let out = of_capture(plan, &decoded, true).iter().map(|object| format!("{object}\n")).collect();
+    (could, Answer { status, out, refusal: String::new() })
 }
 
 // What is learned of plays: with these names of the controllers, perhaps beside a brief.
@@ -147,6 +187,8 @@ impl Lesson<'_> {
 fn options_of(command: &str, plays: &Plays) -> Vec<String> {
     let mut options = vec![command.to_owned(), format!("--pulls={}", u8::from(plays.pulls))];
     options.extend(plays.drives.iter().map(|(name, place)| format!("--drives={name}={place}")));
+    // (no level is shorter than this, so nothing is left out)
+    options.extend((plays.dump.len() % 2 == 0).then(|| "--min-pulse=1".to_owned()));
     options
 }
 
@@ -191,16 +233,19 @@ fn captured(plan: &Participants, plays: &Plays, found: &Found) -> (Vec<String>, 
     }
     let mut kinds = Vec::new();
     let mut out = String::new();
-    let (mut stopped, mut unexplained, mut right, mut wrong, mut others) = (0, 0, 0, 0, 0);
+    let (mut stopped, mut unexplained, mut right, mut wrong, mut others, mut with_met) = (0, 0, 0, 0, 0, 0);
     for driven in &found.0 {
-        let named = plays.drives.iter().enumerate();
-        let does: Vec<(&str, Does)> =
-            named.filter_map(|(line, (name, _))| Some((name.as_str(), driven.does(plan, name, line)?))).collect();
+        let names: Vec<&str> = plays.drives.iter().map(|(name, _)| name.as_str()).collect();
+        let (met, does) = driven.judged(plan, &names);
+        let named = names.iter().zip(does);
+        let does: Vec<(&str, Does)> = named.filter_map(|(name, does)| Some((*name, does?))).collect();
         kinds.extend(does.iter().map(|(_, does)| word_of(*does).to_owned()));
+        kinds.extend(met.iter().map(|met| kinds_of(met, driven.transaction.marks[met.slot])));
         if matches!(driven.transaction.until, Until::Stopped(_)) {
             stopped += 1;
             let explainers = explainers(plan, &driven.transaction);
             unexplained += usize::from(explainers.is_empty());
+            with_met += usize::from(!met.is_empty());
             let is_denied = does.is_empty() && !explainers.is_empty() && all_followed(plan, plays, &explainers);
             if is_denied || does.iter().any(|(_, does)| does.is_wrong()) {
                 wrong += 1;
@@ -215,9 +260,12 @@ fn captured(plan: &Participants, plays: &Plays, found: &Found) -> (Vec<String>, 
         };
         let objects = does.iter().map(|(name, does)| object_of(name, *does));
         members.push(("drives".to_owned(), Value::Array(objects.collect())));
+        members.extend(meetings_of(&met).map(|meetings| ("meetings".to_owned(), meetings)));
         out += &format!("{}\n", Value::Object(members));
     }
-    let counts = object(vec![("right", Value::of(right)), ("wrong", Value::of(wrong)), ("others", Value::of(others))]);
+    let mut counts = vec![("right", Value::of(right)), ("wrong", Value::of(wrong)), ("others", Value::of(others))];
+    counts.extend((with_met > 0).then(|| ("met", Value::of(with_met))));
+    let counts = object(counts);
     let fields =
         vec![("transactions", Value::of(stopped)), ("unexplained", Value::of(unexplained)), ("drives", counts)];
     out += &format!("{}\n", of_kind("transactions", fields));
@@ -231,11 +279,25 @@ fn all_followed(plan: &Participants, plays: &Plays, participants: &[&Participant
     participants.iter().all(|one| one.controller.is_some_and(|number| is_given(controllers[number].name)))
 }
 
+// Which kinds meet, and what the wire shows.
+fn kinds_of(met: &Met, mark: Mark) -> String {
+    let mut kinds = met.kinds.map(|kind| kind.word());
+    kinds.sort_unstable();
+    let wire = match mark {
+        Mark::Level(false) => "0",
+        Mark::Level(true) => "1",
+        Mark::Again => "restart",
+        Mark::Stop => "stop",
+    };
+    format!("{}, {}: {wire}", kinds[0], kinds[1])
+}
+
 fn word_of(does: Does) -> &'static str {
     match does {
         Does::GoesOn => "goes on",
         Does::Loses { .. } => "loses",
         Does::PullsOn { .. } => "pulls on",
+        Does::Meets { .. } => "meets",
         Does::Departs { .. } => "departs",
         Does::JoinsLate { .. } => "joins late",
     }
@@ -249,6 +311,10 @@ fn object_of(name: &str, does: Does) -> Value {
             fields.push(("slot", Value::of(slot)));
         }
         Does::PullsOn { slot, again } => fields.extend([("slot", Value::of(slot)), ("again", Value::of(again))]),
+        Does::Meets { slot, again } => {
+            fields.push(("slot", Value::of(slot)));
+            fields.extend(again.map(|again| ("again", Value::of(again))));
+        }
     }
     object(fields)
 }

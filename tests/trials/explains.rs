@@ -1,11 +1,13 @@
 //! What the field `explain` holds, by the schema in docs/COMMAND_LINE.md.
 
 use crate::json::Value;
+use crate::objects::meetings_of;
 use crate::plain::bytes::{bytes_along, bytes_on, open_slots};
 use crate::plain::captures::{Mark, Transaction, Until};
 use crate::plain::decoded::{self, cuts_of, nearest};
 use crate::plain::explained::{decided, kept_apart, unsent, with_interrupts, Decided};
 use crate::plain::found::{Checked, Fault, Played};
+use crate::plain::meetings::possible;
 use crate::plain::offers::{Mending, Offer};
 use crate::plain::sources::{Edit, Source};
 use crate::plain::{break_of, read_certificate, Certificate, Item, Kind, Participants, Wrong};
@@ -197,12 +199,15 @@ pub fn of_transaction(plan: &Participants, transaction: &Transaction, is_odd: bo
             ("wire", Value::text(shows(marks.get(leaves.slot)))),
         ])
     });
-    object(vec![
+    let mut fields = vec![
         ("bytes", Value::text(decoded::bytes_of(marks))),
         ("idle", Value::of(idle)),
         ("cuts", Value::Array(cuts.collect())),
         ("nearest", Value::Array(near.collect())),
-    ])
+    ];
+    let met = if is_told { possible(plan, marks) } else { Vec::new() };
+    fields.extend(meetings_of(&met).map(|meetings| ("meetings", meetings)));
+    object(fields)
 }
 
 fn does(offers: &[Item]) -> &'static str {

@@ -584,7 +584,23 @@ fn explained_transaction(explain: &mut Fields) -> Result<(), String> {
         let is_cut = ["restart", "stop"].contains(&by.as_str()) && ("1"..="8").contains(&bits.as_str());
         only_if(is_cut && bits.len() == 1, "nothing is cut so")?;
     }
-    explain.take("nearest")?.into_items()?.into_iter().try_for_each(near)
+    explain.take("nearest")?.into_items()?.into_iter().try_for_each(near)?;
+    let met = explain.maybe("meetings", Value::into_items)?.unwrap_or_default();
+    met.into_iter().try_for_each(meeting)
+}
+
+// Two that could have met.
+fn meeting(value: Value) -> Result<(), String> {
+    let mut fields = Fields::of(value)?;
+    for number in ["slot", "pair"] {
+        fields.number(number)?;
+    }
+    fields.two("participants")?;
+    let kinds = fields.two("meet")?;
+    fields.number("more")?;
+    fields.end()?;
+    let are_known = kinds.iter().all(|kind| ["data", "restart", "stop"].contains(&kind.as_str()));
+    only_if(are_known && kinds[0] != kinds[1], "no two meet so")
 }
 
 // What a participant does, and what a wire shows.

@@ -10,6 +10,7 @@ use crate::plain::decoded::{bits_behind, bytes_of, calls_of};
 use crate::plain::found::{checked, decoded, decoded_so_far, explainers, ordered, played, verified};
 use crate::plain::found::{Decoded, Fault, Ordered};
 use crate::plain::groups::{groups_of, Group};
+use crate::plain::meetings::Met;
 use crate::plain::offers::mending;
 use crate::plain::sources::{families_of, Edit};
 use crate::plain::{symbols, with_plan, Participant, Participants, Ways, Wrong};
@@ -237,7 +238,8 @@ fn of_bench(plan: &Participants, starters: &str, fill: bool, answers: &str, expl
     vec![of_kind("wire", fields), of_kind("won", vec![("participants", won)])]
 }
 
-fn of_capture(plan: &Participants, decoded: &Decoded, explain: bool) -> Vec<Value> {
+/// The objects of a capture.
+pub fn of_capture(plan: &Participants, decoded: &Decoded, explain: bool) -> Vec<Value> {
     let behind: Vec<usize> = decoded.transactions.iter().map(|it| bits_behind(it, &decoded.events)).collect();
     let mut objects = Vec::new();
     let mut unexplained = 0;
@@ -264,6 +266,21 @@ pub fn of_explained(plan: &Participants, transaction: &Transaction, idle: Option
     fields.push(("participants", Value::list(who.iter().map(|one| one.label.as_str()))));
     fields.extend(idle.map(|idle| ("explain", explains::of_transaction(plan, transaction, who.is_empty(), idle))));
     of_kind("transaction", fields)
+}
+
+/// Who meets, or could have met: nothing, where that is nobody.
+pub fn meetings_of(met: &[Met]) -> Option<Value> {
+    let of_one = |met: &Met| {
+        let [x, y] = met.participants;
+        object(vec![
+            ("slot", Value::of(met.slot)),
+            ("pair", Value::of(met.pair)),
+            ("participants", both(x, y)),
+            ("meet", Value::list(met.kinds.map(|kind| kind.word()))),
+            ("more", Value::of(met.more)),
+        ])
+    };
+    (!met.is_empty()).then(|| Value::Array(met.iter().map(of_one).collect()))
 }
 
 fn of_decode(decoded: &Decoded, summary: bool) -> Vec<Value> {

@@ -24,6 +24,6 @@ pub use labels::{Labels, called_by, label_of, labels_of};
 pub use meetings::{Meeting, Rule, Side, bytes_of_wire, meeting_of, side_of};
 pub use paints::Paint;
 pub use rows::{ALIKE, BYTES, Row, beside, bus_row, row_of, tell_rows};
-pub use sending::{Ranges, deed, own_bit, pass, pass_own, push_offered, push_rest};
+pub use sending::{Ranges, deed, named, own_bit, pass, pass_own, push_offered, push_rest};
 pub use standing::{tell_item, tell_places};
 pub use words::{Bytes, Words, bytes_of, row_of_marks, with_bytes};

@@ -1,7 +1,7 @@
 // What a participant does along a wire.
 
 use crate::words::Words;
-use message_tree::{Bit, Item};
+use message_tree::{Bit, Item, Kind};
 use places::{Offered, Place};
 use plan_core::Plan;
 use std::alloc::{AllocError, Global};
@@ -131,6 +131,17 @@ impl Ranges {
         } else {
             Err(AllocError)
         }
+    }
+}
+
+/// What a participant sends of this kind, without an article.
+pub fn named(kind: Kind) -> &'static str {
+    match kind {
+        Kind::Sent => "data bit",
+        Kind::Heard => "target's bit",
+        Kind::Again => "repeated START",
+        Kind::Stop => "STOP",
+        Kind::Claim => "wait for the answer",
     }
 }
 

@@ -11,6 +11,8 @@ pub struct Drove {
     pub started: u32,
     /// In the HIGH period of each slot, and after a repeated START. There is one for each mark of the transaction.
     pub pulls: Vec<u32>,
+    /// For each mark when SCL rose before it.
+    pub rises: Vec<u32>,
 }
 
 impl Drove {
@@ -24,6 +26,22 @@ impl Drove {
         match self.pulls.get(slot) {
             Some(mask) => has(*mask, number),
             None => false,
+        }
+    }
+
+    /// Whether it pulled SDA when SCL rose in this slot.
+    pub fn pulls_at_rise(&self, number: usize, slot: usize) -> bool {
+        match self.rises.get(slot) {
+            Some(mask) => has(*mask, number),
+            None => false,
+        }
+    }
+
+    /// Whether a line pulled SDA when SCL rose in this slot, and not after that, or the other way round.
+    pub fn changes(&self, slot: usize) -> bool {
+        match (self.rises.get(slot), self.pulls.get(slot)) {
+            (Some(rise), Some(after)) => *rise != *after,
+            _ => false,
         }
     }
 

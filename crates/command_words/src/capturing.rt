@@ -124,9 +124,6 @@ impl<'a> Options<'a> {
                 "'--drives' is given more than 32 times: a plan has 32 controllers at most",
             );
         }
-        if self.min_pulse.is_some() {
-            return Some("'--min-pulse' leaves out levels, and '--drives' looks at all of them");
-        }
         if self.summary {
             return Some("'--summary' leaves no transactions for '--drives'");
         }

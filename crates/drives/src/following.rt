@@ -75,6 +75,14 @@ pub struct Drivers {
     // what the lines are that was read, and how much of it is in the past
     ahead: Vec<Further>,
     past: usize,
+    // whether the bus is followed later than it is read, and up to which time it has been
+    lags: bool,
+    reached: u64,
+    // whether SCL is HIGH, and since when; up to which time the lines have been followed, and who pulled SDA when SCL rose
+    is_high: bool,
+    rose: u64,
+    at: u64,
+    at_rise: u32,
     // who pulls SDA before the time at hand, and at it
     before: u32,
     now: u32,
@@ -101,6 +109,12 @@ impl Drop for Drivers {
             all: _,
             ahead: _,
             past: _,
+            lags: _,
+            reached: _,
+            is_high: _,
+            rose: _,
+            at: _,
+            at_rise: _,
             before: _,
             now: _,
             differs: _,
@@ -115,14 +129,21 @@ impl Drop for Drivers {
 }
 
 impl Drivers {
-    /// So many lines, of at most 32, which pull so. Nothing of the dump has been read.
-    pub fn new(alloc: Global, count: usize, pulling: Pulling) -> Drivers {
+    /// So many lines, of at most 32, which pull so. Nothing of the dump has been read. Where short levels are left out the bus
+    /// is followed later than it is read.
+    pub fn new(alloc: Global, count: usize, pulling: Pulling, lags: bool) -> Drivers {
         Drivers {
             alloc,
             pulling,
             all: mask_of(count),
             ahead: Vec::new(alloc),
             past: 0,
+            lags,
+            reached: 0,
+            is_high: false,
+            rose: 0,
+            at: 0,
+            at_rise: 0,
             before: 0,
             now: 0,
             differs: 0,
@@ -146,6 +167,10 @@ impl Drivers {
     // Goes on to a time. Times at which nothing is asked are passed over.
     fn go_to(&mut self, time: u64) {
         self.before = self.now;
+        if self.at < self.rose {
+            self.at_rise = self.now;
+        }
+        self.at = self.reached;
         for _ in self.past..self.ahead.len() {
             let Some(further) = self.ahead.get(self.past) else {
                 break;
@@ -156,6 +181,9 @@ impl Drivers {
             let now = self.pulling(further);
             if further.time < time {
                 self.before = now;
+            }
+            if further.time <= self.rose {
+                self.at_rise = now;
             }
             self.now = now;
             self.past = self.past.saturating_add(1);
@@ -191,11 +219,12 @@ impl Drivers {
     fn begin(&mut self) -> Result<(), AllocError> {
         self.is_starting = true;
         self.frame = Frame::new();
-        let mut pulls = Vec::new(self.alloc);
-        pulls.reserve(ROOM)?;
+        let pulls = Vec::with_capacity(self.alloc, ROOM)?;
+        let rises = Vec::with_capacity(self.alloc, ROOM)?;
         self.open = Some(Drove {
             started: self.now,
             pulls,
+            rises,
         });
         Ok(())
     }
@@ -214,6 +243,7 @@ impl Drivers {
         };
         if let Some(open) = &mut self.open {
             open.pulls.push(mask)?;
+            open.rises.push(self.at_rise)?;
         }
         Ok(())
     }
@@ -275,17 +305,26 @@ impl Tokens for Drivers {}
 
 impl Beside for Drivers {
     fn hear(&mut self, _samples: &[Sample], further: &[Further]) -> Result<(), AllocError> {
-        // what is left of what was read before comes before all that is read now
-        if let Some(last) = self.ahead.last() {
-            self.now = self.pulling(last);
+        // what is left of what was read before comes before all that is read now, and before the bus goes on unless it lags
+        self.go_to(if self.lags { self.reached } else { u64::MAX });
+        let mut ahead = Vec::new(self.alloc);
+        if let Some(left) = self.ahead.as_slice().get(self.past..) {
+            ahead.extend_from_slice(left)?;
         }
+        ahead.extend_from_slice(further)?;
+        self.ahead = ahead;
         self.past = 0;
-        self.ahead.clear();
-        self.ahead.extend_from_slice(further)
+        Ok(())
     }
 
     #[inline(always)]
     fn reach(&mut self, moment: Moment<'_>) -> Result<(), AllocError> {
+        self.reached = moment.sample.time;
+        let is_high = moment.sample.scl == Level::High;
+        if is_high && !self.is_high {
+            self.rose = self.reached;
+        }
+        self.is_high = is_high;
         let ends_start = self.is_starting && moment.sample.scl == Level::Low;
         if ends_start || moment.event.is_some() && (moment.is_busy || moment.begins) {
             self.follow(moment)

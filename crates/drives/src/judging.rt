@@ -1,5 +1,6 @@
 // What a controller did in a transaction, held against the messages that the plan gives it.
 
+use crate::meeting::{Met, Party, meetings_of};
 use capture_check::{Drove, Mark, Transaction, Until};
 use dump_tokens::Drives;
 use message_tree::{Bit, Item};
@@ -16,6 +17,8 @@ pub enum Does {
     Loses { slot: usize },
     /// It has lost in the first of these slots, and still pulls SDA in the second one.
     PullsOn { slot: usize, again: usize },
+    /// It meets another one, and is within its message up to this slot. It pulls SDA again in a later one, or no more.
+    Meets { slot: usize, again: Option<usize> },
     /// In this slot it does what no message of it does there, and pulls SDA or not.
     Departs { slot: usize, pulls: bool },
     /// It has not started, and pulls SDA in this slot.
@@ -48,6 +51,8 @@ pub struct Judging<'a> {
     pub wrong: u64,
     /// In how many none of them did anything, and others could.
     pub others: u64,
+    /// In how many of those that are wrong two met.
+    pub met: u64,
 }
 
 impl<'a> Judging<'a> {
@@ -59,6 +64,7 @@ impl<'a> Judging<'a> {
             right: 0,
             wrong: 0,
             others: 0,
+            met: 0,
         }
     }
 
@@ -88,27 +94,109 @@ impl<'a> Judging<'a> {
         participants: &[u32],
         is_told: bool,
     ) -> Result<Verdict, AllocError> {
-        let mut all = Vec::new(alloc);
         let Some(drove) = &transaction.drove else {
             return Ok(Verdict {
-                all,
+                all: Vec::new(alloc),
+                met: Vec::new(alloc),
                 is_denied: false,
             });
         };
-        for (number, sendings) in self.sendings.iter().enumerate() {
-            let marks = transaction.marks.as_slice();
-            if let Some(judged) = judge(plan, sendings.as_slice(), marks, drove, number) {
-                all.push(judged)?;
-            }
+        let marks = transaction.marks.as_slice();
+        let mut all = self.judge_all(alloc, plan, marks, drove)?;
+        let met = self.meet(alloc, plan, marks, drove, all.as_slice())?;
+        for judged in all.iter_mut() {
+            self.judge_again(plan, marks, drove, met.as_slice(), judged);
         }
         let verdict = Verdict {
             is_denied: all.is_empty() && self.are_followed(participants),
             all,
+            met,
         };
         if is_told && matches!(transaction.until, Until::Stopped(_)) {
             self.count(&verdict);
         }
         Ok(verdict)
+    }
+
+    // What each controller did, if nobody met.
+    fn judge_all(
+        &self,
+        alloc: Global,
+        plan: &Plan,
+        marks: &[Mark],
+        drove: &Drove,
+    ) -> Result<Vec<Judged>, AllocError> {
+        let mut all = Vec::new(alloc);
+        for (number, sendings) in self.sendings.iter().enumerate() {
+            if let Some(judged) = judge(plan, sendings.as_slice(), marks, drove, number) {
+                all.push(judged)?;
+            }
+        }
+        Ok(all)
+    }
+
+    // Who meets in the first slot in which two do.
+    fn meet(
+        &self,
+        alloc: Global,
+        plan: &Plan,
+        marks: &[Mark],
+        drove: &Drove,
+        all: &[Judged],
+    ) -> Result<Vec<Met>, AllocError> {
+        for slot in 0..marks.len() {
+            if may_meet(marks, drove, all, slot) {
+                let met = self.meet_in(alloc, plan, marks, drove, slot)?;
+                if !met.is_empty() {
+                    return Ok(met);
+                }
+            }
+        }
+        Ok(Vec::new(alloc))
+    }
+
+    // Who meets in this slot.
+    fn meet_in(
+        &self,
+        alloc: Global,
+        plan: &Plan,
+        marks: &[Mark],
+        drove: &Drove,
+        slot: usize,
+    ) -> Result<Vec<Met>, AllocError> {
+        let mut parties: Vec<Option<Party>> = vec![in alloc; None; plan.participants() as usize]?;
+        for (number, sendings) in self.sendings.iter().enumerate() {
+            let line = Line {
+                marks,
+                drove,
+                number,
+            };
+            line.put_parties(plan, sendings.as_slice(), slot, parties.as_mut_slice());
+        }
+        meetings_of(alloc, plan, parties.as_slice(), slot)
+    }
+
+    // What a controller did that meets another one, by the messages that do.
+    fn judge_again(
+        &self,
+        plan: &Plan,
+        marks: &[Mark],
+        drove: &Drove,
+        met: &[Met],
+        judged: &mut Judged,
+    ) {
+        let number = judged.number;
+        let line = Line {
+            marks,
+            drove,
+            number,
+        };
+        let slot = slot_of(met, number);
+        if slot.is_some()
+            && let Some(sendings) = self.sendings.get(number)
+        {
+            judged.does = line.since(best_of(plan, sendings.as_slice(), line, slot));
+        }
     }
 
     // Whether there are participants, and all of them are of controllers that are followed.
@@ -136,6 +224,8 @@ impl<'a> Judging<'a> {
         }
         if verdict.is_denied || !is_right {
             self.wrong = self.wrong.saturating_add(1);
+            let met = u64::from(!verdict.met.is_empty());
+            self.met = self.met.saturating_add(met);
         } else if verdict.all.is_empty() {
             self.others = self.others.saturating_add(1);
         } else {
@@ -145,12 +235,168 @@ impl<'a> Judging<'a> {
 }
 
 /// What the controllers that are followed did in a transaction.
-#[derive(Drop)]
 pub struct Verdict {
     /// Those that did anything.
     pub all: Vec<Judged>,
+    /// Those of them who meet in the first slot in which any do.
+    pub met: Vec<Met>,
     /// Whether none did, and only they could have sent it.
     pub is_denied: bool,
+}
+
+// Written out, so that one call lets it go.
+impl Drop for Verdict {
+    fn drop(self) {
+        let Self {
+            all: _,
+            met: _,
+            is_denied: _,
+        } = self;
+    }
+}
+
+// Whether two may meet in a slot: a line changes while SCL is HIGH, or somebody does what no message of it does there.
+fn may_meet(marks: &[Mark], drove: &Drove, all: &[Judged], slot: usize) -> bool {
+    if drove.changes(slot) && !matches!(marks.get(slot), Some(Mark::Again)) {
+        return true;
+    }
+    for judged in all {
+        if let Does::Departs { slot: other, .. } = judged.does
+            && other == slot
+        {
+            return true;
+        }
+    }
+    false
+}
+
+// In which slot the controller with this number meets another one.
+fn slot_of(met: &[Met], number: usize) -> Option<usize> {
+    for met in met {
+        if met.first.number == number || met.second.number == number {
+            return Some(met.slot);
+        }
+    }
+    None
+}
+
+// The line of the controller with this number in a transaction.
+#[derive(Clone, Copy)]
+struct Line<'a> {
+    marks: &'a [Mark],
+    drove: &'a Drove,
+    number: usize,
+}
+
+impl Line<'_> {
+    // What it says that the controller sends in a slot, or else, if no message does that.
+    fn says(self, slot: usize) -> Option<(Item, Item)> {
+        let rise = self.drove.pulls_at_rise(self.number, slot);
+        match (
+            *self.marks.get(slot)?,
+            rise,
+            self.drove.pulls(self.number, slot),
+        ) {
+            (Mark::Level(false), true, true) => Some((Item::Sent(false), Item::Stop)),
+            (Mark::Level(false), true, false) | (Mark::Stop, true, _) => {
+                Some((Item::Stop, Item::Stop))
+            }
+            (Mark::Level(false) | Mark::Again | Mark::Stop, false, true) => {
+                Some((Item::Again, Item::Again))
+            }
+            (_, false, false) => Some((Item::Sent(true), Item::Again)),
+            _ => None,
+        }
+    }
+
+    // What one of these sendings sends in a slot, if the line says that it does.
+    fn sent_by(self, plan: &Plan, p: u32, slot: usize) -> Option<Item> {
+        let (first, other) = self.says(slot)?;
+        let offered = self.offered_by(plan, p, slot);
+        if offered.allows(first) {
+            Some(first)
+        } else if offered.allows(other) {
+            Some(other)
+        } else {
+            None
+        }
+    }
+
+    // What a sending offers in a slot, if it has put before what the line did, and the wire has.
+    fn offered_by(self, plan: &Plan, p: u32, slot: usize) -> Offered {
+        if plan.participants() <= p {
+            return Offered::Nothing;
+        }
+        let mut place = Place::start(plan.sends(p));
+        for (k, mark) in self.marks.iter().enumerate() {
+            if k == slot {
+                return place.offered();
+            }
+            let offered = place.offered();
+            match item_of(offered, *mark, self.drove.pulls(self.number, k)) {
+                Some(item) if offered.allows(item) && is_on(item, *mark) => {
+                    place = place.after(item)
+                }
+                _ => return Offered::Nothing,
+            }
+        }
+        Offered::Nothing
+    }
+
+    // Puts down what these sendings of the controller send in a slot, if it has started: what the line says first, if any of
+    // them does so.
+    fn put_parties(
+        self,
+        plan: &Plan,
+        sendings: &[u32],
+        slot: usize,
+        parties: &mut [Option<Party>],
+    ) {
+        let Some((first, other)) = self.says(slot) else {
+            return;
+        };
+        let mut is_first = false;
+        for p in sendings {
+            is_first = is_first || self.offered_by(plan, *p, slot).allows(first);
+        }
+        let first = if is_first { first.kind() } else { other.kind() };
+        for p in sendings {
+            if self.drove.has_started(self.number)
+                && let Some(item) = self.sent_by(plan, *p, slot)
+                && let Some(party) = parties.get_mut(*p as usize)
+            {
+                *party = Some(Party {
+                    participant: *p,
+                    number: self.number,
+                    kind: item.kind(),
+                    first,
+                });
+            }
+        }
+    }
+
+    // What is said instead of this of one that meets another: nothing after that is against the rules.
+    fn since(self, does: Does) -> Does {
+        match does {
+            Does::PullsOn { slot, again } => Does::Meets {
+                slot,
+                again: Some(again),
+            },
+            Does::Departs { slot, .. } => Does::Meets {
+                slot,
+                again: self.drove.first_pull(self.number, slot.saturating_add(1)),
+            },
+            does => does,
+        }
+    }
+}
+
+// Whether the wire shows this item.
+fn is_on(item: Item, mark: Mark) -> bool {
+    match (item, mark) {
+        (Item::Sent(bit), Mark::Level(level)) => bit == level,
+        _ => true,
+    }
 }
 
 /// What the controller with this number did in a transaction with these marks. `sendings` are the participants of the plan that
@@ -163,7 +409,12 @@ fn judge(
     number: usize,
 ) -> Option<Judged> {
     let does = if drove.has_started(number) {
-        best_of(plan, sendings, marks, drove, number)
+        let line = Line {
+            marks,
+            drove,
+            number,
+        };
+        best_of(plan, sendings, line, None)
     } else {
         Does::JoinsLate {
             slot: drove.first_pull(number, 0)?,
@@ -172,14 +423,23 @@ fn judge(
     Some(Judged { number, does })
 }
 
-// What it did as the sending with which that fits best.
-fn best_of(plan: &Plan, sendings: &[u32], marks: &[Mark], drove: &Drove, number: usize) -> Does {
+// What it did as the sending with which that fits best: of all, or of those that meet another one in this slot.
+fn best_of(plan: &Plan, sendings: &[u32], line: Line<'_>, meets: Option<usize>) -> Does {
+    let Line {
+        marks,
+        drove,
+        number,
+    } = line;
     let mut best = Does::Departs {
         slot: 0,
         pulls: drove.pulls(number, 0),
     };
     for p in sendings {
-        if *p < plan.participants() {
+        let is_meant = match meets {
+            Some(slot) => line.sent_by(plan, *p, slot).is_some(),
+            None => true,
+        };
+        if is_meant && *p < plan.participants() {
             let does = follow(Place::start(plan.sends(*p)), marks, drove, number);
             if rank(best) < rank(does) {
                 best = does;
@@ -192,9 +452,10 @@ fn best_of(plan: &Plan, sendings: &[u32], marks: &[Mark], drove: &Drove, number:
 // The better it fits the greater, and of two of a kind the one that goes along further.
 fn rank(does: Does) -> (u8, usize) {
     match does {
-        Does::GoesOn => (4, 0),
-        Does::Loses { slot } => (3, slot),
-        Does::PullsOn { slot, .. } => (2, slot),
+        Does::GoesOn => (5, 0),
+        Does::Loses { slot } => (4, slot),
+        Does::PullsOn { slot, .. } => (3, slot),
+        Does::Meets { slot, .. } => (2, slot),
         Does::Departs { slot, .. } => (1, slot),
         Does::JoinsLate { slot } => (0, slot),
     }

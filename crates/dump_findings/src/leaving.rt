@@ -23,15 +23,23 @@ pub struct Leaves {
 pub fn nearest(plan: &Plan, marks: &[Mark]) -> [Option<Leaves>; NEAREST] {
     let mut nearest = [None; NEAREST];
     for participant in 0..plan.participants() {
-        let (slot, offered) = leaving(Place::start(plan.sends(participant)), marks);
-        let new = Leaves {
-            participant,
-            slot,
-            offered,
-        };
-        insert(&mut nearest, new);
+        insert(&mut nearest, leaves_of(plan, participant, marks));
     }
     nearest
+}
+
+/// Where a participant of the plan leaves these marks.
+pub(crate) fn leaves_of(plan: &Plan, participant: u32, marks: &[Mark]) -> Leaves {
+    let (slot, offered) = if participant < plan.participants() {
+        leaving(Place::start(plan.sends(participant)), marks)
+    } else {
+        (0, Offered::Nothing)
+    };
+    Leaves {
+        participant,
+        slot,
+        offered,
+    }
 }
 
 // Puts a participant after those that go along as far. Who has no place then is forgotten.

@@ -2,10 +2,12 @@
 //!
 //! `selecting` says which transactions are told, counts them, and has the status of a run that tells of them; `tallies` counts by
 //! who explains them, and `addresses` by whom they call. `leaving` says who goes along with a transaction that nobody explains, and
-//! where it leaves, and `glitches` what comes in the middle of a byte. `layouts` is how a form writes them.
+//! where it leaves, `encounters` which pairs could have met there, and `glitches` what comes in the middle of a byte. `layouts`
+//! is how a form writes them.
 #![tactic(auto)]
 
 mod addresses;
+mod encounters;
 mod glitches;
 mod layouts;
 mod leaving;
@@ -13,6 +15,7 @@ mod selecting;
 mod tallies;
 
 pub use addresses::{Addresses, Calls};
+pub use encounters::could_meet;
 pub use glitches::{Cut, Cuts};
 pub use layouts::Layout;
 pub use leaving::{Leaves, NEAREST, bytes_until, mark_words, nearest, offer_words};

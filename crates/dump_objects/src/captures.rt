@@ -1,6 +1,8 @@
 // Objects of a capture.
 
-use crate::transactions::{push_count, push_places, push_seen, push_times, push_too_few};
+use crate::transactions::{
+    push_count, push_meetings, push_places, push_seen, push_times, push_too_few,
+};
 use crate::written::Written;
 use bus_rows::{Labels, labels_of};
 use capture_check::Transaction;
@@ -119,10 +121,16 @@ impl<'a, 'w, O: Output> CaptureObjects<'a, 'w, O> {
         lines.begin("transaction");
         push_times(lines, transaction, self.selection.told_scale());
         push_participants(lines, &self.labels, participants);
-        push_drives(lines, &self.judging, verdict);
+        push_drives(lines, &self.judging, &self.labels, verdict);
         if self.layout.explain {
-            let is_explained = !participants.is_empty();
-            push_seen(lines, self.words, &self.labels, transaction, is_explained);
+            push_seen(
+                lines,
+                self.words,
+                &self.labels,
+                transaction,
+                !participants.is_empty(),
+                self.judging.is_some(),
+            );
         }
         lines.end();
     }
@@ -233,11 +241,15 @@ fn push_participants(lines: &mut ObjectLines, labels: &Labels, participants: &[u
 fn push_drives(
     lines: &mut ObjectLines,
     judging: &Option<Judging<'_>>,
+    labels: &Labels,
     verdict: &Option<Result<Verdict, AllocError>>,
 ) {
     if let Some(judging) = judging {
         match verdict {
-            Some(Ok(verdict)) => push_verdict(lines, judging, verdict),
+            Some(Ok(verdict)) => {
+                push_verdict(lines, judging, verdict);
+                push_meetings(lines, labels, verdict.met.as_slice());
+            }
             Some(Err(_)) => lines.cut(),
             None => {}
         }
@@ -262,6 +274,12 @@ fn push_judged(lines: &mut ObjectLines, controller: &str, judged: Judged) {
         Does::PullsOn { slot, again } => {
             push_does(lines, "pulls on", slot);
             lines.number("again", again as u64);
+        }
+        Does::Meets { slot, again } => {
+            push_does(lines, "meets", slot);
+            if let Some(again) = again {
+                lines.number("again", again as u64);
+            }
         }
         Does::Departs { slot, .. } => push_does(lines, "departs", slot),
         Does::JoinsLate { slot } => push_does(lines, "joins late", slot),
@@ -312,6 +330,9 @@ fn push_rules(lines: &mut ObjectLines, judging: &Judging<'_>) {
     lines.number("right", judging.right);
     lines.number("wrong", judging.wrong);
     lines.number("others", judging.others);
+    if judging.met != 0 {
+        lines.number("met", judging.met);
+    }
     lines.close();
 }
 

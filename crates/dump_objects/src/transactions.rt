@@ -2,7 +2,8 @@
 
 use bus_rows::{Labels, bytes_of};
 use capture_check::{Mark, Transaction, Until};
-use dump_findings::{Cut, Cuts, Leaves, Selection, nearest};
+use drives::Met;
+use dump_findings::{Cut, Cuts, Leaves, Selection, could_meet, nearest};
 use dump_tokens::Scale;
 use message_tree::Bit;
 use object_lines::{ObjectLines, one_at};
@@ -59,24 +60,61 @@ pub(crate) fn push_places(lines: &mut ObjectLines, words: PlanWords<'_>, p: u32)
     }
 }
 
-/// What it is, and, where a STOP ended it and nobody explains it, which participants go along with it furthest.
+/// What it is, and, where a STOP ended it and nobody explains it, which participants go along with it furthest; also which could
+/// have met, unless the lines of controllers say who did.
 pub(crate) fn push_seen(
     lines: &mut ObjectLines,
     words: PlanWords<'_>,
     labels: &Labels,
     transaction: &Transaction,
     is_explained: bool,
+    is_driven: bool,
 ) {
+    let is_odd = matches!(transaction.until, Until::Stopped(_)) && !is_explained;
     lines.open("explain");
     push_bytes(lines, transaction);
     lines.number("idle", transaction.idle);
     push_cuts(lines, transaction);
     lines.open_list("nearest");
-    if matches!(transaction.until, Until::Stopped(_)) && !is_explained {
+    if is_odd {
         push_nearest(lines, words, labels, transaction.marks.as_slice());
     }
     lines.close_list();
+    if is_odd && !is_driven {
+        match could_meet(lines.alloc, words.plan(), transaction.marks.as_slice()) {
+            Ok(met) => push_meetings(lines, labels, met.as_slice()),
+            Err(_) => lines.cut(),
+        }
+    }
     lines.close();
+}
+
+/// Who meets, or could have, if anybody.
+pub(crate) fn push_meetings(lines: &mut ObjectLines, labels: &Labels, met: &[Met]) {
+    if met.is_empty() {
+        return;
+    }
+    lines.open_list("meetings");
+    for met in met {
+        lines.open_element();
+        push_met(lines, labels, *met);
+        lines.close();
+    }
+    lines.close_list();
+}
+
+fn push_met(lines: &mut ObjectLines, labels: &Labels, met: Met) {
+    lines.number("slot", met.slot as u64);
+    lines.number("pair", u64::from(met.pair));
+    lines.open_list("participants");
+    lines.word_element(labels.of(met.first.participant));
+    lines.word_element(labels.of(met.second.participant));
+    lines.close_list();
+    lines.open_list("meet");
+    lines.word_element(met.first.kind.word());
+    lines.word_element(met.second.kind.word());
+    lines.close_list();
+    lines.number("more", u64::from(met.more));
 }
 
 fn push_cuts(lines: &mut ObjectLines, transaction: &Transaction) {

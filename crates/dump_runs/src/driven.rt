@@ -4,7 +4,7 @@ use brief_tokens::is_brief_word;
 use capture_check::Beside;
 use decoding::{Ending, TransactionSink};
 use drives::{Drivers, Judging};
-use dump_tokens::{Bus, Drives};
+use dump_tokens::{Bus, Drives, Quiet};
 use plan_core::{Name, NameError, Participant, Plan};
 use plan_words::PlanWords;
 use run_parts::{Input, RunError};
@@ -45,12 +45,14 @@ fn sought<'a>(alloc: Global, drives: Drives<'a>) -> Result<Vec<Sought<'a>>, Allo
     Ok(sought)
 }
 
-/// The lines of these controllers, before the dump is read on. None where there are none.
-pub(crate) fn drivers_of(alloc: Global, drives: Drives<'_>) -> Option<Drivers> {
+/// The lines of these controllers, before the dump is read on, of which short levels are left out or not. None where there are
+/// none.
+pub(crate) fn drivers_of(alloc: Global, drives: Drives<'_>, quiet: Quiet) -> Option<Drivers> {
     if drives.is_empty() {
         return None;
     }
-    Some(Drivers::new(alloc, drives.all.len(), drives.pulling))
+    let lags = quiet.least != 0;
+    Some(Drivers::new(alloc, drives.all.len(), drives.pulling, lags))
 }
 
 /// Hands the transactions of the dump on, beside who is there.

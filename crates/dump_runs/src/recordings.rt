@@ -291,7 +291,7 @@ fn capture_open<R: AllocGlobal + Threads + Sync, J: Input, O: Output>(
 ) -> Result<(Result<Told, RunError>, Option<usize>), Halt>
     ensures status { IfOk result (λ it. IfOk it.0 (λ told. IsJudged capture.entry.bus.view.at_least told)) }
 {
-    let mut drivers = drivers_of(rt.alloc(), capture.drives);
+    let mut drivers = drivers_of(rt.alloc(), capture.drives, dump.quiet());
     let told = capture_dump(rt, words, dump, out, capture, style, &mut drivers);
     Ok((told, refuse_others(&drivers)?))
 }
@@ -637,7 +637,7 @@ fn learn_driven<J: Input, O: Output>(
     likeness: Likeness,
     drives: Drives<'_>,
 ) -> Result<Result<Ended, RunError>, Halt> {
-    let mut drivers = drivers_of(alloc, drives);
+    let mut drivers = drivers_of(alloc, drives, dump.quiet());
     let ending = match decode_with(alloc, dump, &mut seen, &mut drivers) {
         Ok(ending) => ending,
         Err(error) => return Ok(Err(error)),

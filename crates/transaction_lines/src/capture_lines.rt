@@ -120,6 +120,7 @@ impl<'a, 'w, O: Output> CaptureLines<'a, 'w, O> {
                 &self.called,
                 transaction,
                 !participants.is_empty(),
+                self.judging.is_some(),
             );
             self.written.text.push_made(below);
         }

@@ -1,10 +1,13 @@
 // Lines for people below those of transactions.
 
+use crate::meetings::tell_possible;
 use bus_rows::{
     ALIKE, BYTES, Bytes, Labels, bus_row, row_of, row_of_marks, say, tell_item, tell_rows,
 };
 use capture_check::{Mark, Transaction, Until};
-use dump_findings::{Cut, Cuts, Leaves, NEAREST, bytes_until, mark_words, nearest, offer_words};
+use dump_findings::{
+    Cut, Cuts, Leaves, NEAREST, bytes_until, could_meet, mark_words, nearest, offer_words,
+};
 use growing_text::{Lines, Part};
 use plan_core::Plan;
 use plan_words::PlanWords;
@@ -17,17 +20,20 @@ const SHORT: usize = 52;
 const FEW: usize = 4;
 
 /// What is said below the line of a transaction: its bytes, and where a STOP ended it whether a byte was cut short, and, where
-/// nobody explains it, which participants go along with it furthest, where each leaves it, and where it stands in a brief.
+/// nobody explains it, which participants go along with it furthest, where each leaves it, and where it stands in a brief; also
+/// which could have met, unless the lines of controllers say who did.
 pub(crate) fn below_transaction(
     alloc: Global,
     words: PlanWords<'_>,
     labels: &Labels,
     transaction: &Transaction,
     is_explained: bool,
+    is_driven: bool,
 ) -> Result<String, AllocError> {
     let marks = transaction.marks.as_slice();
     let is_stopped = matches!(transaction.until, Until::Stopped(_));
-    let near = if is_stopped && !is_explained {
+    let is_odd = is_stopped && !is_explained;
+    let near = if is_odd {
         nearest(words.plan(), marks)
     } else {
         [None; NEAREST]
@@ -43,7 +49,23 @@ pub(crate) fn below_transaction(
             tell_item(alloc, &mut lines, words, near.participant);
         }
     }
+    if is_odd && !is_driven {
+        tell_all_possible(alloc, &mut lines, words.plan(), marks)?;
+    }
     lines.finish()
+}
+
+// Which pairs could have met.
+fn tell_all_possible(
+    alloc: Global,
+    lines: &mut Lines,
+    plan: &Plan,
+    marks: &[Mark],
+) -> Result<(), AllocError> {
+    for met in could_meet(alloc, plan, marks)?.iter() {
+        tell_possible(alloc, lines, *met);
+    }
+    Ok(())
 }
 
 // The row of the bus, and those of who goes along with it.

@@ -1,7 +1,8 @@
 // Lines for people of who drove the bus in a transaction.
 
-use bus_rows::say;
-use drives::{Does, Judged, Judging, Verdict};
+use crate::meetings::tell_met;
+use bus_rows::{named, say};
+use drives::{Does, Judged, Judging, Met, Verdict};
 use growing_text::{Lines, Part, Text};
 use std::alloc::{AllocError, Global};
 
@@ -53,9 +54,32 @@ pub(crate) fn push_drives(
             None => text.push_made(line_of(alloc, judging, *judged)),
         }
     }
+    for met in verdict.met.iter() {
+        text.push_made(met_line(alloc, judging, *met));
+    }
     if verdict.is_denied {
         text.push_made(denied_line(alloc));
     }
+}
+
+// Who meets, and as which pair of the plan.
+fn met_line(alloc: Global, judging: &Judging<'_>, met: Met) -> Result<String, AllocError> {
+    let mut lines = Lines::new(alloc);
+    let parts = [
+        Part::Number(met.slot as u64),
+        Part::Name(judging.controller(met.first.number)),
+        Part::Words(named(met.first.kind)),
+        Part::Name(judging.controller(met.second.number)),
+        Part::Words(named(met.second.kind)),
+    ];
+    tell_met(
+        alloc,
+        &mut lines,
+        met,
+        "slot {}: {}'s {} meets {}'s {}",
+        &parts,
+    );
+    lines.finish()
 }
 
 // What a controller did.
@@ -89,6 +113,19 @@ fn tell(lines: &mut Lines, controller: &str, judged: Judged) {
             "{} starts, and loses in slot {}, but still pulls SDA in slot {}: against the rules",
             &[name, Part::Number(slot as u64), Part::Number(again as u64)],
         ),
+        Does::Meets { slot, again: None } => say(
+            lines,
+            "{} starts, is within its message up to slot {}, and pulls SDA no more",
+            &[name, Part::Number(slot as u64)],
+        ),
+        Does::Meets {
+            slot,
+            again: Some(again),
+        } => say(
+            lines,
+            "{} starts, is within its message up to slot {}, and then pulls SDA in slot {}",
+            &[name, Part::Number(slot as u64), Part::Number(again as u64)],
+        ),
         Does::Departs { slot, pulls } => say(
             lines,
             "{} starts, and in slot {} {} SDA, which no message of it does there: against the plan",
@@ -118,5 +155,9 @@ pub(crate) fn drives_line(alloc: Global, judging: &Judging<'_>) -> Result<String
             Part::Number(judging.others),
         ],
     );
+    if judging.met != 0 {
+        let template = "in {} of these two met: the plan is unsafe";
+        say(&mut lines, template, &[Part::Number(judging.met)]);
+    }
     lines.finish()
 }

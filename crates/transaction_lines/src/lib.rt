@@ -2,7 +2,8 @@
 //!
 //! `capture_lines` writes them with who explains each, and `decode_lines` without a plan (`written` hands lines on). Which of them
 //! are told, and what they come to, is found in `dump_findings`. `moments` has their times, `captures` what people read below
-//! them (`drove` who pulled the lines, and `pulse_lines` short levels), and `counts` the lines of a summary.
+//! them (`drove` who pulled the lines, `meetings` where two meet, and `pulse_lines` short levels), and `counts` the lines of a
+//! summary.
 #![tactic(auto)]
 
 mod capture_lines;
@@ -10,6 +11,7 @@ mod captures;
 mod counts;
 mod decode_lines;
 mod drove;
+mod meetings;
 mod moments;
 mod pulse_lines;
 mod written;

@@ -25,6 +25,7 @@ pub mod layouts;
 pub mod learned;
 pub mod lines;
 mod meanings;
+pub mod meetings;
 mod messages;
 #[cfg(test)]
 mod missing;

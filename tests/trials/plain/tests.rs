@@ -17,7 +17,7 @@ use super::participants::Participants;
 use super::plans::{items_of, Items};
 use super::runs::{first_meeting, lawful_sets, meetings_of, Meeting};
 use super::texts::{one_has, texts_of};
-use super::wires::{symbols, Item};
+use super::wires::{symbols, Item, Kind};
 use crate::dice::Dice;
 
 fn items(text: &str) -> Items<'_> {
@@ -650,8 +650,10 @@ fn who_drove_is_who_played() {
             let winners: Vec<usize> = named.filter(|(_, (name, _))| is_winner(name)).map(|(line, _)| line).collect();
             assert_eq!(one.makers(), winners, "{text}");
             assert!(!one.is_collision(), "{text}");
-            for (line, (name, _)) in plays.drives.iter().enumerate() {
-                let did = one.does(&plan, name, line);
+            let names: Vec<&str> = plays.drives.iter().map(|(name, _)| name.as_str()).collect();
+            let (met, all) = one.judged(&plan, &names);
+            assert!(met.is_empty(), "{text}");
+            for (name, did) in names.into_iter().zip(all) {
                 let played = lost.iter().find(|(other, _)| other == name).map(|(_, lost)| match lost {
                     Some(slot) => Does::Loses { slot: *slot },
                     None => Does::GoesOn,
@@ -663,4 +665,47 @@ fn who_drove_is_who_played() {
         }
     }
     assert!(wins > 50 && losses > 20, "{wins} {losses}");
+}
+
+#[test]
+fn who_met_is_who_played() {
+    let mut dice = Dice { state: 20_261_130 };
+    let (mut meetings, mut without) = (0, 0);
+    for _ in 0..600 {
+        let text = generated::plan(&mut dice);
+        let items = items(&text);
+        let plan = Participants::of(&items);
+        let plays = generated::plays(&plan, 1, &mut dice);
+        let own = plays.drives.iter().map(|(_, place)| place.as_str()).collect();
+        let lines = Lines { own, ..Lines::named("scl", "sda") };
+        let pulls = if plays.pulls { Level::High } else { Level::Low };
+        let (found, _) = driven(plays.dump.as_bytes(), &lines, pulls);
+        assert_eq!(found.len(), plays.met.len());
+        let names: Vec<&str> = plays.drives.iter().map(|(name, _)| name.as_str()).collect();
+        for (one, played) in found.iter().zip(&plays.met) {
+            let (met, all) = one.judged(&plan, &names);
+            let kinds = |kinds: &[(String, Kind)]| -> Vec<Kind> {
+                kinds.iter().filter(|(name, _)| names.contains(&name.as_str())).map(|(_, kind)| *kind).collect()
+            };
+            match played {
+                // (a STOP or repeated START that comes to nothing may look like a bit of another message)
+                Some(played) if played.is_early => {}
+                Some(played) => {
+                    let kinds = kinds(&played.kinds);
+                    let is_met = kinds.iter().any(|kind| *kind != kinds[0]);
+                    assert_eq!(met.first().map(|met| met.slot), is_met.then_some(played.slot), "{text}\n{}", plays.dump);
+                    meetings += usize::from(is_met);
+                    // nobody is blamed where all that meet are followed
+                    let is_whole = kinds.len() == played.kinds.len();
+                    let is_blamed = |does: &Does| does.is_wrong() && !matches!(does, Does::Meets { .. });
+                    assert!(!is_whole || !all.iter().flatten().any(is_blamed), "{all:?}\n{text}\n{}", plays.dump);
+                }
+                None => {
+                    assert!(met.is_empty(), "{met:?}\n{text}\n{}", plays.dump);
+                    without += 1;
+                }
+            }
+        }
+    }
+    assert!(meetings > 50 && without > 200, "{meetings} {without}");
 }

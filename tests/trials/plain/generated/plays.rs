@@ -4,7 +4,7 @@
 use super::super::captures::Mark;
 use super::super::participants::{Participant, Participants};
 use super::super::senders::{Place, Sender};
-use super::super::wires::{shown, Item};
+use super::super::wires::{shown, Item, Kind};
 use super::dumps::spaced;
 use crate::dice::Dice;
 
@@ -17,6 +17,18 @@ pub struct Plays {
     /// For each play the controllers that started, and the slot in which each of them lost, if it did.
     #[cfg_attr(not(test), expect(dead_code))]
     pub lost: Vec<Vec<(String, Option<usize>)>>,
+    /// For each play where some met first.
+    #[cfg_attr(not(test), expect(dead_code))]
+    pub met: Vec<Option<Encounter>>,
+}
+
+/// A slot in which some met, which kind each controller put there, and whether SCL fell too early for one of them.
+#[derive(Clone, Debug)]
+#[cfg_attr(not(test), expect(dead_code))]
+pub struct Encounter {
+    pub slot: usize,
+    pub kinds: Vec<(String, Kind)>,
+    pub is_early: bool,
 }
 
 /// What is wrong in a play.
@@ -41,9 +53,10 @@ struct Player<'a> {
     lost: Option<usize>,
 }
 
-// What is on the bus in a slot, and which controllers pull SDA there.
+// What is on the bus in a slot, and which controllers pull SDA there: at the end, and where that differs, when SCL rises.
 struct Slot {
     mark: Mark,
+    rise: Option<Vec<bool>>,
     pulls: Vec<bool>,
 }
 
@@ -53,13 +66,14 @@ struct Play {
     slots: Vec<Slot>,
     is_cut: bool,
     lost: Vec<(usize, Option<usize>)>,
+    met: Option<Encounter>,
 }
 
 /// A dump of plays of a plan, of which one in so many has no fault. One in which no line differs from SDA may come of it.
 pub fn plays(plan: &Participants, faults: u32, dice: &mut Dice) -> Plays {
     let controllers: Vec<&str> = plan.items.controllers.iter().map(|one| one.name).collect();
     let mut writing = Writing::new(&controllers, dice);
-    let mut lost = Vec::new();
+    let (mut lost, mut met) = (Vec::new(), Vec::new());
     for _ in 0..1 + dice.index(5) {
         let fault = match dice.throw(faults) {
             0 => Fault::None,
@@ -67,12 +81,13 @@ pub fn plays(plan: &Participants, faults: u32, dice: &mut Dice) -> Plays {
             2 => Fault::Unseen { controller: dice.index(controllers.len()), slot: dice.index(30) },
             _ => Fault::Turned { controller: dice.index(controllers.len()), slot: dice.index(30) },
         };
-        let play = played(plan, controllers.len(), fault, dice);
+        let play = played(plan, &controllers, fault, dice);
         writing.put_play(&play, dice);
         let named = |(controller, slot): &(usize, Option<usize>)| (controllers[*controller].to_owned(), *slot);
         lost.push(play.lost.iter().map(named).collect());
+        met.push(play.met);
     }
-    Plays { lost, ..writing.done(&controllers, dice) }
+    Plays { lost, met, ..writing.done(&controllers, dice) }
 }
 
 // Some who may start together.
@@ -90,7 +105,8 @@ fn starters<'p, 'a>(plan: &'p Participants<'a>, dice: &mut Dice) -> Vec<&'p Part
     starters
 }
 
-fn played(plan: &Participants, count: usize, fault: Fault, dice: &mut Dice) -> Play {
+fn played(plan: &Participants, controllers: &[&str], fault: Fault, dice: &mut Dice) -> Play {
+    let count = controllers.len();
     let starters = starters(plan, dice);
     let mut players: Vec<Player> = Vec::new();
     let mut start = vec![false; count];
@@ -102,24 +118,33 @@ fn played(plan: &Participants, count: usize, fault: Fault, dice: &mut Dice) -> P
             start[controller] = true;
         }
     }
-    let mut play = Play { start, slots: Vec::new(), is_cut: false, lost: Vec::new() };
+    let mut play = Play { start, slots: Vec::new(), is_cut: false, lost: Vec::new(), met: None };
     let mut ends = Some(false);
     while ends == Some(false) {
-        ends = put_slot(&mut players, &mut play.slots, count, fault, dice);
+        let met;
+        (ends, met) = put_slot(&mut players, &mut play.slots, count, fault, dice);
+        let named = |(slot, kinds, is_early): (usize, Vec<(usize, Kind)>, bool)| {
+            let kinds = kinds.into_iter().map(|(controller, kind)| (controllers[controller].to_owned(), kind));
+            Encounter { slot, kinds: kinds.collect(), is_early }
+        };
+        play.met = play.met.or(met.map(named));
     }
     play.is_cut = ends.is_none();
     play.lost = players.iter().filter_map(|player| Some((player.controller?, player.lost))).collect();
     play
 }
 
-// One more slot, and whether the play ends with it; or nothing, where it goes no further.
+// The slot of a meeting, which kind each controller puts there, and whether SCL falls too early for one of them.
+type Meets = Option<(usize, Vec<(usize, Kind)>, bool)>;
+
+// One more slot, and whether the play ends with it; or nothing, where it goes no further. Also who meets there.
 fn put_slot(
     players: &mut [Player],
     slots: &mut Vec<Slot>,
     count: usize,
     fault: Fault,
     dice: &mut Dice,
-) -> Option<bool> {
+) -> (Option<bool>, Meets) {
     let answer = dice.throw(4) == 0;
     let mut puts: Vec<Option<Item>> = Vec::new();
     for player in players.iter() {
@@ -133,21 +158,27 @@ fn put_slot(
     let live = players.iter().zip(&puts).filter(|(player, _)| player.is_live);
     let round: Vec<Item> = live.filter_map(|(_, put)| *put).collect();
     let Some(item) = shown(&round) else {
-        // where nobody is left, or some put a STOP and others a 0, a STOP comes
-        let is_stop = round.iter().all(|item| matches!(item, Item::Stop | Item::Sent(false)));
-        let mut pulls = vec![false; count];
-        for (player, put) in players.iter().zip(&puts) {
-            if let (Some(controller), Some(Item::Stop | Item::Sent(false))) = (player.controller, put) {
-                pulls[controller] = player.is_live;
+        let kinds = [Item::Stop, Item::Again, Item::Sent(false), Item::Sent(true)];
+        if !round.is_empty() && round.iter().all(|item| kinds.contains(item)) {
+            let (slot, is_early) = met(players, &puts, count, dice);
+            let is_over = slot.mark == Mark::Stop;
+            let live = players.iter().zip(&puts).filter(|(player, _)| player.is_live);
+            let kinds = live.filter_map(|(player, put)| Some((player.controller?, put.as_ref()?.kind()))).collect();
+            let meets = (slots.len(), kinds, is_early);
+            for (player, put) in players.iter_mut().zip(puts) {
+                go_on(player, put, slot.mark, slots.len());
             }
+            slots.push(slot);
+            return (Some(is_over), Some(meets));
         }
-        slots.extend(is_stop.then_some(Slot { mark: Mark::Stop, pulls }));
-        return is_stop.then_some(true);
+        // where nobody is left a STOP comes
+        slots.extend(round.is_empty().then(|| Slot { mark: Mark::Stop, rise: None, pulls: vec![false; count] }));
+        return (round.is_empty().then_some(true), None);
     };
     if item == Item::Claim {
-        slots.push(Slot { mark: Mark::Level(answer), pulls: vec![false; count] });
-        slots.push(Slot { mark: Mark::Stop, pulls: vec![false; count] });
-        return Some(true);
+        slots.push(Slot { mark: Mark::Level(answer), rise: None, pulls: vec![false; count] });
+        slots.push(Slot { mark: Mark::Stop, rise: None, pulls: vec![false; count] });
+        return (Some(true), None);
     }
     let mut pulls = vec![false; count];
     let mut is_low = answer_pulls(item);
@@ -181,8 +212,47 @@ fn put_slot(
     for (player, put) in players.iter_mut().zip(puts) {
         go_on(player, put, mark, slots.len());
     }
-    slots.push(Slot { mark, pulls });
-    Some(mark == Mark::Stop)
+    slots.push(Slot { mark, rise: None, pulls });
+    (Some(mark == Mark::Stop), None)
+}
+
+// Some put a STOP, a repeated START and a bit, of which each is undefined beside the others. Who puts a STOP pulls SDA before SCL
+// rises, and lets it go after that; who puts a repeated START pulls it after that; but SCL may fall before.
+fn met(players: &[Player], puts: &[Option<Item>], count: usize, dice: &mut Dice) -> (Slot, bool) {
+    let (mut rise, mut pulls) = (vec![false; count], vec![false; count]);
+    let (mut was_low, mut is_low, mut has_stop, mut any_early) = (false, false, None, false);
+    for (player, put) in players.iter().zip(puts) {
+        let is_early = dice.throw(3) == 0;
+        let (first, last) = match put.filter(|_| player.is_live) {
+            Some(Item::Stop) => {
+                any_early |= is_early;
+                (true, is_early)
+            }
+            Some(Item::Again) => {
+                any_early |= is_early;
+                (false, !is_early)
+            }
+            Some(Item::Sent(bit)) => (!bit, !bit),
+            _ => continue,
+        };
+        was_low |= first;
+        is_low |= last;
+        if let Some(controller) = player.controller {
+            (rise[controller], pulls[controller]) = (first, last);
+            has_stop = if put == &Some(Item::Stop) { Some(controller) } else { has_stop };
+        }
+    }
+    let mark = match (was_low, is_low) {
+        (true, false) => Mark::Stop,
+        (true, true) => Mark::Level(false),
+        (false, true) => Mark::Again,
+        (false, false) => Mark::Level(true),
+    };
+    if let (Mark::Stop, Some(controller)) = (mark, has_stop) {
+        // the last one of them lets SDA go, and it rises
+        pulls[controller] = true;
+    }
+    (Slot { mark, rise: Some(rise), pulls }, any_early)
 }
 
 fn answer_pulls(item: Item) -> bool {
@@ -309,6 +379,16 @@ impl Writing {
         self.put("!", false);
     }
 
+    // SCL rises, and after that some pull SDA, or let it go.
+    fn put_rise(&mut self, slot: &Slot, dice: &mut Dice) {
+        self.at_next();
+        self.put("!", true);
+        if slot.rise.is_some() {
+            self.at_next();
+            self.put_own(&slot.pulls, dice);
+        }
+    }
+
     // The bus is free before.
     fn put_play(&mut self, play: &Play, dice: &mut Dice) {
         let none = vec![false; play.start.len()];
@@ -321,10 +401,9 @@ impl Writing {
             self.at_next();
             match slot.mark {
                 Mark::Level(bus) => {
-                    self.put_own(&slot.pulls, dice);
+                    self.put_own(slot.rise.as_ref().unwrap_or(&slot.pulls), dice);
                     self.put("\"", bus);
-                    self.at_next();
-                    self.put("!", true);
+                    self.put_rise(slot, dice);
                     self.at_next();
                     self.put("!", false);
                 }
@@ -336,10 +415,9 @@ impl Writing {
                     self.put_start(&slot.pulls, dice);
                 }
                 Mark::Stop => {
-                    self.put_own(&slot.pulls, dice);
+                    self.put_own(slot.rise.as_ref().unwrap_or(&slot.pulls), dice);
                     self.put("\"", false);
-                    self.at_next();
-                    self.put("!", true);
+                    self.put_rise(slot, dice);
                     self.at_next();
                     self.put_own(&none, dice);
                     self.put("\"", true);
@@ -377,6 +455,6 @@ impl Writing {
             drives.swap(k, dice.index(k + 1));
         }
         let dump = self.tokens.iter().map(|token| spaced(token, dice)).collect();
-        Plays { dump, drives, pulls: self.pulls, lost: Vec::new() }
+        Plays { dump, drives, pulls: self.pulls, lost: Vec::new(), met: Vec::new() }
     }
 }
