@@ -70,7 +70,7 @@ pub fn alike_plan(dice: &mut Dice) -> String {
         let listed = if listed.is_empty() { format!("m{first}") } else { listed.join(" ") };
         items.push(format!("controller {controller} {listed} ;"));
     }
-    format!("plan 1 {}", items.join(" "))
+    format!("plan 2 {}", items.join(" "))
 }
 
 // A controller and its message, of one of three shapes, or an interrupt.
