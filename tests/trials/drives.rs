@@ -23,8 +23,10 @@ use crate::values::object;
 use crate::vectors::disagreement;
 use std::io;
 
-// How many dumps there are, and in how many of their plays a controller has a fault: none of one, or all but one of so many.
-const LOTS: [(&str, u32, u64); 2] = [("plays by the rules", 1, 100), ("plays with faults", 8, 200)];
+// How many dumps there are, and in how many of their plays a controller has a fault: none of one, or all but one of so many. In
+// the last lot messages are alike up to a slot.
+const LOTS: [(&str, u32, u64); 3] =
+    [("plays by the rules", 1, 100), ("plays with faults", 8, 200), ("plays in which two meet", 2, 400)];
 
 // Each of these is to come up.
 const WANTED: [&str; 16] = [
@@ -54,6 +56,7 @@ pub fn try_drives(crew: &mut Crew, score: &mut Score, seed: u64, step: usize) ->
         let tried = crew.each(&numbers, |desk, number| {
             let mut dice = Dice { state: mixed(seed ^ 0xd21e ^ place as u64, *number) };
             let plan = match dice.throw(3) {
+                _ if place == 2 => generated::alike_plan(&mut dice),
                 0 => generated::safe_plan(2 + dice.index(3), &mut dice),
                 _ => generated::plan(&mut dice),
             };

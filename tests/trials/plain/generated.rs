@@ -8,6 +8,6 @@ mod vectors;
 #[cfg(test)]
 pub use dumps::{changes, dump_of};
 pub use dumps::{clean_dump, dump, wrong_dump};
-pub use plans::{answers, plan, plan_of_lengths, safe_plan, script, starters};
+pub use plans::{alike_plan, answers, plan, plan_of_lengths, safe_plan, script, starters};
 pub use plays::{plays, Plays};
 pub use vectors::{named_dump, Given, Named};

@@ -54,6 +54,25 @@ pub fn safe_plan(most: usize, dice: &mut Dice) -> String {
     plan
 }
 
+/// A plan of controllers whose messages are alike up to their tenth slot.
+pub fn alike_plan(dice: &mut Dice) -> String {
+    let written = |bits: &str| format!("write 1001000 {bits} stop else stop else stop");
+    let mut bodies: Vec<String> = ["00001111", "0xxxxxxx", "11110000", "1xxxxxxx", "xxxxxxxx"].map(written).into();
+    bodies.push("write 1001000 stop else stop".to_owned());
+    bodies.push("write 1001000 again read 1001000 1..2 stop else stop else stop".to_owned());
+    bodies.push("write 1001000 again write 1001000 stop else stop else stop".to_owned());
+    let messages = bodies.iter().enumerate().map(|(k, body)| format!("message m{k} {body} ;"));
+    let mut items: Vec<String> = messages.collect();
+    for controller in ["a", "b", "c"] {
+        let listed: Vec<String> =
+            (0..bodies.len()).filter(|_| dice.throw(4) == 0).map(|message| format!("m{message}")).collect();
+        let first = dice.index(bodies.len());
+        let listed = if listed.is_empty() { format!("m{first}") } else { listed.join(" ") };
+        items.push(format!("controller {controller} {listed} ;"));
+    }
+    format!("plan 2 {}", items.join(" "))
+}
+
 // A controller and its message, of one of three shapes, or an interrupt.
 fn item(k: usize, shapes: u64, dice: &mut Dice) -> String {
     if dice.throw(6) == 0 {

@@ -193,7 +193,7 @@ fn put_slot(
         }
     }
     if let Fault::Turned { controller, slot } | Fault::Unseen { controller, slot } = fault {
-        if slot == slots.len() {
+        if slot == slots.len() && controller < count {
             pulls[controller] = !pulls[controller];
             if matches!(fault, Fault::Turned { .. }) {
                 let others = players
