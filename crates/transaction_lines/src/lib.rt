@@ -2,9 +2,11 @@
 //!
 //! `capture_lines` writes them with who explains each, and `decode_lines` without a plan (`written` hands lines on). Which of them
 //! are told, and what they come to, is found in `dump_findings`. `moments` has their times, `captures` what people read below
-//! them (`drove` who pulled the lines, and `pulse_lines` short levels), and `counts` the lines of a summary.
+//! them (`drove` who pulled the lines, `pulse_lines` short levels, `remarks` whom they call), and `counts` the lines of a summary.
+//! `byte_rows` writes their bytes as a table.
 #![tactic(auto)]
 
+mod byte_rows;
 mod capture_lines;
 mod captures;
 mod counts;
@@ -12,7 +14,9 @@ mod decode_lines;
 mod drove;
 mod moments;
 mod pulse_lines;
+mod remarks;
 mod written;
 
+pub use byte_rows::ByteRows;
 pub use capture_lines::CaptureLines;
 pub use decode_lines::DecodeLines;
