@@ -1,9 +1,7 @@
 // What the options of a capture ask for.
 
 use clap::ArgMatches;
-use dump_tokens::{
-    Bus, BusLines, BytePattern, Drive, Filter, Limits, Target, Time, View, Window,
-};
+use dump_tokens::{Bus, BusLines, BytePattern, Drive, Filter, Limits, Target, Time, View, Window};
 use vcd_read::Probe;
 
 /// The options of a capture, as they were given.

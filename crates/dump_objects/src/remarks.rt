@@ -7,7 +7,11 @@ use growing_text::Text;
 use object_lines::ObjectLines;
 
 /// What is to be told of a transaction beside its bytes.
-pub(crate) fn push_remarks(lines: &mut ObjectLines, remarks: Remarks<'_>, transaction: &Transaction) {
+pub(crate) fn push_remarks(
+    lines: &mut ObjectLines,
+    remarks: Remarks<'_>,
+    transaction: &Transaction,
+) {
     lines.open_list("calls");
     let mut bytes = Bytes::new();
     for mark in transaction.marks.iter() {

@@ -352,11 +352,7 @@ pub fn decode<J: Input, O: Output>(
     style: Style,
     has_wave: bool,
 ) -> Result<Ended, Halt> {
-    let Decoding {
-        bus,
-        live,
-        ..
-    } = decoding;
+    let Decoding { bus, live, .. } = decoding;
     let is_exact = decoding.is_plain() && matches!(style, Style::Lines(_));
     if !is_exact || has_wave || reads_ahead(bus) {
         return decode_in_form(alloc, vcd, out, decoding, NAMELESS, style, has_wave);
@@ -453,11 +449,7 @@ fn decode_in_form<J: Input, O: Output>(
 ) -> Result<Ended, Halt>
     ensures status { IfOk result (λ it. EndsJudged decoding.entry.bus.view.at_least 0 it) }
 {
-    let Decoding {
-        bus,
-        live,
-        ..
-    } = decoding;
+    let Decoding { bus, live, .. } = decoding;
     let mut dump = open_dump(alloc, vcd, bus)?;
     let selection = Selection::new(bus.view, dump.scale()).with_device(named.device);
     let remarks = Remarks {

@@ -158,8 +158,7 @@ fn on_recorded<F: Read + Seek + Drop>(
 ) -> Result<Hints, AllocError> {
     match recorded {
         Recorded::Bus(_, seen) | Recorded::Bytes(_, seen) | Recorded::Page(seen)
-            if seen.transactions == 0 && seen.left_out != 0 =>
-        {
+            if seen.transactions == 0 && seen.left_out != 0 => {
             on_none_passes(alloc, seen.left_out)
         }
         Recorded::Bus(window, seen) if window.is_whole() && seen.left_out == 0 => {
@@ -168,8 +167,7 @@ fn on_recorded<F: Read + Seek + Drop>(
         // what was left out says nothing of the lines
         Recorded::Bus(..) => on_choice(alloc, vcd, names),
         Recorded::Bytes(window, seen)
-            if window.is_whole() && seen.left_out == 0 && seen.stopped == 0 =>
-        {
+            if window.is_whole() && seen.left_out == 0 && seen.stopped == 0 => {
             on_bus(alloc, vcd, names, status, seen)
         }
         Recorded::Bytes(..) => on_bytes(alloc, vcd, names),

@@ -146,11 +146,7 @@ fn push_byte(text: &mut Text, byte: Byte) {
 fn push_bits(text: &mut Text, value: u8, bits: u32) {
     text.push(",cut,0b");
     for k in (0..bits).rev() {
-        text.push(if value >> k.min(7) & 1 == 1 {
-            "1"
-        } else {
-            "0"
-        });
+        text.push(if value >> k.min(7) & 1 == 1 { "1" } else { "0" });
     }
     text.push(",,");
 }

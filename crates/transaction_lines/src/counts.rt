@@ -73,7 +73,8 @@ fn tell_traffic(alloc: Global, lines: &mut Lines, traffic: Traffic, time: u64) {
         Part::Number(share / 10),
         Part::Number(share % 10),
     ];
-    let template = "{}: {} transactions, {} bytes, not acknowledged {} headers and {} bytes, {}.{} % of the time";
+    let template =
+        "{}: {} transactions, {} bytes, not acknowledged {} headers and {} bytes, {}.{} % of the time";
     say(lines, template, &parts);
 }
 
