@@ -131,7 +131,7 @@ impl Bytes {
 
 impl Byte {
     /// Whether it was not acknowledged, and should have been. What is read a controller acknowledges itself, but the last byte; the
-    /// START byte and the codes of high-speed mode nobody may acknowledge (UM10204, 3.1.6, 3.1.15, 5.3.1).
+    /// START byte and the codes of high-speed mode nobody may acknowledge (UM10204, 3.1.6, 3.1.15, 5.3).
     pub fn is_refused(self) -> bool {
         let is_nacked = self.nack == Some(true);
         match self.kind {

@@ -33,9 +33,10 @@ impl Timing {
             to: event.time,
         };
         match (event.what, &mut self.open) {
-            (What::Start | What::Stop | What::Bit(_), Some(open)) => open.push(stretch),
-            _ => Ok(()),
+            (What::Start | What::Stop | What::Bit(_), Some(open)) => open.push(stretch)?,
+            _ => {}
         }
+        Ok(())
     }
 }
 
