@@ -253,7 +253,27 @@ With '--summary' each address and direction has a line
 
   48 Wr 12 times, 3 not acknowledged
 
-and 'cut N' and 'unfinished N' stand below.
+and 'cut N' and 'unfinished N' stand below. With '--explain' too, what each
+target was called for stands above these.
+
+Options may leave out transactions, and what is left has all that they ask for:
+
+  --address 0x50     they call this address, or as 0x2a5 one of ten bits
+  --device eeprom    they call this device of the brief that '--names' gives
+  --nacked           a header, or a byte that is written, is not acknowledged
+  --bytes '10 ..'    these bytes of data follow one another; '..' is any byte,
+                     '1.' one of 10 to 1f, and '50 Wr' and '.. Rd' are headers
+
+With '--explain' lines below a transaction say what UM10204 and SMBus call whom
+it calls, with '--names BRIEF' which of its devices that is, and with '--pec'
+whether its last byte is the packet error code of SMBus:
+
+  5-430  S 7a Wr A a5 A 10 A P
+      2a5 Wr: an address of ten bits
+      PEC 10 is wrong: 32 is due
+
+With '--format csv' each byte is a row: when it begins and ends, 'write', 'read',
+'address', 'data' or 'cut', its value, its acknowledge, and which transaction.
 
 With '--live' all that has ended is written before the capture is read on, also
 of one that is refused later:
