@@ -74,7 +74,7 @@ fn tell_traffic(alloc: Global, lines: &mut Lines, traffic: Traffic, time: u64) {
         Part::Number(share % 10),
     ];
     let template =
-        "{}: {} transactions, {} bytes, not acknowledged {} headers and {} bytes, {}.{} % of the time";
+        "{}: {} transactions, {} bytes, {} headers and {} bytes refused, {}.{} % of time";
     say(lines, template, &parts);
 }
 
