@@ -202,8 +202,10 @@ whether the rules of the plan give that. Each is what a controller pulls itself:
 With '--min-pulse' a level that a line has for less than T is ignored: a pulse
 on SDA while SCL is HIGH is then no START and no STOP.
 
-With '--from' and '--to' the others are left out, and not counted. '--at-least'
-adds a line 'too few: C of N'. With '--summary' each participant has a line
+With '--from' and '--to' the others are left out, and not counted. So they are
+with '--address', '--device', '--nacked' and '--bytes' ('twire help decode'); a
+device is one of the brief PLAN. '--at-least' adds a line 'too few: C of N'.
+With '--summary' each participant has a line
 
   main/set 3 alone, 2 with others
 
@@ -272,8 +274,9 @@ whether its last byte is the packet error code of SMBus:
       2a5 Wr: an address of ten bits
       PEC 10 is wrong: 32 is due
 
-With '--format csv' each byte is a row: when it begins and ends, 'write', 'read',
-'address', 'data' or 'cut', its value, its acknowledge, and which transaction.
+With '--format csv' each byte is a row: when it begins and ends, whether it is
+'write', 'read', 'address', 'data' or 'cut', its value, its acknowledge, and the
+number of its transaction.
 
 With '--live' all that has ended is written before the capture is read on, also
 of one that is refused later:

@@ -554,7 +554,7 @@ const UNTIL: Argument = Argument::Option {
 const ADDRESS: Argument = Argument::Option {
     id: "address",
     value_name: "A",
-    help: "Transactions that call A, as 0x50; 0x2a5 has ten bits",
+    help: "Transactions that call A, as 0x50 or 0x2a5",
 };
 
 const DEVICE: Argument = Argument::Option {
