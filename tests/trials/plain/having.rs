@@ -63,7 +63,8 @@ impl Having {
         options
     }
 
-    fn is_had_by(&self, transaction: &Transaction) -> bool {
+    /// Whether a transaction has it.
+    pub fn is_had_by(&self, transaction: &Transaction) -> bool {
         let bytes = whole_bytes(&transaction.marks);
         let is_called =
             |address: Called| bytes.iter().any(|byte| byte.calls == Some(address) || byte.header() == Some(address));
@@ -219,8 +220,8 @@ fn header_words(address: u32, is_read: bool) -> Option<&'static str> {
     })
 }
 
-// The remainder of a polynomial division by x^8 + x^2 + x + 1, bit by bit, of the message with eight zeros behind it.
-fn crc8(bytes: &[u32]) -> u32 {
+/// The remainder of a polynomial division by x^8 + x^2 + x + 1, bit by bit, of the message with eight zeros behind it.
+pub fn crc8(bytes: &[u32]) -> u32 {
     let bits = bytes.iter().chain(&[0]).flat_map(|byte| (0..8).rev().map(move |k| byte >> k & 1));
     let divide = |rest: u32, bit: u32| {
         let rest = rest << 1 | bit;
