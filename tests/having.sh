@@ -110,10 +110,12 @@ same "on a page" 'S 48 Wr A 01 A Sr 48 Rd A d4 NA P' "$(grep -o '"bytes":"S [^"]
 same "as a wave" "S 7a_Wr A a5 A 10 A Sr 7a_Rd A 33 NA P" "$(sed -n 's/^s\(.*\) %$/\1/p' wave | paste -sd ' ')"
 same "the lines of the wave" "$("$twire" decode mixed)" "$("$twire" decode wave)"
 expect "nothing has it: a hint" 0 "0 transactions" \
-    "hint: 9 transactions were left out, and none has all that is asked for by --address, --device, --nacked and --bytes" \
+    "hint: 9 transactions were left out, and none has all that is asked for by
+hint: --address, --device, --nacked and --bytes" \
     decode mixed --address 23 --hints always
 expect "the same of a capture" 0 "0 transactions, 0 unexplained" \
-    "hint: 9 transactions were left out, and none has all that is asked for by --address, --device, --nacked and --bytes" \
+    "hint: 9 transactions were left out, and none has all that is asked for by
+hint: --address, --device, --nacked and --bytes" \
     capture brief mixed --address 23 --hints always
 expect "nothing begins in time: no hint" 0 "0 transactions" "" decode mixed --address 50 --from 9000 --hints always
 
@@ -135,11 +137,12 @@ hint:   eeprom
 hint:   sensor
 hint:   pair" decode mixed --names brief --device fan --hints always
 expect "no such device, as an object" 2 "" \
-    "{\"kind\":\"refusal\",\"code\":\"device\",\"device\":\"fan\",\"reason\":\"no brief has a device 'fan'; there are:\"}" \
+    "{\"kind\":\"refusal\",\"code\":\"device\",\"device\":\"fan\",\"reason\":\"no brief has a device 'fan'; there are: eeprom, sensor, pair\"}" \
     decode mixed --names brief --device fan --format json
 lines plan 'plan 1' 'message m write 1001000 stop else stop ;' 'controller a m ;'
 expect "a plan has no devices" 2 "" "refused device fan
-hint: no brief has a device 'fan': devices have names in briefs, and here there are none" \
+hint: no brief has a device 'fan': devices have names in briefs, and here there
+hint: are none" \
     capture plan mixed --device fan --hints always
 expect "a plan in the place of a brief" 2 "" "refused P2" decode mixed --names plan
 expect "a brief that is missing" 2 "" "refused read" decode mixed --names missing
