@@ -190,7 +190,6 @@ refuses "the same of signals" "$nothing" signals header --from 2s --to 1s
 refuses "the same of a page" "$nothing" page plan --capture header --from 2s --to 1s
 refuses "two ways for SCL" "'--scl' and '--scl-code' both say which signal is SCL: give one" decode header --scl a --scl-code b
 refuses "an option of captures" "unexpected argument '--at-least' found" decode header --at-least 1
-refuses "another option of captures" "unexpected argument '--explain' found" decode header --explain
 refuses "a plan and a dump" "unexpected argument 'header' found" decode plan header
 expect "a hint on names that are not there" 2 "" "refused V1 scl
 hint: no signal of one bit has the name 'scl', and none has the name 'sda'

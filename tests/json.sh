@@ -402,7 +402,7 @@ both check first.brief --with second.brief
 
 expect "a file in place of a report stays" 0 "plan 1" "" print --format json - <<<'plan 2'
 expect "no further form" 2 "" "error: invalid value 'xml' for '--format <HOW>'
-  [possible values: text, json, gcc]
+  [possible values: text, json, gcc, csv]
 
 For more information, try '--help'." check --format xml "$two"
 "$twire" check --format json --color always "$two" >coloured

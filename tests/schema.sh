@@ -64,6 +64,12 @@ lines on.plan "plan 1" "message m write 1001000 stop else stop ;" \
     "message n write 1001000 again read 1001000 1 stop else stop else stop ;" "controller a m ;" "controller b n ;"
 "$top/tools/dump" 100100000000000010 >on.vcd
 asked capture on.plan on.vcd --explain
+# A START byte and a general call, with their words and the names of devices; what was called; and a device that is in no brief.
+lines of.brief "brief 1" "device all 0x00 ;"
+"$top/tools/dump" 000000011r000000000000001100 >calls.vcd
+asked decode calls.vcd --explain --pec --names of.brief
+asked decode calls.vcd --explain --summary
+asked decode calls.vcd --names of.brief --device fan
 wait
 for name in json lines explain briefs boards bench cases; do
     tail -n 1 "said.$name" | grep -qE '^[0-9]+( passed, [0-9]+ failed)?$'

@@ -120,7 +120,7 @@ impl<'a> Block<'a> {
     fn asked(&self, word: &str) -> Result<Asked, Unreadable> {
         let command = Command::of_line(&words_of(self.command, word)?)?;
         let (first, second) = match command {
-            Command::Decode { .. } => (self.second, None),
+            Command::Decode { .. } | Command::Having { .. } => (self.second, None),
             _ => (self.first, self.second),
         };
         let further = self.further.iter().map(|lines| file_of(*lines, word));

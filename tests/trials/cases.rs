@@ -68,8 +68,10 @@ impl Asked {
 
     // Whether the first text gives a plan, and its head may name files.
     fn gives_board(&self) -> bool {
-        !matches!(self.command, Command::Brief | Command::Expand | Command::Decode { .. } | Command::Learn { .. })
-            && plain::begins_board(&String::from_utf8_lossy(&self.first))
+        !matches!(
+            self.command,
+            Command::Brief | Command::Expand | Command::Decode { .. } | Command::Having { .. } | Command::Learn { .. }
+        ) && plain::begins_board(&String::from_utf8_lossy(&self.first))
     }
 
     /// What the program reads from the second file that it names after its options: a certificate, a capture or a script, or the
@@ -102,7 +104,7 @@ impl Case {
 
     /// Whether the first file is a dump, and may be left before its end: its refusal may come before that.
     pub fn leaves_first(&self) -> bool {
-        matches!(self.asked.command, Command::Decode { .. } | Command::Learn { .. })
+        matches!(self.asked.command, Command::Decode { .. } | Command::Having { .. } | Command::Learn { .. })
             && self.wanted.refusal.starts_with('V')
     }
 

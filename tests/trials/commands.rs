@@ -1,5 +1,6 @@
 //! The commands of the cases: those of twire, and one more, `seats`, which runs a script on the seats of a bench.
 
+use crate::plain::having::Having;
 use crate::plain::learned::Data;
 use crate::unreadable::Unreadable;
 
@@ -20,6 +21,12 @@ pub enum Command {
         scl: String,
         sda: String,
         summary: bool,
+    },
+    /// The same of what has something in it.
+    Having {
+        scl: String,
+        sda: String,
+        having: Having,
     },
     /// Its dump is the first file too. Where it takes the names of a brief, that is the second one.
     Learn {
@@ -50,7 +57,7 @@ impl Command {
             Command::Certify => "certify",
             Command::Verify => "verify",
             Command::Capture { .. } => "capture",
-            Command::Decode { .. } => "decode",
+            Command::Decode { .. } | Command::Having { .. } => "decode",
             Command::Learn { .. } => "learn",
             Command::Bench { .. } => "bench",
             Command::Order => "order",

@@ -7,7 +7,7 @@ use crate::crew::Crew;
 use crate::deeds::Deed;
 use crate::desks::Desk;
 use crate::disagreements::{Disagreement, Score};
-use crate::plain::{self, learned::Data};
+use crate::plain::{self, found::decoded, having::having_of, learned::Data};
 use crate::plainly::said_plainly;
 use crate::runs::{judge, Due, Run};
 use crate::setups::Setup;
@@ -27,6 +27,11 @@ pub fn decoding_fault(desk: &mut Desk, name: &str, asked: &Asked) -> io::Result<
     let mut tried = vec![(asked.clone(), in_objects(true))];
     for summary in [false, true] {
         tried.extend([in_lines(), in_objects(false)].map(|run| (decode(summary), run)));
+    }
+    let shown = decoded(&asked.second, scl, sda).map(|it| it.transactions).unwrap_or_default();
+    for having in having_of(&shown) {
+        let command = Command::Having { scl: scl.clone(), sda: sda.clone(), having };
+        tried.push((Asked::of_one(command, asked.second.clone(), Vec::new()), in_lines()));
     }
     for data in Data::ALL {
         let learn = |brief: Option<String>| {
@@ -68,7 +73,8 @@ fn briefs_of(asked: &Asked, learned: &str) -> Vec<String> {
     }
     brief += "device open 0b100100x ; device twin 0x48 ; byte low 0x0X ; byte all 0xXX ;\n";
     // (what is no message is a comment, or the controller)
-    let words: Vec<&str> = learned.lines().filter(|line| !line.starts_with('#')).flat_map(str::split_whitespace).collect();
+    let words: Vec<&str> =
+        learned.lines().filter(|line| !line.starts_with('#')).flat_map(str::split_whitespace).collect();
     for (k, item) in words.split(|word| *word == ";").filter(|item| item.contains(&"message")).enumerate() {
         let from = item.iter().position(|word| *word == "message").unwrap_or(0);
         brief += &match k % 3 {

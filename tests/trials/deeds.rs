@@ -145,6 +145,11 @@ fn command_line(command: &Command) -> Line {
             options.extend(summary.then(|| "--summary".to_owned()));
             twire_line("decode", options, 1)
         }
+        Command::Having { scl, sda, having } => {
+            let mut options = vec![format!("--scl={scl}"), format!("--sda={sda}")];
+            options.extend(having.options());
+            twire_line("decode", options, 1)
+        }
         Command::Learn { scl, sda, data, names } => {
             let mut options = vec![format!("--scl={scl}"), format!("--sda={sda}")];
             options.extend(match data {

@@ -31,6 +31,7 @@ pub fn said_plainly(asked: &Asked) -> Answer {
         Command::Capture { scl, sda } => plain::capture(first, second, scl, sda),
         Command::Decode { scl, sda, summary: false } => plain::decode(first, scl, sda),
         Command::Decode { scl, sda, summary: true } => plain::decode_summary(first, scl, sda),
+        Command::Having { scl, sda, having } => plain::having::decode_having(first, scl, sda, having),
         Command::Learn { scl, sda, data, names } => {
             let before = names.then_some(File { name: NAMES[1], text: second });
             plain::learn(first, scl, sda, *data, before)
@@ -59,7 +60,7 @@ pub fn said_so_far(asked: &Asked) -> String {
 pub fn place_of(asked: &Asked) -> Option<(usize, usize)> {
     match &asked.command {
         Command::Capture { scl, sda } => plain::place_of_refusal(&asked.second, scl, sda),
-        Command::Decode { scl, sda, .. } | Command::Learn { scl, sda, .. } => {
+        Command::Decode { scl, sda, .. } | Command::Having { scl, sda, .. } | Command::Learn { scl, sda, .. } => {
             plain::place_of_refusal(&asked.first, scl, sda)
         }
         _ => None,

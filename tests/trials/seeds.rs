@@ -36,7 +36,7 @@ impl<'a> Seeds<'a> {
         let first = case.asked.first.as_slice();
         let second = case.asked.second.as_slice();
         let firsts = match case.asked.command {
-            Command::Seats { .. } | Command::Decode { .. } | Command::Learn { .. } => return,
+            Command::Seats { .. } | Command::Decode { .. } | Command::Having { .. } | Command::Learn { .. } => return,
             Command::Expand => &mut self.briefs,
             _ if case.wanted.refusal.starts_with('P') => &mut self.refused,
             _ => &mut self.plans,

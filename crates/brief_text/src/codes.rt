@@ -118,9 +118,9 @@ impl Path {
     }
 }
 
-// The packet error code of what had this one, and of a byte more.
+/// The packet error code of what had this one, and of a byte more.
 #[tactic(auto, unfolding(crate::specs::Codes::code_after))]
-fn code_after(before: u8, byte: u8) -> u8
+pub fn code_after(before: u8, byte: u8) -> u8
     ensures { result ≡ code_after before byte }
 {
     let first = shifted(shifted(shifted(shifted(before ^ byte))));

@@ -33,6 +33,7 @@ mod traces;
 mod words;
 
 pub use briefs::Briefs;
+pub use codes::code_after;
 pub use items::{expand_brief, expand_brief_at};
 pub use meanings::member_text;
 pub use plan_text::PlanError as BriefError;

@@ -1,4 +1,4 @@
-// Who is told what a capture shows beside its transactions, and who pulled SDA in one.
+// Who is told what a capture shows beside its transactions, who pulled SDA in one, and when each of its marks came.
 
 use crate::watching::Event;
 use std::alloc::AllocError;
@@ -69,6 +69,13 @@ fn has(mask: u32, number: usize) -> bool {
     }
 }
 
+/// When a mark came: from the fall of SCL before it on, and until when.
+#[derive(Clone, Copy)]
+pub struct Stretch {
+    pub from: u64,
+    pub to: u64,
+}
+
 /// A sample of the bus, what happens there, and whether a transaction goes on, or begins.
 #[derive(Clone, Copy)]
 pub struct Moment<'a> {
@@ -93,6 +100,11 @@ pub trait Beside: Tokens {
 
     /// Who pulled SDA in the transaction that has ended there, where that is known.
     fn take_drove(&mut self) -> Option<Drove> {
+        None
+    }
+
+    /// When each mark of it came, where that is kept.
+    fn take_times(&mut self) -> Option<Vec<Stretch>> {
         None
     }
 }

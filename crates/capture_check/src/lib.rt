@@ -18,7 +18,7 @@ mod texts;
 pub mod watching;
 pub mod workers;
 
-pub use beside::{Beside, Drove, Moment};
+pub use beside::{Beside, Drove, Moment, Stretch};
 pub use explaining::explain;
 pub use following::Follower;
 pub use listening::{Listener, Mark, Transaction, Until, transactions};

@@ -3,7 +3,8 @@
 use crate::building::program;
 use crate::capturing::{Options, drive_of};
 use crate::requests::{
-    Capture, Format, Layout, Lesson, Look, Mend, OfferNumber, Play, Request, Rewriting, Taking,
+    Capture, Decoding, Format, Layout, Lesson, Look, Mend, OfferNumber, Play, Request, Rewriting,
+    Taking,
 };
 use crate::table::COMMANDS;
 use clap::error::ErrorKind;
@@ -87,6 +88,13 @@ const NOT_TWO_OUTPUTS: Fault = "the argument '--in-place' cannot be used with '-
 const NOT_SEVERAL: Fault = "several files go with '--check' alone";
 
 const INPUT_TWICE: Fault = "standard input can be one of the files, and not two";
+
+const NO_ROWS: Fault =
+    "'--format csv' is for 'decode', without '--summary', '--explain', '--pec' and '--wave'";
+
+const NO_NAMES: Fault = "'--device' wants '--names <BRIEF>', which has the device";
+
+const NOT_COUNTED: Fault = "'--summary' leaves no transactions for '--pec'";
 
 const INPUT_OF_EDITOR: Fault = "standard input is the editor's, and none of the files";
 
@@ -190,6 +198,7 @@ fn asked_of<'a>(matches: &ArgMatches<'a>) -> Result<(Request<'a>, Manner), Fault
         return Err(TOO_MANY_WORDS);
     };
     let request = request_of(name, matches)?;
+    refuse_rows(name, matches)?;
     refuse_input_twice(matches)?;
     Ok((request, manner_of(matches)))
 }
@@ -475,12 +484,43 @@ fn capture_of<'a>(matches: &ArgMatches<'a>) -> Result<Request<'a>, Fault> {
 }
 
 fn decode_of<'a>(matches: &ArgMatches<'a>) -> Result<Request<'a>, Fault> {
-    Ok(Request::Decode {
-        vcd: word(matches, "VCD"),
+    let decoding = Decoding {
         bus: options_of(matches)?.bus(),
         live: matches.get_flag("live"),
+        explain: matches.get_flag("explain"),
+        pec: matches.get_flag("pec"),
+        rows: are_rows(matches),
+    };
+    let names = matches.get_str("names");
+    if decoding.bus.device.is_some() && names.is_none() {
+        return Err(NO_NAMES);
+    }
+    if decoding.pec && decoding.bus.view.summary {
+        return Err(NOT_COUNTED);
+    }
+    Ok(Request::Decode {
+        vcd: word(matches, "VCD"),
+        names,
+        decoding,
         wave: wave_of(matches)?,
     })
+}
+
+fn are_rows(matches: &ArgMatches<'_>) -> bool {
+    matches.get_str("format") == Some("csv")
+}
+
+// A table has bytes, and nothing else.
+fn refuse_rows(name: &str, matches: &ArgMatches<'_>) -> Result<(), Fault> {
+    let has_more = matches.get_flag("summary")
+        || matches.get_flag("explain")
+        || matches.get_flag("pec")
+        || matches.get_str("wave").is_some();
+    if are_rows(matches) && (name != "decode" || has_more) {
+        Err(NO_ROWS)
+    } else {
+        Ok(())
+    }
 }
 
 fn learn_of<'a>(matches: &ArgMatches<'a>) -> Result<Request<'a>, Fault> {

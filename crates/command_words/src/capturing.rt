@@ -1,7 +1,7 @@
 // What the options of a capture ask for.
 
 use clap::ArgMatches;
-use dump_tokens::{Bus, BusLines, Drive, Limits, Time, View, Window};
+use dump_tokens::{Bus, BusLines, BytePattern, Drive, Filter, Limits, Target, Time, View, Window};
 use vcd_read::Probe;
 
 /// The options of a capture, as they were given.
@@ -16,6 +16,10 @@ pub(crate) struct Options<'a> {
     at_least: Option<u32>,
     from: Option<&'a str>,
     to: Option<&'a str>,
+    address: Option<&'a str>,
+    device: Option<&'a str>,
+    bytes: Option<&'a str>,
+    nacked: bool,
     times: Option<&'a str>,
     summary: bool,
     explain: bool,
@@ -34,9 +38,14 @@ impl<'a> Options<'a> {
             at_least: matches.get_one::<u32>("at-least"),
             from: matches.get_str("from"),
             to: matches.get_str("to"),
+            address: matches.get_str("address"),
+            device: matches.get_str("device"),
+            bytes: matches.get_str("bytes"),
+            nacked: matches.get_flag("nacked"),
             times: matches.get_str("times"),
             summary: matches.get_flag("summary"),
-            explain: matches.get_flag("explain"),
+            // (without a plan also counts are explained)
+            explain: matches.get_flag("explain") && matches.get_str("PLAN").is_some(),
         }
     }
 
@@ -45,6 +54,7 @@ impl<'a> Options<'a> {
         Bus {
             lines: self.lines(),
             view: self.view(),
+            device: self.device,
         }
     }
 
@@ -69,8 +79,18 @@ impl<'a> Options<'a> {
         View {
             at_least: self.at_least,
             window: self.window(),
+            filter: self.filter(),
             si: self.times == Some("si"),
             summary: self.summary,
+        }
+    }
+
+    fn filter(&self) -> Filter {
+        Filter {
+            address: target_of(self.address),
+            device: None,
+            nacked: self.nacked,
+            bytes: pattern_of(self.bytes),
         }
     }
 
@@ -103,6 +123,16 @@ impl<'a> Options<'a> {
         }
         if self.window().is_empty() {
             return Some("'--from' is after '--to', so there is nothing between them");
+        }
+        if self.address.is_some() && target_of(self.address).is_none() {
+            return Some(
+                "the value for '--address <A>' is no address as 0x50, or 0x2a5 of ten bits, without its direction bit",
+            );
+        }
+        if self.bytes.is_some() && pattern_of(self.bytes).is_none() {
+            return Some(
+                "the value for '--bytes <PATTERN>' is not of 1 to 14 bytes as '10 ..' or '50 Wr 1.'",
+            );
         }
         if self.summary && self.explain {
             return Some("'--summary' leaves no transactions for '--explain'");
@@ -171,6 +201,14 @@ fn probe_of<'a>(name: Option<&'a str>, code: Option<&'a str>, usual: &'a str) ->
 
 fn time_of(text: Option<&str>) -> Option<Time> {
     Time::read(text?)
+}
+
+fn target_of(text: Option<&str>) -> Option<Target> {
+    Target::read(text?)
+}
+
+fn pattern_of(text: Option<&str>) -> Option<BytePattern> {
+    BytePattern::read(text?)
 }
 
 fn is_no_drive(word: &&str) -> bool {

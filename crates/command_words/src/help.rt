@@ -202,8 +202,10 @@ whether the rules of the plan give that. Each is what a controller pulls itself:
 With '--min-pulse' a level that a line has for less than T is ignored: a pulse
 on SDA while SCL is HIGH is then no START and no STOP.
 
-With '--from' and '--to' the others are left out, and not counted. '--at-least'
-adds a line 'too few: C of N'. With '--summary' each participant has a line
+With '--from' and '--to' the others are left out, and not counted. So they are
+with '--address', '--device', '--nacked' and '--bytes' ('twire help decode'); a
+device is one of the brief PLAN. '--at-least' adds a line 'too few: C of N'.
+With '--summary' each participant has a line
 
   main/set 3 alone, 2 with others
 
@@ -253,7 +255,28 @@ With '--summary' each address and direction has a line
 
   48 Wr 12 times, 3 not acknowledged
 
-and 'cut N' and 'unfinished N' stand below.
+and 'cut N' and 'unfinished N' stand below. With '--explain' too, what each
+target was called for stands above these.
+
+Options may leave out transactions, and what is left has all that they ask for:
+
+  --address 0x50     they call this address, or as 0x2a5 one of ten bits
+  --device eeprom    they call this device of the brief that '--names' gives
+  --nacked           a header, or a byte that is written, is not acknowledged
+  --bytes '10 ..'    these bytes of data follow one another; '..' is any byte,
+                     '1.' one of 10 to 1f, and '50 Wr' and '.. Rd' are headers
+
+With '--explain' lines below a transaction say what UM10204 and SMBus call whom
+it calls, with '--names BRIEF' which of its devices that is, and with '--pec'
+whether its last byte is the packet error code of SMBus:
+
+  5-430  S 7a Wr A a5 A 10 A P
+      2a5 Wr: an address of ten bits
+      PEC 10 is wrong: 32 is due
+
+With '--format csv' each byte is a row: when it begins and ends, whether it is
+'write', 'read', 'address', 'data' or 'cut', its value, its acknowledge, and the
+number of its transaction.
 
 With '--live' all that has ended is written before the capture is read on, also
 of one that is refused later:

@@ -41,11 +41,11 @@ pub enum Request<'a> {
         vcd: &'a str,
         capture: Capture<'a>,
     },
-    /// The transactions of a recorded bus, in bytes.
+    /// The transactions of a recorded bus, in bytes. Devices have the names of the brief `names`, where there is one.
     Decode {
         vcd: &'a str,
-        bus: Bus<'a>,
-        live: bool,
+        names: Option<&'a str>,
+        decoding: Decoding<'a>,
         wave: Option<&'a str>,
     },
     /// The signals of a dump.
@@ -126,6 +126,26 @@ pub struct Capture<'a> {
     pub stops: bool,
     /// The lines of controllers that are followed.
     pub drives: Drives<'a>,
+}
+
+/// A capture that is asked for in bytes.
+#[derive(Clone, Copy)]
+pub struct Decoding<'a> {
+    pub bus: Bus<'a>,
+    /// Whether all that has ended is written before the dump is read on.
+    pub live: bool,
+    /// Whether it is told whom each transaction calls, and whether its last byte is a packet error code.
+    pub explain: bool,
+    pub pec: bool,
+    /// Whether bytes are the rows of a table.
+    pub rows: bool,
+}
+
+impl Decoding<'_> {
+    /// Whether all transactions are told as they are, and no more is.
+    pub fn is_plain(self) -> bool {
+        self.bus.is_whole() && !self.explain && !self.pec && !self.rows
+    }
 }
 
 /// A brief that is asked for: data after registers is put together if `merge` says so, and is any if `widen` does.

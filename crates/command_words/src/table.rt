@@ -152,8 +152,8 @@ pub const FORMAT: Argument = Argument::Choice {
     id: "format",
     value_name: "HOW",
     default: "text",
-    values: &["text", "json", "gcc"],
-    help: "Reports as text, json, or gcc (as compilers do)",
+    values: &["text", "json", "gcc", "csv"],
+    help: "Reports as text, json, gcc (as compilers do), csv",
 };
 
 /// The commands, in the order of the help.
@@ -211,7 +211,7 @@ const CAPTURE: Entry = Entry {
     after_help: AFTER_CAPTURE_HELP,
     arguments: &[
         PLAN, VCD, WITH, SCL, SDA, SCOPE, SCL_CODE, SDA_CODE, DRIVES, PULLS, MIN_PULSE, FROM, TO,
-        AT_LEAST, TIMES, SUMMARY, EXPLAIN, LIVE, STOPS,
+        ADDRESS, DEVICE, NACKED, PATTERN, AT_LEAST, TIMES, SUMMARY, EXPLAIN, LIVE, STOPS,
     ],
 };
 
@@ -221,7 +221,8 @@ const DECODE: Entry = Entry {
     usage: None,
     after_help: AFTER_DECODE_HELP,
     arguments: &[
-        VCD, SCL, SDA, SCOPE, SCL_CODE, SDA_CODE, MIN_PULSE, FROM, TO, TIMES, ADDRESSES, LIVE, WAVE,
+        VCD, SCL, SDA, SCOPE, SCL_CODE, SDA_CODE, MIN_PULSE, FROM, TO, ADDRESS, DEVICE, NACKED,
+        PATTERN, TIMES, ADDRESSES, CALLED, PEC, DEVICES, LIVE, WAVE,
     ],
 };
 
@@ -265,8 +266,8 @@ const PAGE: Entry = Entry {
     usage: None,
     after_help: AFTER_PAGE_HELP,
     arguments: &[
-        PLAN, WITH, RECORDED, SCL, SDA, SCOPE, SCL_CODE, SDA_CODE, MIN_PULSE, FROM, TO, TIMES,
-        OUTPUT,
+        PLAN, WITH, RECORDED, SCL, SDA, SCOPE, SCL_CODE, SDA_CODE, MIN_PULSE, FROM, TO, ADDRESS,
+        DEVICE, NACKED, PATTERN, TIMES, OUTPUT,
     ],
 };
 
@@ -548,6 +549,46 @@ const UNTIL: Argument = Argument::Option {
     id: "to",
     value_name: "TIME",
     help: "What changes or begins at TIME or before",
+};
+
+const ADDRESS: Argument = Argument::Option {
+    id: "address",
+    value_name: "A",
+    help: "Transactions that call A, as 0x50 or 0x2a5",
+};
+
+const DEVICE: Argument = Argument::Option {
+    id: "device",
+    value_name: "NAME",
+    help: "Transactions that call this device of the brief",
+};
+
+const NACKED: Argument = Argument::Flag {
+    id: "nacked",
+    help: "Transactions in which an acknowledge is missing",
+};
+
+const PATTERN: Argument = Argument::Option {
+    id: "bytes",
+    value_name: "PATTERN",
+    help: "Transactions with these bytes, as '10 ..'",
+};
+
+// What is told of transactions without a plan.
+const CALLED: Argument = Argument::Flag {
+    id: "explain",
+    help: "Say below each whom it calls, by the standards",
+};
+
+const PEC: Argument = Argument::Flag {
+    id: "pec",
+    help: "Say below each whether it ends with its PEC",
+};
+
+const DEVICES: Argument = Argument::Option {
+    id: "names",
+    value_name: "BRIEF",
+    help: "A brief whose devices are named below each",
 };
 
 const AT_LEAST: Argument = Argument::Count {

@@ -3,8 +3,10 @@
 ghost use Rattle.std.specs.Prelude.{◌≡◌};
 ghost use Rattle.dump_findings.specs.Statuses.{JudgesSeen, least_of};
 
+use crate::filtering::Passing;
 use capture_check::{Transaction, Until};
-use dump_tokens::{Scale, View};
+use dump_tokens::{Filter, Scale, View};
+use message_tree::Address;
 use run_parts::Status;
 
 /// What a dump has shown, as far as it is told.
@@ -16,6 +18,8 @@ pub struct Seen {
     pub stopped: u64,
     /// How many of these nobody explains.
     pub unexplained: u64,
+    /// How many others were left out by what is in them.
+    pub left_out: u64,
 }
 
 impl Seen {
@@ -35,6 +39,9 @@ impl Seen {
 pub struct Selection {
     view: View,
     scale: Option<Scale>,
+    // when the first one began that is told by its time, and when the last one of these ended
+    first: Option<u64>,
+    last: u64,
     /// What those that are told come to.
     pub seen: Seen,
     /// In how many of them a controller did what the rules of the plan do not give, where that is known.
@@ -50,22 +57,62 @@ impl Selection {
         Selection {
             view,
             scale,
+            first: None,
+            last: 0,
             seen: Seen {
                 transactions: 0,
                 stopped: 0,
                 unexplained: 0,
+                left_out: 0,
             },
             departed: 0,
         }
     }
 
+    /// The same where a transaction has to call this device, if one is given.
+    pub fn with_device(self, device: Option<Address>) -> Selection {
+        let filter = Filter {
+            device,
+            ..self.view.filter
+        };
+        let view = View {
+            filter,
+            ..self.view
+        };
+        Selection { view, ..self }
+    }
+
     /// Whether the next transaction is told, and if so it is counted.
     pub fn takes(&mut self, transaction: &Transaction, is_explained: bool) -> bool {
-        let is_told = self.view.window.has(self.scale, transaction.from);
+        if !self.view.window.has(self.scale, transaction.from) {
+            return false;
+        }
+        self.spend(transaction);
+        let is_told = passes(self.view.filter, transaction);
         if is_told {
             self.seen.count(transaction, is_explained);
+        } else {
+            self.seen.left_out = self.seen.left_out.saturating_add(1);
         }
         is_told
+    }
+
+    fn spend(&mut self, transaction: &Transaction) {
+        self.first = Some(self.first.unwrap_or(transaction.from));
+        self.last = match transaction.until {
+            Until::Stopped(time) | Until::Cut(time) => time,
+            Until::Unfinished => self.last,
+        };
+    }
+
+    /// How long it took from the first to the last of all that are told by their times.
+    pub fn time(&self) -> u64 {
+        self.last.saturating_sub(self.first.unwrap_or(0))
+    }
+
+    /// Which ones are told.
+    pub fn view(&self) -> View {
+        self.view
     }
 
     /// What the numbers of the dump count, where times are told in parts of a second.
@@ -97,6 +144,18 @@ impl Selection {
     {
         status_of_seen(self.view.at_least, self.seen, self.departed)
     }
+}
+
+// Whether a transaction has in it what is asked for.
+fn passes(filter: Filter, transaction: &Transaction) -> bool {
+    if filter.is_none() {
+        return true;
+    }
+    let mut passing = Passing::new(filter);
+    for mark in transaction.marks.iter() {
+        passing.next(*mark);
+    }
+    passing.passes()
 }
 
 /// The status of a run over a dump that has told of transactions which come to this, where so many were to be Stopped, and where

@@ -5,7 +5,7 @@
 //! it, or says that the file has another format (`converting`); `opening` finds what has no end in a file that can be read once
 //! more, and `naming` lists the signals that it declares, or `scoping` the scopes of a name. After a report `silence` tells what
 //! was seen of the bus (`looking`), also with the two lines exchanged, `choosing` looks at names that several signals have, and
-//! `recordings` is for the other runs over a dump. `driving` is for lines that were to be what controllers pull. `sampling` says
+//! `recordings` is for the other runs over a dump, `passing` for runs that tell of a part. `driving` is for lines that were to be what controllers pull. `sampling` says
 //! where samples are too far apart, as the run itself has counted. Where the file cannot be read once more, or has changed, only
 //! the words are left (`wording`). Hints as values, and their parts, are those of `hints`.
 #![tactic(auto)]
@@ -17,6 +17,7 @@ mod dumps;
 mod looking;
 mod naming;
 mod opening;
+mod passing;
 mod recordings;
 mod sampling;
 mod scoping;
@@ -29,6 +30,7 @@ pub use driving::{
 };
 pub use dumps::on_dump;
 pub use naming::Names;
+pub use passing::{on_no_device, on_none_passes};
 pub use recordings::{on_bytes, on_recording, on_signals};
 pub use sampling::on_rises;
 pub use silence::{on_silence, on_unexplained};

@@ -1,10 +1,11 @@
 // Objects of the transactions of a dump, without a plan.
 
+use crate::remarks::push_remarks;
 use crate::transactions::{push_bytes, push_count, push_made, push_times};
 use crate::written::Written;
 use capture_check::Transaction;
 use decoding::TransactionSink;
-use dump_findings::{Addresses, Calls, Selection};
+use dump_findings::{Addresses, Calls, Remarks, Selection, Traffic, push_target};
 use growing_text::Text;
 use object_lines::ObjectLines;
 use run_parts::{Output, RunError};
@@ -12,14 +13,15 @@ use std::alloc::{AllocError, Global};
 
 /// Writes the objects of transactions with their bytes.
 #[derive(Drop)]
-pub struct DecodeObjects<'a, O> {
+pub struct DecodeObjects<'a, 'w, O> {
     written: Written<'a, O>,
     selection: Selection,
+    remarks: Remarks<'w>,
     // where headers are counted, and transactions are not told
     addresses: Option<Addresses>,
 }
 
-impl<'a, O: Output> DecodeObjects<'a, O> {
+impl<'a, 'w, O: Output> DecodeObjects<'a, 'w, O> {
     ghost use Rattle.std.specs.Prelude.{◌≡◌, IfOk};
 
     /// Nothing has been written. Where it is live, all that has ended is written before the dump is read on.
@@ -30,13 +32,15 @@ impl<'a, O: Output> DecodeObjects<'a, O> {
     pub fn new(
         alloc: Global,
         selection: Selection,
+        remarks: Remarks<'w>,
         live: bool,
         out: &'a mut O,
-    ) -> Result<DecodeObjects<'a, O>, AllocError> {
+    ) -> Result<DecodeObjects<'a, 'w, O>, AllocError> {
         let addresses = Addresses::wanted(alloc, &selection)?;
         Ok(DecodeObjects {
             written: Written::new(alloc, live, out),
             selection,
+            remarks,
             addresses,
         })
     }
@@ -52,6 +56,9 @@ impl<'a, O: Output> DecodeObjects<'a, O> {
         lines.begin("transaction");
         push_times(lines, transaction, self.selection.told_scale());
         push_bytes(lines, transaction);
+        if !self.remarks.are_none() {
+            push_remarks(lines, self.remarks, transaction);
+        }
         lines.end();
     }
 
@@ -78,6 +85,11 @@ impl<'a, O: Output> DecodeObjects<'a, O> {
         let lines = &mut self.written.lines;
         if let Some(addresses) = &self.addresses {
             push_addresses(lines, addresses);
+            if self.remarks.explain {
+                push_traffic(lines, addresses, self.selection.time());
+            }
+            push_count(lines, "cut", addresses.cut);
+            push_count(lines, "unfinished", addresses.unfinished);
         }
         lines.begin("transactions");
         lines.number("transactions", self.selection.seen.stopped);
@@ -85,7 +97,7 @@ impl<'a, O: Output> DecodeObjects<'a, O> {
     }
 }
 
-impl<O: Output> TransactionSink for DecodeObjects<'_, O> {
+impl<O: Output> TransactionSink for DecodeObjects<'_, '_, O> {
     ghost use Rattle.decoding.specs.Sinks.{any_sink};
 
     ghost sink = { any_sink };
@@ -104,8 +116,30 @@ fn push_addresses(lines: &mut ObjectLines, addresses: &Addresses) {
             push_calls(lines, *calls);
         }
     }
-    push_count(lines, "cut", addresses.cut);
-    push_count(lines, "unfinished", addresses.unfinished);
+}
+
+// What each target was called for, in all this time.
+fn push_traffic(lines: &mut ObjectLines, addresses: &Addresses, time: u64) {
+    for traffic in addresses.traffic() {
+        if traffic.transactions != 0 {
+            push_target_of(lines, *traffic, time);
+        }
+    }
+}
+
+fn push_target_of(lines: &mut ObjectLines, traffic: Traffic, time: u64) {
+    let mut target = Text::new(lines.alloc);
+    push_target(&mut target, traffic.target);
+    let target = target.finish();
+    lines.begin("target");
+    push_made(lines, "address", &target);
+    lines.number("transactions", traffic.transactions);
+    lines.number("bytes", traffic.bytes);
+    lines.number("header_nacks", traffic.refused_headers);
+    lines.number("data_nacks", traffic.refused_bytes);
+    lines.number("time", traffic.time);
+    lines.number("of", time);
+    lines.end();
 }
 
 // How often an address was called, and how often nobody acknowledged it.

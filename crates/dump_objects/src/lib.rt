@@ -1,12 +1,14 @@
 //! What a dump shows as JSON, one object a line, for programs.
 //!
-//! `written` writes objects as they come. `captures` and `decodes` have those of transactions (`transactions` for both), and
+//! `written` writes objects as they come. `captures` and `decodes` have those of transactions (`transactions` for both, `remarks`
+//! what their bytes mean), and
 //! `listed` those of signals. Their fields are written one by one.
 #![tactic(auto)]
 
 mod captures;
 mod decodes;
 mod listed;
+mod remarks;
 mod transactions;
 mod written;
 

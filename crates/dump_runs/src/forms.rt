@@ -11,7 +11,7 @@ use run_parts::{Input, Output, RunError};
 use signals::Dump;
 use std::alloc::Global;
 use std::thread::Threads;
-use transaction_lines::{CaptureLines, DecodeLines};
+use transaction_lines::{ByteRows, CaptureLines, DecodeLines};
 
 /// A form of transactions in bytes.
 pub(crate) trait DecodeForm: TransactionSink + Drop {
@@ -19,13 +19,19 @@ pub(crate) trait DecodeForm: TransactionSink + Drop {
     fn told(self) -> Result<Selection, RunError>;
 }
 
-impl<O: Output> DecodeForm for DecodeLines<'_, O> {
+impl<O: Output> DecodeForm for DecodeLines<'_, '_, O> {
     fn told(self) -> Result<Selection, RunError> {
         self.finish()
     }
 }
 
-impl<O: Output> DecodeForm for DecodeObjects<'_, O> {
+impl<O: Output> DecodeForm for DecodeObjects<'_, '_, O> {
+    fn told(self) -> Result<Selection, RunError> {
+        self.finish()
+    }
+}
+
+impl<O: Output> DecodeForm for ByteRows<'_, O> {
     fn told(self) -> Result<Selection, RunError> {
         self.finish()
     }

@@ -7,4 +7,6 @@ mod driven;
 mod forms;
 mod recordings;
 
-pub use recordings::{decode, explain_capture, learn, learn_with_names, list_signals};
+pub use recordings::{
+    decode, decode_with_names, explain_capture, learn, learn_with_names, list_signals,
+};

@@ -21,24 +21,27 @@ use crate::forms::{capture_to, decode_to};
 use bus_rows::Paint;
 use byte_lines::{ByteCounts, write_decoded, write_decoded_beside};
 use capture_check::{Beside, Rises};
-use command_words::{Capture, Lesson};
+use command_words::{Capture, Decoding, Lesson};
 use drives::Drivers;
-use dump_findings::{Layout, Seen, Selection, status_of_seen};
+use dump_findings::{Layout, Remarks, Seen, Selection, Timing, status_of_seen};
 use dump_objects::{CaptureObjects, DecodeObjects, write_signals};
-use dump_tokens::{Bus, BusLines, Drives, Limits, Quiet, Window};
+use dump_tokens::{Bus, BusLines, Drives, Limits, Quiet, View, Window};
 use given_plans::{GivenPlan, Halted, Provenance};
 use given_runs::{GivenCapture, GivenLive, capture_given, live_given};
 use lessons::{BriefBefore, Likeness, Sights, brief_of, write_brief, write_learned};
-use origins::Spans;
+use message_tree::Address;
+use origins::{Origins, Spans};
 use plan_core::Plan;
 use plan_words::PlanWords;
 use report::{CaptureCounts, CaptureReport, live_capture, write_capture};
 use run_parts::{Input, Output, RunError, Status, write_lines};
-use run_values::{Ended, Findings, Halt, Recorded, Sources, Style, halted, halted_by, open_dump};
+use run_values::{
+    Ended, Findings, Halt, Recorded, Sources, Style, device_of, halted, halted_by, open_dump,
+};
 use signals::{Dump, Listed, OpenDump, Recorder, SignalDump, reads_ahead};
 use std::alloc::Global;
 use std::thread::Threads;
-use transaction_lines::{CaptureLines, DecodeLines};
+use transaction_lines::{ByteRows, CaptureLines, DecodeLines};
 use vcd_read::{Nobody, Probe, Wrong};
 use waves::wave_of_recording;
 
@@ -54,7 +57,7 @@ struct Told {
 
 // Whether the lines of a capture are the exact ones, and no others.
 fn is_exact(capture: Capture<'_>) -> bool {
-    capture.bus.view.is_whole() && !capture.explain && !capture.stops && capture.drives.is_empty()
+    capture.bus.is_whole() && !capture.explain && !capture.stops && capture.drives.is_empty()
 }
 
 // How its lines are written.
@@ -147,6 +150,7 @@ fn seen_in(captured: &CaptureReport) -> Seen {
         transactions: captured.transactions,
         stopped: captured.stopped,
         unexplained: captured.unexplained,
+        left_out: 0,
     }
 }
 
@@ -186,6 +190,7 @@ fn seen_live(counts: CaptureCounts) -> Seen {
         transactions: counts.transactions,
         stopped: counts.stopped,
         unexplained: counts.unexplained,
+        left_out: 0,
     }
 }
 
@@ -264,8 +269,9 @@ fn capture_in_form<R: AllocGlobal + Threads + Sync, I: Input, J: Input, O: Outpu
     let GivenPlan { plan, provenance } = plans.find(rt.alloc())?;
     let words = plans.words(&plan, &provenance);
     refuse_unknown(rt.alloc(), words, capture.drives)?;
+    let device = device_of(rt.alloc(), capture.bus.device, &provenance)?;
     let mut dump = open_driven(rt.alloc(), vcd, capture.bus, capture.drives)?;
-    let (told, alike) = capture_open(rt, words, &mut dump, out, capture, style)?;
+    let (told, alike) = capture_open(rt, words, &mut dump, out, capture, device, style)?;
     match told {
         Ok(told) => {
             let seen = Recorded::Bus(capture.bus.view.window, told.seen);
@@ -287,12 +293,13 @@ fn capture_open<R: AllocGlobal + Threads + Sync, J: Input, O: Output>(
     dump: &mut Dump<'_, '_, J>,
     out: &mut O,
     capture: Capture<'_>,
+    device: Option<Address>,
     style: Style,
 ) -> Result<(Result<Told, RunError>, Option<usize>), Halt>
     ensures status { IfOk result (λ it. IfOk it.0 (λ told. IsJudged capture.entry.bus.view.at_least told)) }
 {
     let mut drivers = drivers_of(rt.alloc(), capture.drives, dump.quiet());
-    let told = capture_dump(rt, words, dump, out, capture, style, &mut drivers);
+    let told = capture_dump(rt, words, dump, out, capture, device, style, &mut drivers);
     Ok((told, refuse_others(&drivers)?))
 }
 
@@ -303,6 +310,7 @@ fn capture_dump<R: AllocGlobal + Threads + Sync, J: Input, O: Output>(
     dump: &mut Dump<'_, '_, J>,
     out: &mut O,
     capture: Capture<'_>,
+    device: Option<Address>,
     style: Style,
     drivers: &mut Option<Drivers>,
 ) -> Result<Told, RunError>
@@ -310,7 +318,7 @@ fn capture_dump<R: AllocGlobal + Threads + Sync, J: Input, O: Output>(
 {
     let alloc = rt.alloc();
     let plan = words.plan();
-    let selection = Selection::new(capture.bus.view, dump.scale());
+    let selection = Selection::new(capture.bus.view, dump.scale()).with_device(device);
     let judging = judging_of(alloc, capture.drives, plan, words)?;
     let (selection, rises) = match style {
         Style::Objects => {
@@ -340,14 +348,14 @@ pub fn decode<J: Input, O: Output>(
     alloc: Global,
     vcd: &mut J,
     out: &mut O,
-    bus: Bus<'_>,
-    live: bool,
+    decoding: Decoding<'_>,
     style: Style,
     has_wave: bool,
 ) -> Result<Ended, Halt> {
-    let is_exact = bus.view.is_whole() && matches!(style, Style::Lines(_));
+    let Decoding { bus, live, .. } = decoding;
+    let is_exact = decoding.is_plain() && matches!(style, Style::Lines(_));
     if !is_exact || has_wave || reads_ahead(bus) {
-        return decode_in_form(alloc, vcd, out, bus, live, style, has_wave);
+        return decode_in_form(alloc, vcd, out, decoding, NAMELESS, style, has_wave);
     }
     let BusLines {
         scl,
@@ -358,6 +366,37 @@ pub fn decode<J: Input, O: Output>(
     let least = Quiet::of(min_pulse, None).least;
     decode_exactly(alloc, vcd, out, scl, sda, least, live, bus.view.window)
 }
+
+/// The same with the names that devices have in the briefs which the first readers give. These are read to their ends and judged
+/// before the dump is read.
+pub fn decode_with_names<I: Input, J: Input, O: Output>(
+    alloc: Global,
+    briefs: &mut Sources<'_, I>,
+    vcd: &mut J,
+    out: &mut O,
+    decoding: Decoding<'_>,
+    style: Style,
+    has_wave: bool,
+) -> Result<Ended, Halt> {
+    let GivenPlan { provenance, .. } = briefs.find_in_briefs(alloc)?;
+    let named = Named {
+        device: device_of(alloc, decoding.bus.device, &provenance)?,
+        names: provenance.origins.as_ref(),
+    };
+    decode_in_form(alloc, vcd, out, decoding, named, style, has_wave)
+}
+
+// The device that transactions have to call, and the briefs that have names of devices.
+#[derive(Clone, Copy)]
+struct Named<'a> {
+    device: Option<Address>,
+    names: Option<&'a Origins>,
+}
+
+const NAMELESS: Named<'static> = Named {
+    device: None,
+    names: None,
+};
 
 // The exact report, by the run of `byte_lines`.
 fn decode_exactly<J: Input, O: Output>(
@@ -394,6 +433,7 @@ fn seen_in_bytes(counts: ByteCounts) -> Seen {
         transactions: counts.transactions,
         stopped: counts.stopped,
         unexplained: 0,
+        left_out: 0,
     }
 }
 
@@ -402,26 +442,42 @@ fn decode_in_form<J: Input, O: Output>(
     alloc: Global,
     vcd: &mut J,
     out: &mut O,
-    bus: Bus<'_>,
-    live: bool,
+    decoding: Decoding<'_>,
+    named: Named<'_>,
     style: Style,
     has_wave: bool,
 ) -> Result<Ended, Halt>
-    ensures status { IfOk result (λ it. EndsJudged bus.entry.view.at_least 0 it) }
+    ensures status { IfOk result (λ it. EndsJudged decoding.entry.bus.view.at_least 0 it) }
 {
+    let Decoding { bus, live, .. } = decoding;
     let mut dump = open_dump(alloc, vcd, bus)?;
-    let selection = Selection::new(bus.view, dump.scale());
+    let selection = Selection::new(bus.view, dump.scale()).with_device(named.device);
+    let remarks = Remarks {
+        explain: decoding.explain,
+        pec: decoding.pec,
+        names: named.names,
+    };
     let mut recorder = if has_wave {
         Some(Recorder::new(alloc))
     } else {
         None
     };
     let told = match style {
-        Style::Objects => decode_objects(alloc, &mut dump, out, selection, live, &mut recorder),
-        Style::Lines(_) if bus.view.is_whole() => {
+        Style::Objects => {
+            let objects = DecodeObjects::new(alloc, selection, remarks, live, out)?;
+            decode_to(alloc, &mut dump, objects, &mut recorder)
+        }
+        Style::Lines(_) if decoding.rows => {
+            let rows = ByteRows::new(alloc, selection, live, out);
+            decode_to(alloc, &mut dump, rows, &mut Some(Timing::new(alloc)))
+        }
+        Style::Lines(_) if decoding.is_plain() && remarks.are_none() => {
             exact_bytes(alloc, &mut dump, out, selection, live, &mut recorder)
         }
-        Style::Lines(_) => decode_lines(alloc, &mut dump, out, selection, live, &mut recorder),
+        Style::Lines(_) => {
+            let lines = DecodeLines::new(alloc, selection, remarks, live, out)?;
+            decode_to(alloc, &mut dump, lines, &mut recorder)
+        }
     };
     let least = dump.quiet().least;
     let (selection, rises) = match told {
@@ -429,7 +485,7 @@ fn decode_in_form<J: Input, O: Output>(
         Err(error) => return Err(halted(dump, error)),
     };
     let wave = match recorder {
-        Some(recorder) => Some(Ok(draw_recording(alloc, recorder, least, bus.view.window)?)),
+        Some(recorder) => Some(Ok(draw_recording(alloc, recorder, least, selection.view())?)),
         None => None,
     };
     let recorded = Recorded::Bytes(bus.view.window, selection.seen);
@@ -446,14 +502,14 @@ fn draw_recording(
     alloc: Global,
     recorder: Recorder,
     least: u64,
-    window: Window,
+    view: View,
 ) -> Result<String, RunError> {
     let recorded = recorder.finish()?;
     if least == 0 {
-        return Ok(wave_of_recording(alloc, &recorded, &recorded, window)?);
+        return Ok(wave_of_recording(alloc, &recorded, &recorded, view)?);
     }
     let lasting = recorded.lasting(alloc, least)?;
-    Ok(wave_of_recording(alloc, &recorded, &lasting, window)?)
+    Ok(wave_of_recording(alloc, &recorded, &lasting, view)?)
 }
 
 // The exact lines, by the run of `byte_lines` over what gives the dump from its beginning on.
@@ -495,31 +551,6 @@ fn bytes_beside<J: Input, O: Output, B: Beside>(
         ..
     } = dump;
     write_decoded_beside(alloc, vcd, out, scl, sda, least, live, beside, wrong)
-}
-
-// Lines in which times, or what is told, are others.
-fn decode_lines<J: Input, O: Output>(
-    alloc: Global,
-    dump: &mut Dump<'_, '_, J>,
-    out: &mut O,
-    selection: Selection,
-    live: bool,
-    recorder: &mut Option<Recorder>,
-) -> Result<(Selection, Rises), RunError> {
-    let lines = DecodeLines::new(alloc, selection, live, out)?;
-    decode_to(alloc, dump, lines, recorder)
-}
-
-fn decode_objects<J: Input, O: Output>(
-    alloc: Global,
-    dump: &mut Dump<'_, '_, J>,
-    out: &mut O,
-    selection: Selection,
-    live: bool,
-    recorder: &mut Option<Recorder>,
-) -> Result<(Selection, Rises), RunError> {
-    let objects = DecodeObjects::new(alloc, selection, live, out)?;
-    decode_to(alloc, dump, objects, recorder)
 }
 
 // ---- learn and signals

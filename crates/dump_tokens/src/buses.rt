@@ -20,9 +20,16 @@ pub struct BusLines<'a> {
 pub struct Bus<'a> {
     pub lines: BusLines<'a>,
     pub view: View,
+    /// The device of a brief that they have to call. Its address is put into the view once that is read.
+    pub device: Option<&'a str>,
 }
 
 impl Bus<'_> {
+    /// Whether all transactions are told as they are.
+    pub fn is_whole(self) -> bool {
+        self.view.is_whole() && self.device.is_none()
+    }
+
     /// Whether a time has a unit.
     pub fn has_unit(self) -> bool {
         self.view.window.has_unit() || has_unit(self.lines.min_pulse)

@@ -1,5 +1,6 @@
 // Which part of a dump is told.
 
+use crate::filters::Filter;
 use crate::scales::Scale;
 use crate::times::Time;
 use std::cmp::Ordering;
@@ -61,6 +62,8 @@ pub struct View {
     /// How many Stopped transactions there are to be.
     pub at_least: Option<u32>,
     pub window: Window,
+    /// What is in them.
+    pub filter: Filter,
     /// Whether times are written in parts of a second, where the dump says what its numbers count.
     pub si: bool,
     /// Whether transactions are counted, and not told.
@@ -73,6 +76,7 @@ impl View {
         View {
             at_least: None,
             window: Window::whole(),
+            filter: Filter::NONE,
             si: false,
             summary: false,
         }
@@ -80,7 +84,12 @@ impl View {
 
     /// Whether all transactions are told as they are.
     pub fn is_whole(self) -> bool {
-        self.at_least.is_none() && self.window.is_whole() && !self.si && !self.summary
+        self.at_least.is_none() && self.tells_all() && !self.si && !self.summary
+    }
+
+    /// Whether no transaction is left out.
+    pub fn tells_all(self) -> bool {
+        self.window.is_whole() && self.filter.is_none()
     }
 }
 

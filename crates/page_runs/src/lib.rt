@@ -10,6 +10,7 @@ use decoding::{ExplainedSink, Explaining};
 use dump_findings::{Layout, Selection};
 use dump_tokens::Bus;
 use given_plans::{GivenPlan, Provenance};
+use message_tree::Address;
 use offers::{Offers, offers_of};
 use order::{order_of, order_report};
 use page::{Page, Recording, Texts, page_of};
@@ -18,7 +19,7 @@ use plan_words::PlanWords;
 use remedies::{Grouped, grouped_of};
 use report::{check_found, check_report, status_of};
 use run_parts::{Input, Output, RunError, Status, Watched, write_lines};
-use run_values::{Ended, Findings, Halt, Recorded, Sources, halted, open_dump};
+use run_values::{Ended, Findings, Halt, Recorded, Sources, device_of, halted, open_dump};
 use signals::{Dump, Recorder};
 use spellings::print_plan;
 use std::alloc::{AllocError, Global};
@@ -53,8 +54,9 @@ pub fn write_page_with<R: AllocGlobal + Threads + Sync, I: Input, J: Input, O: O
     let GivenPlan { plan, provenance } = plans.find(rt.alloc())?;
     let checked = check_found(rt, rt.alloc(), plan, 1, &NoGate)?;
     let words = plans.words(&checked.plan, &provenance);
+    let device = device_of(rt.alloc(), bus.device, &provenance)?;
     let mut written = Watched::new(Vec::new(rt.alloc()));
-    let (recording, seen, rises) = recording_of(rt, words, vcd, &mut written, bus)?;
+    let (recording, selection, rises) = recording_of(rt, words, vcd, &mut written, bus, device)?;
     let capture = written.into_inner();
     let capture = Shown {
         recording: &recording,
@@ -70,8 +72,8 @@ pub fn write_page_with<R: AllocGlobal + Threads + Sync, I: Input, J: Input, O: O
         out,
     )?;
     Ok(Ended {
-        status: worse(status_of(checked.faults.is_safe()), seen),
-        findings: Findings::Recording(Recorded::Other, rises, None),
+        status: worse(status_of(checked.faults.is_safe()), selection.status()),
+        findings: Findings::Recording(Recorded::Page(selection.seen), rises, None),
         wave: None,
         mended: None,
     })
@@ -84,16 +86,17 @@ struct Shown<'a> {
     report: &'a str,
 }
 
-// What a dump shows, with its explained report, the status of a run with that, and how often SCL rises.
+// What a dump shows, with its explained report, what that tells of, and how often SCL rises.
 fn recording_of<R: AllocGlobal + Threads + Sync, J: Input, O: Output>(
     rt: &R,
     words: PlanWords<'_>,
     vcd: &mut J,
     report: &mut O,
     bus: Bus<'_>,
-) -> Result<(Recording, Status, Rises), Halt> {
+    device: Option<Address>,
+) -> Result<(Recording, Selection, Rises), Halt> {
     let mut dump = open_dump(rt.alloc(), vcd, bus)?;
-    let selection = Selection::new(bus.view, dump.scale());
+    let selection = Selection::new(bus.view, dump.scale()).with_device(device);
     let recorder = Recorder::new(rt.alloc());
     match record(rt, words, &mut dump, report, selection, recorder) {
         Ok(recorded) => Ok(recorded),
@@ -108,7 +111,7 @@ fn record<R: AllocGlobal + Threads + Sync, J: Input, O: Output>(
     report: &mut O,
     selection: Selection,
     mut recorder: Recorder,
-) -> Result<(Recording, Status, Rises), RunError> {
+) -> Result<(Recording, Selection, Rises), RunError> {
     let alloc = rt.alloc();
     let lines = CaptureLines::new(alloc, words, selection, LAYOUT, report)?;
     let both = Both {
@@ -130,7 +133,7 @@ fn record<R: AllocGlobal + Threads + Sync, J: Input, O: Output>(
     let ending = ended?;
     let selection = lines.finish(dump.quiet(), ending)?;
     put_lines(alloc, &mut recording, recorder, dump.quiet().least)?;
-    Ok((recording, selection.status(), ending.rises))
+    Ok((recording, selection, ending.rises))
 }
 
 // Puts the two lines beside the transactions, also without what is shorter than this.

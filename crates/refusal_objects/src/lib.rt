@@ -31,6 +31,8 @@ pub enum Subject<'a> {
     Nothing,
     /// The controller of this name.
     Controller(&'a str),
+    /// The device of this name.
+    Device(&'a str),
     /// The offers of these numbers, as the command line has them.
     Offers(&'a str),
     /// These files.
@@ -68,6 +70,7 @@ struct Refusal<'a> {
     file: Option<&'a str>,
     label: Option<&'a str>,
     controller: Option<&'a str>,
+    device: Option<&'a str>,
     // as the command line has them
     offers: Option<&'a str>,
     files: Option<&'a [&'a str]>,
@@ -237,6 +240,10 @@ pub fn word_object(
                 controller: Some(name),
                 ..refusal
             },
+            Subject::Device(name) => Refusal {
+                device: Some(name),
+                ..refusal
+            },
             Subject::Offers(numbers) => Refusal {
                 offers: Some(numbers),
                 ..refusal
@@ -262,6 +269,7 @@ fn object_of(alloc: Global, reason: &str, refusal: Refusal<'_>) -> Result<String
     lines.field_if("file", &refusal.file);
     lines.field_if("label", &refusal.label);
     lines.field_if("controller", &refusal.controller);
+    lines.field_if("device", &refusal.device);
     lines.field_if("offers", &refusal.offers);
     lines.field_if("files", &refusal.files);
     lines.word_if("signal", refusal.signal);
@@ -351,6 +359,7 @@ fn coded(code: &'static str) -> Refusal<'static> {
         file: None,
         label: None,
         controller: None,
+        device: None,
         offers: None,
         files: None,
         signal: None,

@@ -10,8 +10,8 @@ use diagnostics::reason_of;
 use dump_findings::Seen;
 use dump_hints::{
     Names, on_bytes, on_choice, on_denied_line, on_dump, on_like_line, on_no_controller,
-    on_no_line, on_no_name, on_recording, on_rises, on_same_line, on_signals, on_silence,
-    on_unexplained,
+    on_no_device, on_no_line, on_no_name, on_none_passes, on_recording, on_rises, on_same_line,
+    on_signals, on_silence, on_unexplained,
 };
 use dump_tokens::Drive;
 use given_plans::Provenance;
@@ -157,17 +157,22 @@ fn on_recorded<F: Read + Seek + Drop>(
     recorded: Recorded,
 ) -> Result<Hints, AllocError> {
     match recorded {
-        Recorded::Bus(window, seen) if window.is_whole() => {
+        Recorded::Bus(_, seen) | Recorded::Bytes(_, seen) | Recorded::Page(seen)
+            if seen.transactions == 0 && seen.left_out != 0 => {
+            on_none_passes(alloc, seen.left_out)
+        }
+        Recorded::Bus(window, seen) if window.is_whole() && seen.left_out == 0 => {
             on_bus(alloc, vcd, names, status, seen)
         }
-        // what was left out by its time says nothing of the lines
+        // what was left out says nothing of the lines
         Recorded::Bus(..) => on_choice(alloc, vcd, names),
-        Recorded::Bytes(window, seen) if window.is_whole() && seen.stopped == 0 => {
+        Recorded::Bytes(window, seen)
+            if window.is_whole() && seen.left_out == 0 && seen.stopped == 0 => {
             on_bus(alloc, vcd, names, status, seen)
         }
         Recorded::Bytes(..) => on_bytes(alloc, vcd, names),
         Recorded::Signals => on_signals(alloc, vcd, names),
-        Recorded::Other => on_recording(alloc, vcd, names),
+        Recorded::Page(_) | Recorded::Other => on_recording(alloc, vcd, names),
     }
 }
 
@@ -279,6 +284,10 @@ fn tell<'x, R: Eprint + AllocGlobal>(
     let detail = match halt {
         Halt::NoTimescale => {
             return refused_by_word(rt, "timescale", Subject::Nothing, reason, format);
+        }
+        Halt::NoDevice(_) => {
+            let device = Subject::Device(errand.device());
+            return refused_by_word(rt, "device", device, reason, format);
         }
         Halt::NoDrive(number, _) => {
             let controller = Subject::Controller(drive_of(errand, *number).controller);
@@ -413,6 +422,7 @@ fn hints_on<F: Read + Seek + Drop>(
         }
         Halt::NoBrief(plan) => on_no_brief(alloc, brief_word(plan)),
         Halt::NoTimescale => on_no_timescale(alloc),
+        Halt::NoDevice(names) => on_no_device(alloc, errand.device(), names.as_slice()),
         Halt::NoDrive(number, why) => on_no_drive(alloc, drive_of(errand, *number), why),
         Halt::Untaken(untaken) => on_untaken(alloc, errand.named().files(), untaken),
         Halt::Run(RunError::Read) => on_reading(alloc, read.last, read.error.as_ref()),

@@ -63,8 +63,8 @@ impl<'a> Errand<'a> {
             | Request::Order { .. }
             | Request::Capture { .. }
             | Request::Bench { .. } => true,
-            Request::Learn { names, .. } => names.is_some(),
-            Request::Decode { .. } | Request::Signals { .. } => false,
+            Request::Learn { names, .. } | Request::Decode { names, .. } => names.is_some(),
+            Request::Signals { .. } => false,
             Request::Rewrite { rewriting, .. } => match rewriting {
                 Rewriting::Expand | Rewriting::Certify | Rewriting::Print => true,
                 Rewriting::Format(layout) => layout == Layout::Compared,
@@ -89,6 +89,10 @@ impl<'a> Errand<'a> {
             | Request::Capture { plan, .. }
             | Request::Bench { plan, .. } => named("PLAN", "plan", plan),
             Request::Learn {
+                names: Some(names),
+                ..
+            }
+            | Request::Decode {
                 names: Some(names),
                 ..
             } => named("--names", "brief", names),
@@ -134,6 +138,11 @@ impl<'a> Errand<'a> {
                 ..
             }
             | Request::Learn {
+                vcd,
+                names: Some(_),
+                ..
+            }
+            | Request::Decode {
                 vcd,
                 names: Some(_),
                 ..
@@ -200,11 +209,23 @@ impl<'a> Errand<'a> {
         }
     }
 
+    /// The device that the transactions of its dump have to call.
+    pub(crate) fn device(self) -> &'a str {
+        let device = match self.request {
+            Request::Capture { capture, .. } => capture.bus.device,
+            Request::Decode { decoding, .. } => decoding.bus.device,
+            Request::Page { bus, .. } => bus.device,
+            _ => None,
+        };
+        device.unwrap_or("")
+    }
+
     fn lines(self) -> BusLines<'a> {
         match self.request {
             Request::Capture { capture, .. } => capture.bus.lines,
             Request::Learn { lesson, .. } => lesson.bus.lines,
-            Request::Decode { bus, .. } | Request::Page { bus, .. } => bus.lines,
+            Request::Decode { decoding, .. } => decoding.bus.lines,
+            Request::Page { bus, .. } => bus.lines,
             Request::Signals { limits, .. } => BusLines {
                 min_pulse: limits.min_pulse,
                 ..NO_LINES
@@ -222,12 +243,13 @@ impl<'a> Errand<'a> {
     pub(crate) fn command(self, alloc: Global) -> Result<String, AllocError> {
         let mut text = Text::new(alloc);
         match self.request {
-            Request::Decode { vcd, .. } => push(alloc, &mut text, "twire decode ", vcd),
+            Request::Decode { vcd, names, .. } => {
+                push(alloc, &mut text, "twire decode ", vcd);
+                push_names(alloc, &mut text, names);
+            }
             Request::Learn { vcd, names, .. } => {
                 push(alloc, &mut text, "twire learn ", vcd);
-                if let Some(names) = names {
-                    push(alloc, &mut text, " --names ", names);
-                }
+                push_names(alloc, &mut text, names);
             }
             Request::Capture { plan, vcd, .. } => {
                 self.push_plan(alloc, &mut text, "twire capture ", plan);
@@ -271,6 +293,12 @@ fn named<'a>(argument: &'static str, what: &'static str, path: &'a str) -> Named
         argument,
         what,
         path,
+    }
+}
+
+fn push_names(alloc: Global, text: &mut Text, names: Option<&str>) {
+    if let Some(names) = names {
+        push(alloc, text, " --names ", names);
     }
 }
 

@@ -132,7 +132,7 @@ pub(crate) fn refused_by_word<R: Eprint + AllocGlobal>(
 
 fn say_refused_word<R: Eprint + AllocGlobal>(rt: &R, word: &'static str, subject: Subject<'_>) {
     let said = match subject {
-        Subject::Controller(name) => visible(rt.alloc(), name),
+        Subject::Controller(name) | Subject::Device(name) => visible(rt.alloc(), name),
         Subject::Offers(numbers) => String::from_str(rt.alloc(), numbers),
         Subject::Files(files) => listed(rt.alloc(), files),
         Subject::Edited(error, file) => edited_words(rt.alloc(), error, file),

@@ -75,9 +75,11 @@ pub enum Recorded {
     Bus(Window, Seen),
     /// The same in bytes.
     Bytes(Window, Seen),
+    /// The same on a page.
+    Page(Seen),
     /// Its signals were listed.
     Signals,
-    /// It was made into a brief or a page.
+    /// It was made into a brief.
     Other,
 }
 
@@ -98,6 +100,8 @@ pub enum Halt {
     NoBrief(Plan),
     /// A time was given with a unit, and the dump does not say what its numbers count.
     NoTimescale,
+    /// The brief has no device of the name that was given. These are its own.
+    NoDevice(Vec<String>),
     /// The line of the controller with this number is none that can be followed.
     NoDrive(usize, NoDrive),
     /// Offers are not taken.
@@ -144,9 +148,11 @@ impl Halt {
             Halt::Dump(error, _) => RunError::Vcd(*error),
             Halt::Text(error, _) => RunError::Plan(*error),
             Halt::NoBrief(_) => RunError::Brief(NoBrief::Name),
-            Halt::File(_) | Halt::NoTimescale | Halt::NoDrive(..) | Halt::Untaken(_) => {
-                RunError::Read
-            }
+            Halt::File(_)
+            | Halt::NoTimescale
+            | Halt::NoDevice(_)
+            | Halt::NoDrive(..)
+            | Halt::Untaken(_) => RunError::Read,
         }
     }
 }

@@ -10,7 +10,7 @@ mod endings;
 mod extras;
 mod sources;
 
-pub use dumps::{halted, halted_by, open_dump};
+pub use dumps::{device_of, halted, halted_by, open_dump};
 pub use endings::{
     Ended, Findings, Halt, Mended, NoDrive, Recorded, RefusedSource, Takes, UnreadFile,
 };

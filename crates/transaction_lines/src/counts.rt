@@ -1,8 +1,9 @@
 // The lines of a summary.
 
-use bus_rows::Labels;
-use dump_findings::{Addresses, Calls, Others, Seen, Tallies};
-use growing_text::Text;
+use bus_rows::{Labels, say};
+use dump_findings::{Addresses, Calls, Others, Seen, Tallies, Traffic, push_target};
+use growing_text::{Lines, Part, Text};
+use std::alloc::{AllocError, Global};
 
 /// How often each participant explains a transaction, in the order of their numbers, and then the rest.
 pub(crate) fn push_tallies(text: &mut Text, tallies: &Tallies, labels: &Labels) {
@@ -22,16 +23,59 @@ fn push_others(text: &mut Text, others: Others) {
     text.push("\n");
 }
 
-/// How often each address was called, and the rest.
-pub(crate) fn push_addresses(text: &mut Text, addresses: &Addresses) {
+/// How often each address was called, perhaps these lines of what for, and the rest.
+pub(crate) fn push_addresses(
+    text: &mut Text,
+    addresses: &Addresses,
+    traffic: Option<Result<String, AllocError>>,
+) {
     for calls in addresses.calls() {
         if calls.times != 0 {
             push_calls(text, *calls);
         }
     }
+    if let Some(traffic) = traffic {
+        text.push_made(traffic);
+    }
     push_count(text, "cut ", addresses.cut);
     push_count(text, "\nunfinished ", addresses.unfinished);
     text.push("\n");
+}
+
+/// What each target was called for, in all this time.
+pub(crate) fn traffic_lines(
+    alloc: Global,
+    addresses: &Addresses,
+    time: u64,
+) -> Result<String, AllocError> {
+    let mut lines = Lines::new(alloc);
+    for traffic in addresses.traffic() {
+        if traffic.transactions != 0 {
+            tell_traffic(alloc, &mut lines, *traffic, time);
+        }
+    }
+    lines.finish()
+}
+
+fn tell_traffic(alloc: Global, lines: &mut Lines, traffic: Traffic, time: u64) {
+    let mut target = Text::new(alloc);
+    push_target(&mut target, traffic.target);
+    let Ok(target) = target.finish() else {
+        return lines.cut();
+    };
+    let share = traffic.share(time);
+    let parts = [
+        Part::Name(target.as_str()),
+        Part::Number(traffic.transactions),
+        Part::Number(traffic.bytes),
+        Part::Number(traffic.refused_headers),
+        Part::Number(traffic.refused_bytes),
+        Part::Number(share / 10),
+        Part::Number(share % 10),
+    ];
+    let template =
+        "{}: {} transactions, {} bytes, {} headers and {} bytes refused, {}.{} % of time";
+    say(lines, template, &parts);
 }
 
 fn push_calls(text: &mut Text, calls: Calls) {

@@ -1,12 +1,13 @@
 // The lines of the transactions of a dump, without a plan.
 
-use crate::counts::{push_addresses, push_stopped};
+use crate::counts::{push_addresses, push_stopped, traffic_lines};
 use crate::moments::push_times;
+use crate::remarks::push_remarks;
 use crate::written::Written;
 use bus_rows::with_bytes;
 use capture_check::{Transaction, Until};
 use decoding::TransactionSink;
-use dump_findings::{Addresses, Selection};
+use dump_findings::{Addresses, Remarks, Selection};
 use growing_text::Text;
 use run_parts::{Output, RunError};
 use std::alloc::{AllocError, Global};
@@ -14,14 +15,15 @@ use std::mem;
 
 /// Writes the lines of transactions with their bytes.
 #[derive(Drop)]
-pub struct DecodeLines<'a, O> {
+pub struct DecodeLines<'a, 'w, O> {
     written: Written<'a, O>,
     selection: Selection,
+    remarks: Remarks<'w>,
     // where headers are counted, and transactions are not told
     addresses: Option<Addresses>,
 }
 
-impl<'a, O: Output> DecodeLines<'a, O> {
+impl<'a, 'w, O: Output> DecodeLines<'a, 'w, O> {
     ghost use Rattle.std.specs.Prelude.{◌≡◌, IfOk};
 
     /// Nothing has been written. Where it is live, all that has ended is written before the dump is read on.
@@ -32,13 +34,15 @@ impl<'a, O: Output> DecodeLines<'a, O> {
     pub fn new(
         alloc: Global,
         selection: Selection,
+        remarks: Remarks<'w>,
         live: bool,
         out: &'a mut O,
-    ) -> Result<DecodeLines<'a, O>, AllocError> {
+    ) -> Result<DecodeLines<'a, 'w, O>, AllocError> {
         let addresses = Addresses::wanted(alloc, &selection)?;
         Ok(DecodeLines {
             written: Written::new(alloc, live, out),
             selection,
+            remarks,
             addresses,
         })
     }
@@ -65,6 +69,9 @@ impl<'a, O: Output> DecodeLines<'a, O> {
         let text = mem::replace(&mut self.written.text, empty);
         self.written.text = with_bytes(self.written.alloc, text, transaction.marks.as_slice());
         self.written.text.push("\n");
+        if !self.remarks.are_none() {
+            push_remarks(&mut self.written.text, self.remarks, transaction);
+        }
     }
 
     /// Writes the last lines, and answers what those that were told come to.
@@ -89,14 +96,19 @@ impl<'a, O: Output> DecodeLines<'a, O> {
         ensures { self.new.selection ≡ self.old.selection }
     {
         if let Some(addresses) = &self.addresses {
-            push_addresses(&mut self.written.text, addresses);
+            if self.remarks.explain {
+                let lines = traffic_lines(self.written.alloc, addresses, self.selection.time());
+                push_addresses(&mut self.written.text, addresses, Some(lines));
+            } else {
+                push_addresses(&mut self.written.text, addresses, None);
+            }
         }
         push_stopped(&mut self.written.text, self.selection.seen);
         self.written.text.push("\n");
     }
 }
 
-impl<O: Output> TransactionSink for DecodeLines<'_, O> {
+impl<O: Output> TransactionSink for DecodeLines<'_, '_, O> {
     ghost use Rattle.decoding.specs.Sinks.{any_sink};
 
     ghost sink = { any_sink };

@@ -2,10 +2,11 @@
 //!
 //! `capture_lines` writes them with who explains each, and `decode_lines` without a plan (`written` hands lines on). Which of them
 //! are told, and what they come to, is found in `dump_findings`. `moments` has their times, `captures` what people read below
-//! them (`drove` who pulled the lines, `meetings` where two meet, and `pulse_lines` short levels), and `counts` the lines of a
-//! summary.
+//! them (`drove` who pulled the lines, `meetings` where two meet, `pulse_lines` short levels, and `remarks` whom they call), and
+//! `counts` the lines of a summary. `byte_rows` writes their bytes as a table.
 #![tactic(auto)]
 
+mod byte_rows;
 mod capture_lines;
 mod captures;
 mod counts;
@@ -14,7 +15,9 @@ mod drove;
 mod meetings;
 mod moments;
 mod pulse_lines;
+mod remarks;
 mod written;
 
+pub use byte_rows::ByteRows;
 pub use capture_lines::CaptureLines;
 pub use decode_lines::DecodeLines;

@@ -1,7 +1,9 @@
 // Which run a request is, over which files.
 
 use command_words::{Mend, Request, Taking};
-use dump_runs::{decode, explain_capture, learn, learn_with_names, list_signals};
+use dump_runs::{
+    decode, decode_with_names, explain_capture, learn, learn_with_names, list_signals,
+};
 use page_runs::{write_page_alone, write_page_with};
 use plan_runs::{bench, bench_alone, check, list_offers, order, rewrite, take_offers, verify};
 use run_ends::Errand;
@@ -59,11 +61,15 @@ pub fn run_over<
             explain_capture(rt, texts, given(second)?, out, capture, style)
         }
         Request::Decode {
-            bus,
-            live,
+            names: None,
+            decoding,
             wave,
             ..
-        } => decode(alloc, texts.first()?, out, bus, live, style, wave.is_some()),
+        } => decode(alloc, texts.first()?, out, decoding, style, wave.is_some()),
+        Request::Decode { decoding, wave, .. } => {
+            let vcd = given(second)?;
+            decode_with_names(alloc, texts, vcd, out, decoding, style, wave.is_some())
+        }
         Request::Signals { limits, .. } => list_signals(alloc, texts.first()?, out, limits, style),
         Request::Learn {
             names: None,

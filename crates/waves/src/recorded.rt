@@ -1,13 +1,13 @@
 // A recorded bus as waves: its two lines as they were recorded, and beside them the bytes as texts.
 
 use crate::spoken::{Said, said_of};
-use dump_tokens::{Scale, Window};
+use dump_tokens::{Scale, View};
 use growing_text::Text;
 use signals::RecordedLines;
 use std::alloc::{AllocError, Global};
 use vcd_read::{Level, Sample};
 
-/// The waves of a recorded bus. Its bytes are those of the levels that last, of the transactions that begin within the window.
+/// The waves of a recorded bus. Its bytes are those of the levels that last, of the transactions that are told.
 ///
 /// # Errors
 ///
@@ -16,9 +16,9 @@ pub fn wave_of_recording(
     alloc: Global,
     recorded: &RecordedLines,
     lasting: &RecordedLines,
-    window: Window,
+    view: View,
 ) -> Result<String, AllocError> {
-    let said = said_of(alloc, lasting, window)?;
+    let said = said_of(alloc, lasting, view)?;
     let mut wave = Wave::new(alloc, recorded.scale);
     wave.push_all(recorded, said.as_slice());
     wave.text.finish()

@@ -1,7 +1,8 @@
 // The bytes of a recorded bus as words, each from the time on at which it begins on the wire.
 
-use capture_check::{Event, Watch, What};
-use dump_tokens::{Scale, Window};
+use capture_check::{Event, Mark, Watch, What};
+use dump_findings::Passing;
+use dump_tokens::{Scale, View};
 use growing_text::Text;
 use signals::RecordedLines;
 use std::alloc::{AllocError, Global};
@@ -74,7 +75,7 @@ impl Bits {
     }
 }
 
-/// The words of the transactions in these levels that begin within the window.
+/// The words of the transactions in these levels that are told.
 ///
 /// # Errors
 ///
@@ -82,14 +83,16 @@ impl Bits {
 pub(crate) fn said_of(
     alloc: Global,
     lines: &RecordedLines,
-    window: Window,
+    view: View,
 ) -> Result<Vec<Said>, AllocError> {
     let mut speaker = Speaker {
         watch: Watch::new(),
-        window,
+        view,
         scale: lines.scale,
         heard: Heard::Unknown,
         is_told: false,
+        passing: Passing::new(view.filter),
+        before: 0,
         scl: Level::Unknown,
         fell: 0,
         began: 0,
@@ -104,6 +107,7 @@ pub(crate) fn said_of(
         speaker.sample(sample)?;
     }
     speaker.end_byte(true)?;
+    speaker.end();
     let Speaker { said, .. } = speaker;
     Ok(said)
 }
@@ -126,11 +130,13 @@ const NONE: Bits = Bits {
 #[derive(Drop)]
 struct Speaker {
     watch: Watch,
-    window: Window,
+    view: View,
     scale: Option<Scale>,
     heard: Heard,
-    // whether the transaction that goes on is told
+    // whether the transaction that goes on is told by its time, what of it is asked for, and how many words there were before it
     is_told: bool,
+    passing: Passing,
+    before: usize,
     // the level of SCL before, and when it fell last
     scl: Level,
     fell: u64,
@@ -155,12 +161,26 @@ impl Speaker {
     // (docs/CAPTURES.md, transactions)
     fn event(&mut self, event: Event) -> Result<(), AllocError> {
         match (self.heard, event.what) {
-            (Heard::Busy, What::Bit(level)) => self.bit(level)?,
-            (Heard::Busy, What::Start) => self.go_to(event.time, Word::Again, Heard::Busy)?,
-            (Heard::Busy, What::Stop) => self.go_to(event.time, Word::Stop, Heard::Free)?,
-            (Heard::Busy, What::Unknown) => self.go_to(event.time, Word::Cut, Heard::Unknown)?,
+            (Heard::Busy, What::Bit(level)) => {
+                self.passing.next(Mark::Level(level));
+                self.bit(level)?;
+            }
+            (Heard::Busy, What::Start) => {
+                self.passing.next(Mark::Again);
+                self.go_to(event.time, Word::Again, Heard::Busy)?;
+            }
+            (Heard::Busy, What::Stop) => {
+                self.go_to(event.time, Word::Stop, Heard::Free)?;
+                self.end();
+            }
+            (Heard::Busy, What::Unknown) => {
+                self.go_to(event.time, Word::Cut, Heard::Unknown)?;
+                self.end();
+            }
             (Heard::Free, What::Start) => {
-                self.is_told = self.window.has(self.scale, event.time);
+                self.is_told = self.view.window.has(self.scale, event.time);
+                self.passing = Passing::new(self.view.filter);
+                self.before = self.said.len();
                 self.go_to(event.time, Word::Start, Heard::Busy)?;
             }
             (Heard::Free, What::Known(false) | What::Unknown) => self.heard = Heard::Unknown,
@@ -168,6 +188,14 @@ impl Speaker {
             _ => {}
         }
         Ok(())
+    }
+
+    // The transaction ends: its words are left out where it is not asked for.
+    fn end(&mut self) {
+        if self.is_told && !self.passing.passes() {
+            self.said.truncate(self.before);
+        }
+        self.is_told = false;
     }
 
     // The byte that goes on is cut short, and a header comes next, if anything does.

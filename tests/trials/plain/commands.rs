@@ -32,11 +32,11 @@ pub struct Answer {
 }
 
 impl Answer {
-    fn written(status: u8, out: impl Into<String>) -> Answer {
+    pub fn written(status: u8, out: impl Into<String>) -> Answer {
         Answer { status, out: out.into(), refusal: String::new() }
     }
 
-    fn refused(refusal: impl Display) -> Answer {
+    pub fn refused(refusal: impl Display) -> Answer {
         Answer { status: 2, out: String::new(), refusal: refusal.to_string() }
     }
 }
@@ -197,17 +197,20 @@ pub fn decode_on(dump: &[u8], lines: &Lines) -> Answer {
 
 /// `twire decode --summary VCD`.
 pub fn decode_summary(dump: &[u8], scl: &str, sda: &str) -> Answer {
-    of_dump(dump, &Lines::named(scl, sda), |decoded| {
-        let calls = calls_of(&decoded.transactions);
-        let called = calls.iter().map(|((address, is_read), calls)| {
-            let direction = if *is_read { "Rd" } else { "Wr" };
-            format!("{address:02x} {direction} {} times, {} not acknowledged\n", calls.times, calls.nacks)
-        });
-        let all = decoded.transactions.len();
-        let unfinished = decoded.transactions.iter().filter(|it| it.until == Until::Unfinished).count();
-        let cut = all - decoded.stopped() - unfinished;
-        called.collect::<String>() + &format!("cut {cut}\nunfinished {unfinished}\n")
-    })
+    of_dump(dump, &Lines::named(scl, sda), |decoded| called_lines(decoded, ""))
+}
+
+/// The lines of addresses, these lines, and those of what no STOP ended.
+pub fn called_lines(decoded: &Decoded, more: &str) -> String {
+    let calls = calls_of(&decoded.transactions);
+    let called = calls.iter().map(|((address, is_read), calls)| {
+        let direction = if *is_read { "Rd" } else { "Wr" };
+        format!("{address:02x} {direction} {} times, {} not acknowledged\n", calls.times, calls.nacks)
+    });
+    let all = decoded.transactions.len();
+    let unfinished = decoded.transactions.iter().filter(|it| it.until == Until::Unfinished).count();
+    let cut = all - decoded.stopped() - unfinished;
+    called.collect::<String>() + more + &format!("cut {cut}\nunfinished {unfinished}\n")
 }
 
 /// `twire learn VCD`, perhaps beside the brief of a file. The brief, after that one, explains each transaction
@@ -237,7 +240,8 @@ pub fn decoded_lines_so_far(dump: &[u8], scl: &str, sda: &str) -> String {
     decoded_so_far(dump, scl, sda).iter().map(decoded_line).collect()
 }
 
-fn decoded_line(transaction: &Transaction) -> String {
+/// The line of a transaction in bytes.
+pub fn decoded_line(transaction: &Transaction) -> String {
     let end = match transaction.until {
         Until::Stopped(_) => "",
         Until::Cut(_) => "cut",

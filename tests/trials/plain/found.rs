@@ -2,7 +2,7 @@
 //! are made of these.
 
 use super::benches::{play_on, Answers, Player};
-use super::captures::{events_of, explains, samples_of, transactions_of, Event, Transaction, Until};
+use super::captures::{events_of, explains, samples_of, transactions_of, Event, Sample, Transaction, Until};
 use super::certificates::{read_certificate, Certificate, Wrong};
 use super::dumps::{changes_on, changes_so_far, Change, DumpRefusal};
 use super::lines::Lines;
@@ -116,14 +116,16 @@ pub fn played<'a>(
 /// What a dump shows: what happens, and the transactions that this makes.
 #[derive(Clone, Debug)]
 pub struct Decoded {
+    pub samples: Vec<Sample>,
     pub events: Vec<Event>,
     pub transactions: Vec<Transaction>,
 }
 
 impl Decoded {
     fn of(changes: &[Change]) -> Decoded {
-        let events = events_of(&samples_of(changes));
-        Decoded { transactions: transactions_of(&events), events }
+        let samples = samples_of(changes);
+        let events = events_of(&samples);
+        Decoded { transactions: transactions_of(&events), events, samples }
     }
 
     /// How many a STOP ended.

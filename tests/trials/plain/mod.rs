@@ -21,6 +21,7 @@ pub mod explained;
 pub mod found;
 pub mod generated;
 pub mod groups;
+pub mod having;
 pub mod layouts;
 pub mod learned;
 pub mod lines;

@@ -10,6 +10,7 @@ use super::drives::{driven, Does};
 use super::dumps::{changes_of, changes_on, Change, DumpRefusal, Level, Signal};
 use super::explained::{decided, Decided};
 use super::generated;
+use super::having::{crc8, Called, Having};
 use super::learned::{learned, Data};
 use super::lines::Lines;
 use super::pairs::proof_of;
@@ -555,6 +556,31 @@ fn what_was_seen_of_an_eeprom_is_learnt_as_the_page_says() {
     let page: String = page.lines().map(|line| format!("{}\n", line.strip_prefix("    ").unwrap_or(line))).collect();
     let controller = "controller seen write_50_r00_any write_50_r10 read_50_r00 ;\n";
     assert_eq!(learnt, format!("brief 1\n# seen: 5 transactions, 5 messages\n\n{page}\n{controller}"));
+}
+
+#[test]
+fn packet_error_codes() {
+    // (the check value that is told of this code: that of these digits)
+    assert_eq!(crc8(&"123456789".bytes().map(u32::from).collect::<Vec<u32>>()), 0xf4);
+    assert_eq!(crc8(&[]), 0);
+}
+
+// The patterns of the page: '10 ..' within a frame, '.. Wr 10' a write to register 10, '50 Wr 10 50 Rd' with a repeated START.
+#[test]
+fn what_transactions_have() {
+    let write = transaction(1, &[vec![0xa0, 0x10, 0x2a]]);
+    let read = transaction(2, &[vec![0xa0, 0x10], vec![0xa1, 0x33, 0x10]]);
+    let ten = transaction(3, &[vec![0xf4, 0xa5, 0x10], vec![0xf5, 0x33]]);
+    let asked = |bytes: &str| Having { bytes: Some(bytes.to_owned()), ..Having::default() };
+    let had = |having: Having| [&write, &read, &ten].map(|it| having.is_had_by(it));
+    assert_eq!(had(asked("10 ..")), [true, false, false]);
+    assert_eq!(had(asked(".. Wr 10")), [true, true, false]);
+    assert_eq!(had(asked("50 Wr 10 50 Rd")), [false, true, false]);
+    assert_eq!(had(asked("a5 1.")), [false, false, true]);
+    let called = |address| Having { address: Some(address), ..Having::default() };
+    assert_eq!(had(called(Called::Seven(0x50))), [true, true, false]);
+    assert_eq!(had(called(Called::Ten(0x2a5))), [false, false, true]);
+    assert_eq!(had(Having { nacked: true, ..Having::default() }), [false, false, false]);
 }
 
 // All is acknowledged but the last byte of a read.
