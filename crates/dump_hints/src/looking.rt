@@ -170,9 +170,9 @@ impl Looking for Wholes {
 #[derive(Clone, Copy)]
 pub(crate) struct Beginning {
     pub(crate) is_within: bool,
+    /// Whether the bus was not free when its levels became known.
+    pub(crate) is_busy: bool,
     watch: Watch,
-    // whether the bus was not free when its levels became known
-    is_busy: bool,
 }
 
 impl Beginning {
@@ -190,9 +190,14 @@ impl Beginning {
         match what {
             What::Known(is_free) => {
                 self.is_busy = !is_free;
-                self.is_busy
+                true
             }
-            What::Bit(_) | What::Start => {
+            // (also where both lines were HIGH, as in a HIGH period of SCL in the middle of a byte)
+            What::Bit(_) => {
+                self.is_within = true;
+                false
+            }
+            What::Start => {
                 self.is_within = self.is_busy;
                 false
             }

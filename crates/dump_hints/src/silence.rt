@@ -46,8 +46,13 @@ pub(crate) fn push_passed<F: Read + Seek>(
     names: Names<'_>,
 ) {
     let mut beginning = Beginning::new();
-    if look(alloc, file, names, &mut beginning).is_some() && beginning.is_within {
+    if look(alloc, file, names, &mut beginning).is_none() || !beginning.is_within {
+        return;
+    }
+    if beginning.is_busy {
         lines.say("the capture begins in a transaction, which is left out: its START is not there");
+    } else {
+        lines.say("the capture may begin in a transaction: both lines are HIGH at first, and bits come before a START");
     }
 }
 

@@ -1,7 +1,7 @@
 // The forms of transactions that are no exact lines: sinks that end by what they have told.
 
 use crate::driven::decode_with;
-use capture_check::{Beside, Rises};
+use capture_check::{Beside, Signs};
 use decoding::{Ending, ExplainedSink, Explaining, TransactionSink};
 use dump_findings::Selection;
 use dump_objects::{CaptureObjects, DecodeObjects};
@@ -37,11 +37,11 @@ pub(crate) fn decode_to<J: Input, S: DecodeForm, B: Beside>(
     dump: &mut Dump<'_, '_, J>,
     mut form: S,
     beside: &mut Option<B>,
-) -> Result<(Selection, Rises), RunError>
+) -> Result<(Selection, Signs), RunError>
     requires { S.needs }
 {
     let ending = decode_with(alloc, dump, &mut form, beside)?;
-    Ok((form.told()?, ending.rises))
+    Ok((form.told()?, ending.signs))
 }
 
 /// A form of transactions with who explains them. It may stop by itself.
@@ -75,7 +75,7 @@ pub(crate) fn capture_to<R: AllocGlobal + Threads + Sync, J: Input, S: CaptureFo
     dump: &mut Dump<'_, '_, J>,
     form: S,
     beside: &mut Option<B>,
-) -> Result<(Selection, Rises), RunError> {
+) -> Result<(Selection, Signs), RunError> {
     let alloc = rt.alloc();
     let mut explaining = Explaining {
         rt,
@@ -84,10 +84,10 @@ pub(crate) fn capture_to<R: AllocGlobal + Threads + Sync, J: Input, S: CaptureFo
         sink: form,
     };
     let ended = decode_with(alloc, dump, &mut explaining, beside);
-    let rises = match &ended {
-        Ok(ending) => ending.rises,
-        Err(_) => Rises::NONE,
+    let signs = match &ended {
+        Ok(ending) => ending.signs,
+        Err(_) => Signs::NONE,
     };
     let Explaining { sink, .. } = explaining;
-    Ok((sink.told(dump.quiet(), ended)?, rises))
+    Ok((sink.told(dump.quiet(), ended)?, signs))
 }

@@ -20,7 +20,7 @@ use crate::driven::{
 use crate::forms::{capture_to, decode_to};
 use bus_rows::Paint;
 use byte_lines::{ByteCounts, write_decoded, write_decoded_beside};
-use capture_check::{Beside, Rises};
+use capture_check::{Beside, Signs};
 use command_words::{Capture, Lesson};
 use drives::Drivers;
 use dump_findings::{Layout, Seen, Selection, status_of_seen};
@@ -43,13 +43,13 @@ use vcd_read::{Nobody, Probe, Wrong};
 use waves::wave_of_recording;
 
 // What a capture has come to: its status, what it tells, in how many transactions a controller departed from the rules of the
-// plan, and how often SCL rises.
+// plan, and how well it was recorded.
 #[derive(Clone, Copy)]
 struct Told {
     status: Status,
     seen: Seen,
     departed: u64,
-    rises: Rises,
+    signs: Signs,
 }
 
 // Whether the lines of a capture are the exact ones, and no others.
@@ -68,10 +68,10 @@ fn layout_of(capture: Capture<'_>, paint: Paint) -> Layout {
 }
 
 // The end of a run over a dump.
-fn ended(status: Status, recorded: Recorded, rises: Rises, alike: Option<usize>) -> Ended {
+fn ended(status: Status, recorded: Recorded, signs: Signs, alike: Option<usize>) -> Ended {
     Ended {
         status,
-        findings: Findings::Recording(recorded, rises, alike),
+        findings: Findings::Recording(recorded, signs, alike),
         wave: None,
         mended: None,
     }
@@ -133,7 +133,7 @@ fn capture_exactly<R: AllocGlobal + Threads + Sync, I: Input, J: Input, O: Outpu
             let seen = Recorded::Bus(window, seen_in(&captured));
             Ok(Ended {
                 status: captured.status,
-                findings: Findings::Recording(seen, captured.rises, None),
+                findings: Findings::Recording(seen, captured.signs, None),
                 wave: None,
                 mended: None,
             })
@@ -175,7 +175,7 @@ fn capture_live<R: AllocGlobal + Threads + Sync, I: Input, J: Input, O: Output>(
     match live_given(rt, alloc, readers, vcd, out, scl, sda, least, &mut wrong) {
         Ok(GivenLive { counts, .. }) => {
             let seen = Recorded::Bus(window, seen_live(counts));
-            Ok(ended(counts.status, seen, counts.rises, None))
+            Ok(ended(counts.status, seen, counts.signs, None))
         }
         Err(halted) => Err(halt_at(plans, halted, wrong)),
     }
@@ -204,7 +204,7 @@ fn capture_ahead<R: AllocGlobal + Threads + Sync, I: Input, J: Input, O: Output>
     match capture_picked(rt, &plan, dump.parts(), out, live) {
         Ok(told) => {
             let seen = Recorded::Bus(bus.view.window, told.seen);
-            Ok(ended(told.status, seen, told.rises, None))
+            Ok(ended(told.status, seen, told.signs, None))
         }
         Err(error) => Err(halted(dump, error)),
     }
@@ -233,7 +233,7 @@ fn capture_picked<R: AllocGlobal + Threads + Sync, J: Input, O: Output>(
                 status: counts.status,
                 seen: seen_live(counts),
                 departed: 0,
-                rises: counts.rises,
+                signs: counts.signs,
             }),
             Err(error) => Err(error),
         }
@@ -243,7 +243,7 @@ fn capture_picked<R: AllocGlobal + Threads + Sync, J: Input, O: Output>(
                 status: captured.status,
                 seen: seen_in(&captured),
                 departed: 0,
-                rises: captured.rises,
+                signs: captured.signs,
             }),
             Err(error) => Err(error),
         }
@@ -271,7 +271,7 @@ fn capture_in_form<R: AllocGlobal + Threads + Sync, I: Input, J: Input, O: Outpu
             let seen = Recorded::Bus(capture.bus.view.window, told.seen);
             Ok(Ended {
                 status: told.status,
-                findings: Findings::Recording(seen, told.rises, alike),
+                findings: Findings::Recording(seen, told.signs, alike),
                 wave: None,
                 mended: None,
             })
@@ -312,7 +312,7 @@ fn capture_dump<R: AllocGlobal + Threads + Sync, J: Input, O: Output>(
     let plan = words.plan();
     let selection = Selection::new(capture.bus.view, dump.scale());
     let judging = judging_of(alloc, capture.drives, plan, words)?;
-    let (selection, rises) = match style {
+    let (selection, signs) = match style {
         Style::Objects => {
             let layout = layout_of(capture, Paint::Plain);
             let objects = CaptureObjects::new(alloc, words, selection, layout, out)?;
@@ -329,7 +329,7 @@ fn capture_dump<R: AllocGlobal + Threads + Sync, J: Input, O: Output>(
         status: status_of_seen(capture.bus.view.at_least, seen, departed),
         seen,
         departed,
-        rises,
+        signs,
     })
 }
 
@@ -380,7 +380,7 @@ fn decode_exactly<J: Input, O: Output>(
             let seen = Recorded::Bytes(window, seen_in_bytes(counts));
             Ok(Ended {
                 status: Status::Good,
-                findings: Findings::Recording(seen, counts.rises, None),
+                findings: Findings::Recording(seen, counts.signs, None),
                 wave: None,
                 mended: None,
             })
@@ -424,7 +424,7 @@ fn decode_in_form<J: Input, O: Output>(
         Style::Lines(_) => decode_lines(alloc, &mut dump, out, selection, live, &mut recorder),
     };
     let least = dump.quiet().least;
-    let (selection, rises) = match told {
+    let (selection, signs) = match told {
         Ok(told) => told,
         Err(error) => return Err(halted(dump, error)),
     };
@@ -435,7 +435,7 @@ fn decode_in_form<J: Input, O: Output>(
     let recorded = Recorded::Bytes(bus.view.window, selection.seen);
     Ok(Ended {
         status: status_of_seen(bus.view.at_least, selection.seen, 0),
-        findings: Findings::Recording(recorded, rises, None),
+        findings: Findings::Recording(recorded, signs, None),
         wave,
         mended: None,
     })
@@ -464,7 +464,7 @@ fn exact_bytes<J: Input, O: Output>(
     mut selection: Selection,
     live: bool,
     recorder: &mut Option<Recorder>,
-) -> Result<(Selection, Rises), RunError> {
+) -> Result<(Selection, Signs), RunError> {
     let dump = dump.parts();
     let told = match recorder {
         Some(recorder) => bytes_beside(alloc, dump, out, live, recorder),
@@ -473,7 +473,7 @@ fn exact_bytes<J: Input, O: Output>(
     match told {
         Ok(counts) => {
             selection.seen = seen_in_bytes(counts);
-            Ok((selection, counts.rises))
+            Ok((selection, counts.signs))
         }
         Err(error) => Err(error),
     }
@@ -505,7 +505,7 @@ fn decode_lines<J: Input, O: Output>(
     selection: Selection,
     live: bool,
     recorder: &mut Option<Recorder>,
-) -> Result<(Selection, Rises), RunError> {
+) -> Result<(Selection, Signs), RunError> {
     let lines = DecodeLines::new(alloc, selection, live, out)?;
     decode_to(alloc, dump, lines, recorder)
 }
@@ -517,7 +517,7 @@ fn decode_objects<J: Input, O: Output>(
     selection: Selection,
     live: bool,
     recorder: &mut Option<Recorder>,
-) -> Result<(Selection, Rises), RunError> {
+) -> Result<(Selection, Signs), RunError> {
     let objects = DecodeObjects::new(alloc, selection, live, out)?;
     decode_to(alloc, dump, objects, recorder)
 }
@@ -626,7 +626,7 @@ fn learn_alone<J: Input, O: Output>(
         ..
     } = dump.parts();
     let (status, ending) = write_learned(alloc, vcd, out, scl, sda, least, seen, likeness, wrong)?;
-    Ok(ended(status, Recorded::Other, ending.rises, None))
+    Ok(ended(status, Recorded::Other, ending.signs, None))
 }
 
 fn learn_driven<J: Input, O: Output>(
@@ -644,7 +644,7 @@ fn learn_driven<J: Input, O: Output>(
     };
     let alike = refuse_others(&drivers)?;
     let status = write_seen(alloc, seen, likeness, out)?;
-    Ok(Ok(ended(status, Recorded::Other, ending.rises, alike)))
+    Ok(Ok(ended(status, Recorded::Other, ending.signs, alike)))
 }
 
 // Writes the brief of what was seen: what it means, and which paths that has, is promised of what is written.
@@ -680,7 +680,7 @@ pub fn list_signals<J: Input, O: Output>(
         Err(error) => return Err(halted_by(error, wrong)),
     };
     write_listed(alloc, &listed, out, style)?;
-    Ok(ended(Status::Good, Recorded::Signals, Rises::NONE, None))
+    Ok(ended(Status::Good, Recorded::Signals, Signs::NONE, None))
 }
 
 fn write_listed<O: Output>(

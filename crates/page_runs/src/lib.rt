@@ -5,7 +5,7 @@ ghost use Rattle.plan_core.specs.PlanContents.{plan_contents};
 ghost use Rattle.verdicts.specs.Faults.{AreFaults, fault_list};
 
 use bus_rows::Paint;
-use capture_check::{Rises, Transaction};
+use capture_check::{Signs, Transaction};
 use decoding::{ExplainedSink, Explaining};
 use dump_findings::{Layout, Selection};
 use dump_tokens::Bus;
@@ -54,7 +54,7 @@ pub fn write_page_with<R: AllocGlobal + Threads + Sync, I: Input, J: Input, O: O
     let checked = check_found(rt, rt.alloc(), plan, 1, &NoGate)?;
     let words = plans.words(&checked.plan, &provenance);
     let mut written = Watched::new(Vec::new(rt.alloc()));
-    let (recording, seen, rises) = recording_of(rt, words, vcd, &mut written, bus)?;
+    let (recording, seen, signs) = recording_of(rt, words, vcd, &mut written, bus)?;
     let capture = written.into_inner();
     let capture = Shown {
         recording: &recording,
@@ -71,7 +71,7 @@ pub fn write_page_with<R: AllocGlobal + Threads + Sync, I: Input, J: Input, O: O
     )?;
     Ok(Ended {
         status: worse(status_of(checked.faults.is_safe()), seen),
-        findings: Findings::Recording(Recorded::Other, rises, None),
+        findings: Findings::Recording(Recorded::Other, signs, None),
         wave: None,
         mended: None,
     })
@@ -84,14 +84,14 @@ struct Shown<'a> {
     report: &'a str,
 }
 
-// What a dump shows, with its explained report, the status of a run with that, and how often SCL rises.
+// What a dump shows, with its explained report, the status of a run with that, and how well it was recorded.
 fn recording_of<R: AllocGlobal + Threads + Sync, J: Input, O: Output>(
     rt: &R,
     words: PlanWords<'_>,
     vcd: &mut J,
     report: &mut O,
     bus: Bus<'_>,
-) -> Result<(Recording, Status, Rises), Halt> {
+) -> Result<(Recording, Status, Signs), Halt> {
     let mut dump = open_dump(rt.alloc(), vcd, bus)?;
     let selection = Selection::new(bus.view, dump.scale());
     let recorder = Recorder::new(rt.alloc());
@@ -108,7 +108,7 @@ fn record<R: AllocGlobal + Threads + Sync, J: Input, O: Output>(
     report: &mut O,
     selection: Selection,
     mut recorder: Recorder,
-) -> Result<(Recording, Status, Rises), RunError> {
+) -> Result<(Recording, Status, Signs), RunError> {
     let alloc = rt.alloc();
     let lines = CaptureLines::new(alloc, words, selection, LAYOUT, report)?;
     let both = Both {
@@ -130,7 +130,7 @@ fn record<R: AllocGlobal + Threads + Sync, J: Input, O: Output>(
     let ending = ended?;
     let selection = lines.finish(dump.quiet(), ending)?;
     put_lines(alloc, &mut recording, recorder, dump.quiet().least)?;
-    Ok((recording, selection.status(), ending.rises))
+    Ok((recording, selection.status(), ending.signs))
 }
 
 // Puts the two lines beside the transactions, also without what is shorter than this.

@@ -10,7 +10,7 @@ use diagnostics::reason_of;
 use dump_findings::Seen;
 use dump_hints::{
     Names, on_bytes, on_choice, on_denied_line, on_dump, on_like_line, on_no_controller,
-    on_no_line, on_no_name, on_recording, on_rises, on_same_line, on_signals, on_silence,
+    on_no_line, on_no_name, on_recording, on_signs, on_same_line, on_signals, on_silence,
     on_unexplained,
 };
 use dump_tokens::Drive;
@@ -86,11 +86,11 @@ pub(crate) fn advise<R: Eprint + AllocGlobal, F: Read + Seek + Drop>(
         ),
         Findings::Unanswered => on_no_answers(alloc),
         Findings::Fault => on_fault(alloc, errand.form().path()),
-        Findings::Recording(recorded, rises, alike) => {
+        Findings::Recording(recorded, signs, alike) => {
             let command = made(alloc, errand.command(alloc));
             let vcd = made(alloc, errand.vcd(alloc));
             let names = errand.names(command.as_str(), vcd.as_str());
-            say(rt, on_rises(alloc, names, rises), errand.extras);
+            say(rt, on_signs(alloc, names, signs), errand.extras);
             if let Some(number) = alike {
                 say(
                     rt,

@@ -2,7 +2,7 @@
 
 ghost use Rattle.std.specs.Prelude.{◌≡◌};
 
-use capture_check::Rises;
+use capture_check::Signs;
 use cert_check::Answered;
 use dump_findings::Seen;
 use dump_tokens::Window;
@@ -64,8 +64,8 @@ pub enum Findings {
     Unanswered,
     /// That what was written is the certificate of a fault.
     Fault,
-    /// What was made of a dump, how often SCL rises in it, and which line of a controller cannot be told apart from SDA.
-    Recording(Recorded, Rises, Option<usize>),
+    /// What was made of a dump, what says how well it was recorded, and which line of a controller cannot be told apart from SDA.
+    Recording(Recorded, Signs, Option<usize>),
 }
 
 /// What is made of a dump.
