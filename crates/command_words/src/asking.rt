@@ -71,6 +71,8 @@ const NOT_BITS: Fault = "the value for '--answers <BITS>' is not of 0 and 1";
 
 const NO_FILE: Fault = "'--wave' wants a file, since the report goes to standard output";
 
+const NOT_TIMED: Fault = "the argument '--timing' cannot be used with '--wave <FILE>'";
+
 const NOT_IN_PLACE: Fault = "'--in-place' wants a file, and standard input is none";
 
 const NOT_BOTH: Fault = "the argument '--in-place' cannot be used with '--check'";
@@ -474,18 +476,29 @@ fn capture_of<'a>(matches: &ArgMatches<'a>) -> Result<Request<'a>, Fault> {
     })
 }
 
+// A capture that is told while it is recorded is not read ahead, so its lines are those that are given.
 fn decode_of<'a>(matches: &ArgMatches<'a>) -> Result<Request<'a>, Fault> {
+    let options = options_of(matches)?;
+    let (live, wave) = (matches.get_flag("live"), wave_of(matches)?);
+    let bus = if live {
+        options.bus()
+    } else {
+        options.bus_or_only()
+    };
+    if wave.is_some() && bus.view.timing.is_some() {
+        return Err(NOT_TIMED);
+    }
     Ok(Request::Decode {
         vcd: word(matches, "VCD"),
-        bus: options_of(matches)?.bus(),
-        live: matches.get_flag("live"),
-        wave: wave_of(matches)?,
+        bus,
+        live,
+        wave,
     })
 }
 
 fn learn_of<'a>(matches: &ArgMatches<'a>) -> Result<Request<'a>, Fault> {
     let lesson = Lesson {
-        bus: options_of(matches)?.bus(),
+        bus: options_of(matches)?.bus_or_only(),
         merge: matches.get_flag("merge"),
         widen: matches.get_flag("widen"),
         drives: pulling_of(matches),
@@ -502,7 +515,7 @@ fn page_of<'a>(matches: &ArgMatches<'a>) -> Result<Request<'a>, Fault> {
     Ok(Request::Page {
         plan: word(matches, "PLAN"),
         capture: matches.get_str("capture"),
-        bus: options_of(matches)?.bus(),
+        bus: options_of(matches)?.bus_or_only(),
         output: output_of(matches),
     })
 }

@@ -1,7 +1,7 @@
 // What the options of a capture ask for.
 
 use clap::ArgMatches;
-use dump_tokens::{Bus, BusLines, Drive, Limits, Time, View, Window};
+use dump_tokens::{Bus, BusLines, Drive, Limits, Mode, Time, Timing, View, Window};
 use vcd_read::Probe;
 
 /// The options of a capture, as they were given.
@@ -19,6 +19,8 @@ pub(crate) struct Options<'a> {
     times: Option<&'a str>,
     summary: bool,
     explain: bool,
+    timing: bool,
+    mode: Option<&'a str>,
 }
 
 impl<'a> Options<'a> {
@@ -37,6 +39,8 @@ impl<'a> Options<'a> {
             times: matches.get_str("times"),
             summary: matches.get_flag("summary"),
             explain: matches.get_flag("explain"),
+            timing: matches.get_flag("timing"),
+            mode: matches.get_str("mode"),
         }
     }
 
@@ -44,6 +48,23 @@ impl<'a> Options<'a> {
     pub(crate) fn bus(&self) -> Bus<'a> {
         Bus {
             lines: self.lines(),
+            view: self.view(),
+        }
+    }
+
+    /// The same, where the only two signals that look like a bus may stand in for lines that are not given.
+    pub(crate) fn bus_or_only(&self) -> Bus<'a> {
+        let are_given = self.scl.is_some()
+            || self.sda.is_some()
+            || self.scl_code.is_some()
+            || self.sda_code.is_some()
+            || self.scope.is_some();
+        let lines = BusLines {
+            finds: !are_given,
+            ..self.lines()
+        };
+        Bus {
+            lines,
             view: self.view(),
         }
     }
@@ -62,6 +83,7 @@ impl<'a> Options<'a> {
             sda: probe_of(self.sda, self.sda_code, "sda"),
             scope: self.scope,
             min_pulse: time_of(self.min_pulse),
+            finds: false,
         }
     }
 
@@ -71,6 +93,19 @@ impl<'a> Options<'a> {
             window: self.window(),
             si: self.times == Some("si"),
             summary: self.summary,
+            timing: self.timing(),
+        }
+    }
+
+    fn timing(&self) -> Option<Timing> {
+        let mode = match self.mode {
+            Some(name) => Mode::of(name),
+            None => None,
+        };
+        match mode {
+            Some(mode) => Some(Timing::Against(mode)),
+            None if self.timing => Some(Timing::Alone),
+            None => None,
         }
     }
 

@@ -8,6 +8,17 @@ use std::alloc::{AllocError, Global};
 // How often SCL has to rise before anything is said of it.
 const ENOUGH: u64 = 8;
 
+/// What to say after a report on the only two signals of a capture that look like a bus, since it has neither line: the options that
+/// choose them.
+pub fn on_only(alloc: Global, options: &str) -> Result<Hints, AllocError> {
+    let mut lines = Lines::new(alloc);
+    lines.say(
+        "no signal of one bit has the name 'scl', and none has the name 'sda': these two were taken, the only ones that look like a bus",
+    );
+    lines.detail(options);
+    lines.finish()
+}
+
 // A change of SDA in the sample of a rise is nothing to speak of where it comes once, or once in so many rises.
 const ONE_OF: u64 = 32;
 

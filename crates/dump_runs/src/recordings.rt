@@ -71,7 +71,7 @@ fn layout_of(capture: Capture<'_>, paint: Paint) -> Layout {
 fn ended(status: Status, recorded: Recorded, signs: Signs, alike: Option<usize>) -> Ended {
     Ended {
         status,
-        findings: Findings::Recording(recorded, signs, alike),
+        findings: Findings::Recording(recorded, signs, alike, None),
         wave: None,
         mended: None,
     }
@@ -133,7 +133,7 @@ fn capture_exactly<R: AllocGlobal + Threads + Sync, I: Input, J: Input, O: Outpu
             let seen = Recorded::Bus(window, seen_in(&captured));
             Ok(Ended {
                 status: captured.status,
-                findings: Findings::Recording(seen, captured.signs, None),
+                findings: Findings::Recording(seen, captured.signs, None, None),
                 wave: None,
                 mended: None,
             })
@@ -271,7 +271,7 @@ fn capture_in_form<R: AllocGlobal + Threads + Sync, I: Input, J: Input, O: Outpu
             let seen = Recorded::Bus(capture.bus.view.window, told.seen);
             Ok(Ended {
                 status: told.status,
-                findings: Findings::Recording(seen, told.signs, alike),
+                findings: Findings::Recording(seen, told.signs, alike, None),
                 wave: None,
                 mended: None,
             })
@@ -380,7 +380,7 @@ fn decode_exactly<J: Input, O: Output>(
             let seen = Recorded::Bytes(window, seen_in_bytes(counts));
             Ok(Ended {
                 status: Status::Good,
-                findings: Findings::Recording(seen, counts.signs, None),
+                findings: Findings::Recording(seen, counts.signs, None, None),
                 wave: None,
                 mended: None,
             })
@@ -435,7 +435,7 @@ fn decode_in_form<J: Input, O: Output>(
     let recorded = Recorded::Bytes(bus.view.window, selection.seen);
     Ok(Ended {
         status: status_of_seen(bus.view.at_least, selection.seen, 0),
-        findings: Findings::Recording(recorded, signs, None),
+        findings: Findings::Recording(recorded, signs, None, dump.take_only()),
         wave,
         mended: None,
     })
@@ -626,7 +626,12 @@ fn learn_alone<J: Input, O: Output>(
         ..
     } = dump.parts();
     let (status, ending) = write_learned(alloc, vcd, out, scl, sda, least, seen, likeness, wrong)?;
-    Ok(ended(status, Recorded::Other, ending.signs, None))
+    Ok(Ended {
+        status,
+        findings: Findings::Recording(Recorded::Other, ending.signs, None, dump.take_only()),
+        wave: None,
+        mended: None,
+    })
 }
 
 fn learn_driven<J: Input, O: Output>(
@@ -680,7 +685,11 @@ pub fn list_signals<J: Input, O: Output>(
         Err(error) => return Err(halted_by(error, wrong)),
     };
     write_listed(alloc, &listed, out, style)?;
-    Ok(ended(Status::Good, Recorded::Signals, Signs::NONE, None))
+    let signs = Signs {
+        pulses: listed.pulses(),
+        ..Signs::NONE
+    };
+    Ok(ended(Status::Good, Recorded::Signals, signs, None))
 }
 
 fn write_listed<O: Output>(

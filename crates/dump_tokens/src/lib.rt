@@ -5,10 +5,11 @@
 //! Times of a dump (IEEE 1364-2005, 18.2.3.6) are numbers in the unit that its `$timescale` names; people also write them
 //! with a unit of their own. `units` has the parts of a second, `times` reads what people write, and `scales` what stands in
 //! a `$timescale`, and writes times of that scale. `windows` has which transactions are told by their times, `quiet` how long
-//! a level has to last, and `buses` which signals are the lines of a bus.
+//! a level has to last, `buses` which signals are the lines of a bus, and `modes` whose limits its times are to keep.
 #![tactic(auto)]
 
 mod buses;
+mod modes;
 mod parts;
 mod quiet;
 pub mod reading;
@@ -18,6 +19,7 @@ mod units;
 mod windows;
 
 pub use buses::{Bus, BusLines, Drive, Drives, Pulling};
+pub use modes::{Mode, Timing};
 pub use parts::{Part, Parts};
 pub use quiet::Quiet;
 pub use scales::Scale;

@@ -1,5 +1,6 @@
 // Which part of a dump is told.
 
+use crate::modes::Timing;
 use crate::scales::Scale;
 use crate::times::Time;
 use std::cmp::Ordering;
@@ -65,6 +66,8 @@ pub struct View {
     pub si: bool,
     /// Whether transactions are counted, and not told.
     pub summary: bool,
+    /// How times on the wire are told, where they are.
+    pub timing: Option<Timing>,
 }
 
 impl View {
@@ -75,12 +78,17 @@ impl View {
             window: Window::whole(),
             si: false,
             summary: false,
+            timing: None,
         }
     }
 
     /// Whether all transactions are told as they are.
     pub fn is_whole(self) -> bool {
-        self.at_least.is_none() && self.window.is_whole() && !self.si && !self.summary
+        self.at_least.is_none()
+            && self.window.is_whole()
+            && !self.si
+            && !self.summary
+            && self.timing.is_none()
     }
 }
 

@@ -189,6 +189,7 @@ impl<'a> Errand<'a> {
             sda,
             scope,
             min_pulse,
+            ..
         } = self.lines();
         Names {
             scl,
@@ -259,6 +260,7 @@ const NO_LINES: BusLines<'static> = BusLines {
     sda: Probe::Coded(""),
     scope: None,
     min_pulse: None,
+    finds: false,
 };
 
 // Whether this number of workers can be.
