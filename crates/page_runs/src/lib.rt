@@ -54,11 +54,7 @@ pub fn write_page_with<R: AllocGlobal + Threads + Sync, I: Input, J: Input, O: O
     let checked = check_found(rt, rt.alloc(), plan, 1, &NoGate)?;
     let words = plans.words(&checked.plan, &provenance);
     let mut written = Watched::new(Vec::new(rt.alloc()));
-    let mut dump = open_dump(rt.alloc(), vcd, bus)?;
-    let (recording, seen, signs) = match recording_of(rt, words, &mut dump, &mut written, bus) {
-        Ok(recorded) => recorded,
-        Err(error) => return Err(halted(dump, error)),
-    };
+    let (recording, seen, findings) = recording_of(rt, words, vcd, &mut written, bus)?;
     let capture = written.into_inner();
     let capture = Shown {
         recording: &recording,
@@ -75,7 +71,7 @@ pub fn write_page_with<R: AllocGlobal + Threads + Sync, I: Input, J: Input, O: O
     )?;
     Ok(Ended {
         status: worse(status_of(checked.faults.is_safe()), seen),
-        findings: Findings::Recording(Recorded::Other, signs, None, dump.take_only()),
+        findings,
         wave: None,
         mended: None,
     })
@@ -88,17 +84,36 @@ struct Shown<'a> {
     report: &'a str,
 }
 
-// What a dump shows, with its explained report, the status of a run with that, and how well it was recorded.
+// What a dump shows, with its explained report, the status of a run with that, and what people may be told of it.
 fn recording_of<R: AllocGlobal + Threads + Sync, J: Input, O: Output>(
+    rt: &R,
+    words: PlanWords<'_>,
+    vcd: &mut J,
+    report: &mut O,
+    bus: Bus<'_>,
+) -> Result<(Recording, Status, Findings), Halt> {
+    let mut dump = open_dump(rt.alloc(), vcd, bus)?;
+    let selection = Selection::new(bus.view, dump.scale());
+    let recorder = Recorder::new(rt.alloc());
+    match record(rt, words, &mut dump, report, selection, recorder) {
+        Ok((recording, status, signs)) => {
+            let only = dump.take_only();
+            let findings = Findings::Recording(Recorded::Other, signs, None, only);
+            Ok((recording, status, findings))
+        }
+        Err(error) => Err(halted(dump, error)),
+    }
+}
+
+fn record<R: AllocGlobal + Threads + Sync, J: Input, O: Output>(
     rt: &R,
     words: PlanWords<'_>,
     dump: &mut Dump<'_, '_, J>,
     report: &mut O,
-    bus: Bus<'_>,
+    selection: Selection,
+    mut recorder: Recorder,
 ) -> Result<(Recording, Status, Signs), RunError> {
     let alloc = rt.alloc();
-    let selection = Selection::new(bus.view, dump.scale());
-    let mut recorder = Recorder::new(alloc);
     let lines = CaptureLines::new(alloc, words, selection, LAYOUT, report)?;
     let both = Both {
         lines,
