@@ -152,12 +152,13 @@ fn with_last<B: Beside>(
     }
 }
 
-// The same transaction, with who pulled SDA in it.
+// The same transaction, with who pulled SDA in it, and its times.
 #[inline(always)]
 fn with_drove<B: Beside>(transaction: Transaction, beside: &mut B) -> Transaction
     ensures { recorded result ≡ recorded transaction }
 {
     let mut transaction = transaction;
     transaction.drove = beside.take_drove();
+    transaction.timed = beside.take_timed();
     transaction
 }

@@ -19,7 +19,7 @@ pub mod watching;
 pub mod widths;
 pub mod workers;
 
-pub use beside::{Beside, Drove, Moment};
+pub use beside::{Beside, Drove, LIMITED, Moment, Span, Timed};
 pub use explaining::explain;
 pub use following::{Follower, Signs};
 pub use listening::{Listener, Lost, Mark, Transaction, Until, transactions};

@@ -4,7 +4,7 @@ ghost use Rattle.std.specs.Prelude.{◌≡◌, IfOk, map};
 ghost use Rattle.capture_check.specs.Transactions.{transactions_of};
 ghost use Rattle.capture_check.specs.Views.{recorded};
 
-use crate::beside::Drove;
+use crate::beside::{Drove, Timed};
 use crate::watching::{Event, What};
 use std::alloc::{AllocError, Global};
 use std::mem;
@@ -41,6 +41,8 @@ pub struct Transaction {
     pub idle: u64,
     /// Who pulled SDA, where lines are followed that say so.
     pub drove: Option<Drove>,
+    /// Its times, where they were taken.
+    pub timed: Option<Timed>,
 }
 
 // What is known of the bus.
@@ -157,6 +159,7 @@ impl Listener {
                 marks,
                 idle: mem::replace(&mut self.idle, 0),
                 drove: None,
+                timed: None,
             }),
             _ => None,
         }

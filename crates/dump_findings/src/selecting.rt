@@ -4,7 +4,7 @@ ghost use Rattle.std.specs.Prelude.{◌≡◌};
 ghost use Rattle.dump_findings.specs.Statuses.{JudgesSeen, least_of};
 
 use capture_check::{Transaction, Until};
-use dump_tokens::{Scale, View};
+use dump_tokens::{Scale, Timing, View};
 use run_parts::Status;
 
 /// What a dump has shown, as far as it is told.
@@ -71,6 +71,21 @@ impl Selection {
     /// What the numbers of the dump count, where times are told in parts of a second.
     pub fn told_scale(&self) -> Option<Scale> {
         if self.view.si { self.scale } else { None }
+    }
+
+    /// How times on the wire are told, where they are.
+    pub fn timing(&self) -> Option<Timing> {
+        self.view.timing
+    }
+
+    /// What the numbers of the dump count, where that is known.
+    pub fn scale(&self) -> Option<Scale> {
+        self.scale
+    }
+
+    /// Whether this time of the dump is among those that are told.
+    pub fn has(&self, time: u64) -> bool {
+        self.view.window.has(self.scale, time)
     }
 
     /// Whether transactions are counted, and not told.

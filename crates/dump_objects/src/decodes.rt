@@ -1,5 +1,6 @@
 // Objects of the transactions of a dump, without a plan.
 
+use crate::timings::Clocking;
 use crate::transactions::{push_bytes, push_count, push_made, push_times};
 use crate::written::Written;
 use capture_check::Transaction;
@@ -9,6 +10,7 @@ use growing_text::Text;
 use object_lines::ObjectLines;
 use run_parts::{Output, RunError};
 use std::alloc::{AllocError, Global};
+use timing::{Stuck, Totals};
 
 /// Writes the objects of transactions with their bytes.
 #[derive(Drop)]
@@ -17,6 +19,8 @@ pub struct DecodeObjects<'a, O> {
     selection: Selection,
     // where headers are counted, and transactions are not told
     addresses: Option<Addresses>,
+    clocking: Clocking,
+    totals: Totals,
 }
 
 impl<'a, O: Output> DecodeObjects<'a, O> {
@@ -38,12 +42,18 @@ impl<'a, O: Output> DecodeObjects<'a, O> {
             written: Written::new(alloc, live, out),
             selection,
             addresses,
+            clocking: Clocking::of(&selection),
+            totals: Totals::new(),
         })
     }
 
     fn transaction(&mut self, transaction: &Transaction) {
         if !self.selection.takes(transaction, true) {
             return;
+        }
+        if let Some(timed) = &transaction.timed {
+            self.totals
+                .count(timed, self.clocking.scale, self.clocking.judging);
         }
         if let Some(addresses) = &mut self.addresses {
             return addresses.count(transaction);
@@ -52,18 +62,21 @@ impl<'a, O: Output> DecodeObjects<'a, O> {
         lines.begin("transaction");
         push_times(lines, transaction, self.selection.told_scale());
         push_bytes(lines, transaction);
+        if let Some(timed) = &transaction.timed {
+            self.clocking.push_timed(lines, timed);
+        }
         lines.end();
     }
 
-    /// Writes the last objects, and answers what those that were told come to.
+    /// Writes the last objects, with those of lines that were stuck, and answers what those that were told come to.
     ///
     /// # Errors
     ///
     /// `Write` where the writer failed or took no bytes, and `NoMemory`.
-    pub fn finish(mut self) -> Result<Selection, RunError>
+    pub fn finish(mut self, stuck: &[Stuck]) -> Result<Selection, RunError>
         ensures { IfOk result (λ it. it ≡ self.entry.selection) }
     {
-        self.push_last();
+        self.push_last(stuck);
         let DecodeObjects {
             written,
             selection,
@@ -72,12 +85,22 @@ impl<'a, O: Output> DecodeObjects<'a, O> {
         written.finish(selection)
     }
 
-    fn push_last(&mut self)
+    fn push_last(&mut self, stuck: &[Stuck])
         ensures { self.new.selection ≡ self.old.selection }
     {
+        let (clocking, selection) = (self.clocking, self.selection);
         let lines = &mut self.written.lines;
         if let Some(addresses) = &self.addresses {
             push_addresses(lines, addresses);
+            if selection.timing().is_some() {
+                clocking.push_totals(lines, &self.totals);
+            }
+        }
+        clocking.push_untold(lines);
+        for stuck in stuck {
+            if selection.has(stuck.span.from) {
+                clocking.push_stuck(lines, stuck);
+            }
         }
         lines.begin("transactions");
         lines.number("transactions", self.selection.seen.stopped);

@@ -11,23 +11,24 @@ use run_parts::{Input, Output, RunError};
 use signals::Dump;
 use std::alloc::Global;
 use std::thread::Threads;
+use timing::{Stopwatch, Stuck};
 use transaction_lines::{CaptureLines, DecodeLines};
 
 /// A form of transactions in bytes.
 pub(crate) trait DecodeForm: TransactionSink + Drop {
-    /// Writes what is left, and says what was told.
-    fn told(self) -> Result<Selection, RunError>;
+    /// Writes what is left, with the lines that were stuck, and says what was told.
+    fn told(self, stuck: &[Stuck]) -> Result<Selection, RunError>;
 }
 
 impl<O: Output> DecodeForm for DecodeLines<'_, O> {
-    fn told(self) -> Result<Selection, RunError> {
-        self.finish()
+    fn told(self, stuck: &[Stuck]) -> Result<Selection, RunError> {
+        self.finish(stuck)
     }
 }
 
 impl<O: Output> DecodeForm for DecodeObjects<'_, O> {
-    fn told(self) -> Result<Selection, RunError> {
-        self.finish()
+    fn told(self, stuck: &[Stuck]) -> Result<Selection, RunError> {
+        self.finish(stuck)
     }
 }
 
@@ -41,7 +42,21 @@ pub(crate) fn decode_to<J: Input, S: DecodeForm, B: Beside>(
     requires { S.needs }
 {
     let ending = decode_with(alloc, dump, &mut form, beside)?;
-    Ok((form.told()?, ending.signs))
+    Ok((form.told(&[])?, ending.signs))
+}
+
+/// The same with the times on the bus.
+pub(crate) fn decode_timed<J: Input, S: DecodeForm>(
+    alloc: Global,
+    dump: &mut Dump<'_, '_, J>,
+    mut form: S,
+) -> Result<(Selection, Signs), RunError>
+    requires { S.needs }
+{
+    let mut stopwatch = Stopwatch::new(alloc, dump.scale());
+    let ending = dump.decode_beside(alloc, &mut form, &mut stopwatch)?;
+    let stuck = stopwatch.finish()?;
+    Ok((form.told(stuck.as_slice())?, ending.signs))
 }
 
 /// A form of transactions with who explains them. It may stop by itself.

@@ -17,7 +17,7 @@ use crate::driven::{
     decode_with, drivers_of, judging_of, open_driven, refuse_no_names, refuse_others,
     refuse_unknown,
 };
-use crate::forms::{capture_to, decode_to};
+use crate::forms::{capture_to, decode_timed, decode_to};
 use bus_rows::Paint;
 use byte_lines::{ByteCounts, write_decoded, write_decoded_beside};
 use capture_check::{Beside, Signs};
@@ -507,6 +507,9 @@ fn decode_lines<J: Input, O: Output>(
     recorder: &mut Option<Recorder>,
 ) -> Result<(Selection, Signs), RunError> {
     let lines = DecodeLines::new(alloc, selection, live, out)?;
+    if selection.timing().is_some() {
+        return decode_timed(alloc, dump, lines);
+    }
     decode_to(alloc, dump, lines, recorder)
 }
 
@@ -519,6 +522,9 @@ fn decode_objects<J: Input, O: Output>(
     recorder: &mut Option<Recorder>,
 ) -> Result<(Selection, Signs), RunError> {
     let objects = DecodeObjects::new(alloc, selection, live, out)?;
+    if selection.timing().is_some() {
+        return decode_timed(alloc, dump, objects);
+    }
     decode_to(alloc, dump, objects, recorder)
 }
 

@@ -2,6 +2,7 @@
 
 use crate::counts::{push_addresses, push_stopped};
 use crate::moments::push_times;
+use crate::timing_lines::Clocking;
 use crate::written::Written;
 use bus_rows::with_bytes;
 use capture_check::{Transaction, Until};
@@ -11,6 +12,7 @@ use growing_text::Text;
 use run_parts::{Output, RunError};
 use std::alloc::{AllocError, Global};
 use std::mem;
+use timing::{Stuck, Totals};
 
 /// Writes the lines of transactions with their bytes.
 #[derive(Drop)]
@@ -19,6 +21,8 @@ pub struct DecodeLines<'a, O> {
     selection: Selection,
     // where headers are counted, and transactions are not told
     addresses: Option<Addresses>,
+    clocking: Clocking,
+    totals: Totals,
 }
 
 impl<'a, O: Output> DecodeLines<'a, O> {
@@ -40,12 +44,18 @@ impl<'a, O: Output> DecodeLines<'a, O> {
             written: Written::new(alloc, live, out),
             selection,
             addresses,
+            clocking: Clocking::of(alloc, &selection),
+            totals: Totals::new(),
         })
     }
 
     fn transaction(&mut self, transaction: &Transaction) {
         if !self.selection.takes(transaction, true) {
             return;
+        }
+        if let Some(timed) = &transaction.timed {
+            self.totals
+                .count(timed, self.clocking.scale, self.clocking.judging);
         }
         if let Some(addresses) = &mut self.addresses {
             return addresses.count(transaction);
@@ -65,17 +75,20 @@ impl<'a, O: Output> DecodeLines<'a, O> {
         let text = mem::replace(&mut self.written.text, empty);
         self.written.text = with_bytes(self.written.alloc, text, transaction.marks.as_slice());
         self.written.text.push("\n");
+        if let Some(timed) = &transaction.timed {
+            self.clocking.push_timed(&mut self.written.text, timed);
+        }
     }
 
-    /// Writes the last lines, and answers what those that were told come to.
+    /// Writes the last lines, with those of lines that were stuck, and answers what those that were told come to.
     ///
     /// # Errors
     ///
     /// `Write` where the writer failed or took no bytes, and `NoMemory`.
-    pub fn finish(mut self) -> Result<Selection, RunError>
+    pub fn finish(mut self, stuck: &[Stuck]) -> Result<Selection, RunError>
         ensures { IfOk result (λ it. it ≡ self.entry.selection) }
     {
-        self.push_rest();
+        self.push_rest(stuck);
         let DecodeLines {
             mut written,
             selection,
@@ -85,11 +98,19 @@ impl<'a, O: Output> DecodeLines<'a, O> {
         Ok(selection)
     }
 
-    fn push_rest(&mut self)
+    fn push_rest(&mut self, stuck: &[Stuck])
         ensures { self.new.selection ≡ self.old.selection }
     {
+        let (clocking, selection) = (self.clocking, self.selection);
         if let Some(addresses) = &self.addresses {
             push_addresses(&mut self.written.text, addresses);
+            clocking.push_totals(&mut self.written.text, &self.totals);
+        }
+        clocking.push_untold(&mut self.written.text);
+        for stuck in stuck {
+            if selection.has(stuck.span.from) {
+                clocking.push_stuck(&mut self.written.text, stuck);
+            }
         }
         push_stopped(&mut self.written.text, self.selection.seen);
         self.written.text.push("\n");

@@ -21,7 +21,8 @@ pub(crate) fn push_times(
     }
 }
 
-fn push_time(alloc: Global, text: &mut Text, scale: Option<Scale>, time: u64) {
+/// Adds a time of the dump.
+pub(crate) fn push_time(alloc: Global, text: &mut Text, scale: Option<Scale>, time: u64) {
     match scale {
         Some(scale) => text.push_made(scale.told(alloc, time)),
         None => text.push_number(time),
