@@ -96,12 +96,7 @@ impl<'a, O: Output> DecodeObjects<'a, O> {
                 clocking.push_totals(lines, &self.totals);
             }
         }
-        clocking.push_untold(lines);
-        for stuck in stuck {
-            if selection.has(stuck.span.from) {
-                clocking.push_stuck(lines, stuck);
-            }
-        }
+        clocking.push_end(lines, &selection, stuck);
         lines.begin("transactions");
         lines.number("transactions", self.selection.seen.stopped);
         lines.end();

@@ -90,8 +90,17 @@ impl Clocking {
         }
     }
 
-    /// Objects of the limits that the dump cannot tell.
-    pub(crate) fn push_untold(self, lines: &mut ObjectLines) {
+    /// Objects of the limits that the dump cannot tell, and of the lines that were stuck, as far as these are told.
+    pub(crate) fn push_end(self, lines: &mut ObjectLines, selection: &Selection, stuck: &[Stuck]) {
+        self.push_untold(lines);
+        for stuck in stuck {
+            if selection.has(stuck.span.from) {
+                self.push_stuck(lines, stuck);
+            }
+        }
+    }
+
+    fn push_untold(self, lines: &mut ObjectLines) {
         let Some(judging) = self.judging else {
             return;
         };
@@ -106,8 +115,7 @@ impl Clocking {
         }
     }
 
-    /// An object of a line that was stuck.
-    pub(crate) fn push_stuck(self, lines: &mut ObjectLines, stuck: &Stuck) {
+    fn push_stuck(self, lines: &mut ObjectLines, stuck: &Stuck) {
         lines.begin("stuck");
         lines.word("line", if stuck.clocks.is_some() { "sda" } else { "scl" });
         self.push_span(lines, stuck.span);

@@ -106,12 +106,7 @@ impl<'a, O: Output> DecodeLines<'a, O> {
             push_addresses(&mut self.written.text, addresses);
             clocking.push_totals(&mut self.written.text, &self.totals);
         }
-        clocking.push_untold(&mut self.written.text);
-        for stuck in stuck {
-            if selection.has(stuck.span.from) {
-                clocking.push_stuck(&mut self.written.text, stuck);
-            }
-        }
+        clocking.push_end(&mut self.written.text, &selection, stuck);
         push_stopped(&mut self.written.text, self.selection.seen);
         self.written.text.push("\n");
     }

@@ -136,8 +136,17 @@ impl Clocking {
         }
     }
 
-    /// Adds which limits the dump cannot tell.
-    pub(crate) fn push_untold(self, text: &mut Text) {
+    /// Adds which limits the dump cannot tell, and which lines were stuck, as far as these are told.
+    pub(crate) fn push_end(self, text: &mut Text, selection: &Selection, stuck: &[Stuck]) {
+        self.push_untold(text);
+        for stuck in stuck {
+            if selection.has(stuck.span.from) {
+                self.push_stuck(text, stuck);
+            }
+        }
+    }
+
+    fn push_untold(self, text: &mut Text) {
         let Some(judging) = self.judging else {
             return;
         };
@@ -154,8 +163,7 @@ impl Clocking {
         }
     }
 
-    /// Adds which lines were stuck.
-    pub(crate) fn push_stuck(self, text: &mut Text, stuck: &Stuck) {
+    fn push_stuck(self, text: &mut Text, stuck: &Stuck) {
         let line = if stuck.clocks.is_some() { "SDA" } else { "SCL" };
         self.push_shortest(text, line, stuck.span);
         text.push("stuck LOW");
