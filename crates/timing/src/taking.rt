@@ -151,7 +151,18 @@ impl Stopwatch {
         if let Some(lines) = self.lines {
             self.lose(lines, self.time)?;
         }
-        let Self { stuck, .. } = self;
+        let Self {
+            scale: _,
+            parts: _,
+            time: _,
+            lines: _,
+            stop: _,
+            start: _,
+            setup: _,
+            open: _,
+            clocks: _,
+            stuck,
+        } = self;
         Ok(stuck)
     }
 
@@ -309,7 +320,8 @@ impl Stopwatch {
             span,
             is_over,
             clocks,
-        })
+        })?;
+        Ok(())
     }
 
     // From this time on it is not known how the lines go on.
