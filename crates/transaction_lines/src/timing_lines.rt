@@ -129,7 +129,7 @@ impl Clocking {
                 self.push_miss(text, *limit, miss);
                 text.push(", in ");
                 text.push_number(tally.sure);
-                text.push(" transactions, perhaps in ");
+                text.push(", perhaps in ");
                 text.push_number(tally.unsure);
                 text.push(" more\n");
             }

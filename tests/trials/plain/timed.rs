@@ -46,7 +46,7 @@ pub fn decode_timed(dump: &[u8], lines: &Lines, asks: Asks) -> Answer {
     } else {
         for (transaction, times) in transactions.iter().zip(&all) {
             let how = match transaction.until {
-                Until::Stopped(_) => " ",
+                Until::Stopped(_) => "",
                 Until::Cut(_) => "cut",
                 Until::Unfinished => "unfinished",
             };
@@ -235,15 +235,12 @@ impl Asks {
     // The lines below a transaction.
     fn told(&self, times: &Times) -> String {
         let mut out = String::new();
-        let Some((from, low)) = longest(&times.lows) else {
-            return out;
-        };
-        let time = times.rises[times.rises.len() - 1] - times.rises[0];
-        if let Some(bit) = time.checked_div(times.rises.len() as u64 - 1) {
-            let rate = self.rate(times).map_or(format!("a bit takes {bit} steps"), in_kilohertz);
-            out += &format!("    {rate}, SCL LOW {} at most\n", self.time(low));
-        } else {
-            out += &format!("    SCL LOW {} at most\n", self.time(low));
+        let low = longest(&times.lows);
+        if let Some((_, low)) = low {
+            let time = times.rises[times.rises.len() - 1] - times.rises[0];
+            let bit = time.checked_div(times.rises.len() as u64 - 1).map(|bit| format!("a bit takes {bit} steps"));
+            let rate = self.rate(times).map(in_kilohertz).or(bit).map(|rate| rate + ", ");
+            out += &format!("    {}SCL LOW {} at most\n", rate.unwrap_or_default(), self.time(low));
         }
         for (place, wanted) in self.wanted().iter().flatten().enumerate() {
             if let Some((taken, is_sure)) = self.miss(&times.all[place], *wanted) {
@@ -251,7 +248,7 @@ impl Asks {
                 out.push('\n');
             }
         }
-        if self.mode == Some(3) && self.of(low) >= Some(TIMEOUT) {
+        if let Some((from, low)) = low.filter(|(_, low)| self.mode == Some(3) && self.of(*low) >= Some(TIMEOUT)) {
             let how = "devices may give up from 25 ms on, all do by 35 ms";
             out += &format!("    tTIMEOUT {} from {from} on: {how}\n", self.time(low));
         }
@@ -282,7 +279,7 @@ impl Asks {
             shortest.sort_by_key(|((_, steps), _)| *steps);
             if let Some((taken, is_sure)) = shortest.first() {
                 out += &self.miss_line(NAMES[place], *taken, *wanted, *is_sure);
-                out += &format!(", in {sure} transactions, perhaps in {} more\n", misses.len() - sure);
+                out += &format!(", in {sure}, perhaps in {} more\n", misses.len() - sure);
             }
         }
         out
