@@ -61,11 +61,11 @@ expect "two rates" 0 '48 Wr 2 times, 1 not acknowledged
 cut 0
 unfinished 0
     400.0 kHz to 400.0 kHz
-    SCL LOW 1.3 us from 10600 on: the longest
+    SCL LOW 1.3 us at 10600: the longest
 2 transactions' "" decode fast --timing --summary
 expect "no transaction" 0 "0 transactions" "" decode <(sed '/^#10000/,$d' plain) --timing
-expect "a transaction without a clock" 0 $'10000-10100  S P\n1 transactions' "" decode <(sed '/^#15000/,$d; $a #10100 1"' plain) --timing
-refuses "a mode without times" "the following required arguments were not provided" decode plain --mode fast
+expect "a transaction without a clock" 0 $'10000-10100  S P\n1 transactions' "" decode <(sed '/^#15000/,$d' plain; echo '#10100 1"') --timing
+refuses "a mode without times" "the following required arguments were not provided:" decode plain --mode fast
 refuses "no such mode" "invalid value 'slow' for '--mode <MODE>'" decode plain --timing --mode slow
 refuses "times and waves" "the argument '--timing' cannot be used with '--wave <FILE>'" decode plain --timing --wave wave
 
@@ -85,7 +85,7 @@ END_OF_LIMITS
 
 # missed FILE MODE: which times are told, each with how.
 missed() {
-    "$twire" decode "$1" --timing --mode "$2" 2>&1 | sed -n 's/^    \(t[^ ]*\) .* on: \(less than\|a step of .* cannot tell\) .*/\1 \2/p' | sort | uniq -c |
+    "$twire" decode "$1" --timing --mode "$2" 2>&1 | sed -n 's/^    \(t[^ ]*\) .* at [0-9]*: \(less than\|a step of .* cannot tell\) .*/\1 \2/p' | sort | uniq -c |
         sed 's/^ *//'
 }
 
@@ -108,14 +108,14 @@ done
 bus odd 1 "1 ns" 100100000 low=4699
 expect "what is told of one" 0 '10000-111990  S 48 Wr A P
     103.1 kHz, SCL LOW 4.699 us at most
-    tLOW 4.699 us from 15000 on: less than 4.7 us
+    tLOW 4.699 us at 15000: less than 4.7 us
 1 transactions' "" decode odd --timing --mode standard
 expect "in a summary" 0 '48 Wr 1 times, 0 not acknowledged
 cut 0
 unfinished 0
     103.1 kHz to 103.1 kHz
-    SCL LOW 4.699 us from 15000 on: the longest
-    tLOW 4.699 us from 15000 on: less than 4.7 us, in 1, perhaps in 0 more
+    SCL LOW 4.699 us at 15000: the longest
+    tLOW 4.699 us at 15000: less than 4.7 us in 1, maybe in 0 more
 1 transactions' "" decode odd --timing --mode standard --summary
 expect "a faster mode keeps it" 0 '10000-111990  S 48 Wr A P
     103.1 kHz, SCL LOW 4.699 us at most
@@ -125,14 +125,14 @@ expect "a faster mode keeps it" 0 '10000-111990  S 48 Wr A P
 bus tenths 100 "100 ns" 100100000 low=4600 dat=200
 expect "steps of 100 ns" 0 '100-1110  S 48 Wr A P
     104.2 kHz, SCL LOW 4.6 us at most
-    tLOW 4.6 us from 150 on: less than 4.7 us
-    tSU;DAT 200 ns from 194 on: a step of 100 ns cannot tell 250 ns
+    tLOW 4.6 us at 150: less than 4.7 us
+    tSU;DAT 200 ns at 194: a step of 100 ns cannot tell 250 ns
 1 transactions' "" decode tenths --timing --mode standard
 bus whole 1000 "1 us" 100100000 low=4000 high=3000
 expect "steps of 1 us" 0 '10-87  S 48 Wr A P
     142.9 kHz, SCL LOW 4 us at most
-    tLOW 4 us from 15 on: a step of 1 us cannot tell 4.7 us
-    tHIGH 3 us from 19 on: less than 4 us
+    tLOW 4 us at 15: a step of 1 us cannot tell 4.7 us
+    tHIGH 3 us at 19: less than 4 us
     tSU;DAT: a step of 1 us cannot tell 250 ns
 1 transactions' "" decode whole --timing --mode smbus
 expect "objects" 0 '{"kind":"transaction","from":10,"to":87,"end":"stop","bytes":"S 48 Wr A P","timing":{"rises":10,"rate":142857,"low":{"from":15,"lasts":4},"limits":[{"limit":"tLOW","from":15,"lasts":4,"least":"4.7 us","sure":false},{"limit":"tHIGH","from":19,"lasts":3,"least":"4 us","sure":true}],"timeout":false}}
@@ -165,24 +165,24 @@ DUMP
 head='$timescale 1 us $end $var wire 1 ! scl $end $var wire 1 " sda $end $enddefinitions $end'
 expect "SDA, and three clocks" 0 '10-30036  S 0b000(cut) P
     0.1 kHz, SCL LOW 13 us at most
-    SDA 30.021 ms from 10 on: stuck LOW, and HIGH after 3 clocks
+    SDA 30.021 ms at 10: stuck LOW, and HIGH after 3 clocks
 1 transactions' "" decode - --timing <<DUMP
 $head
 #0 1! 1" #10 0" #15 0! #20 1! #30000 0! #30005 1! #30010 0! #30015 1! #30020 0! #30031 1" #30032 0" #30033 1! #30036 1"
 DUMP
 expect "SDA to the end, and SCL for a while" 0 '10- unfinished S
     SCL LOW 30 ms at most
-    SCL 30 ms from 15 on: stuck LOW
-    SDA 60.01 ms from 10 on: stuck LOW, and still LOW after 0 clocks
+    SCL 30 ms at 15: stuck LOW
+    SDA 60.01 ms at 10: stuck LOW, and still LOW after 0 clocks
 0 transactions' "" decode - --timing <<DUMP
 $head
 #0 1! 1" #10 0" #15 0! #30015 1! #60020
 DUMP
 expect "a timeout of SMBus" 0 '10-26020  S P
     SCL LOW 26 ms at most
-    tTIMEOUT 26 ms from 15 on: devices may give up from 25 ms on, all do by 35 ms
+    tTIMEOUT 26 ms at 15: devices give up between 25 and 35 ms
     tSU;DAT: a step of 1 us cannot tell 250 ns
-    SCL 26 ms from 15 on: stuck LOW
+    SCL 26 ms at 15: stuck LOW
 1 transactions' "" decode - --timing --mode smbus <<DUMP
 $head
 #0 1! 1" #10 0" #15 0! #26015 1! #26020 1"
@@ -201,13 +201,13 @@ expect "what is stuck in objects" 0 '{"kind":"transaction","from":10,"end":"unfi
 $head
 #0 1! 1" #10 0" #15 0! #30015 1! #60020
 DUMP
-expect "only what is stuck from a time on" 0 '    SCL 30 ms from 15 on: stuck LOW
+expect "only what is stuck from a time on" 0 '    SCL 30 ms at 15: stuck LOW
 0 transactions' "" decode - --timing --from 11 <<DUMP
 $head
 #0 1! 1" #10 0" #15 0! #30015 1! #60020
 DUMP
 expect "SCL of which the level is no longer known" 0 '10-35000 cut S
-    SCL 34.985 ms from 15 on: stuck LOW, and still LOW
+    SCL 34.985 ms at 15: stuck LOW, and still LOW
 0 transactions' "" decode - --timing <<DUMP
 $head
 #0 1! 1" #10 0" #15 0! #35000 x!
@@ -237,8 +237,8 @@ hinted "the same of a brief" "2 levels of SCL last 30 to 100 steps of the dump, 
 # ---- the only two signals that look like a bus
 
 sed 's/ scl / D0 /; s/ sda / D1 /; s/^\$var.*D1/$var wire 1 # clk $end\n&/' plain >only
-taken="hint: no signal of one bit has the name 'scl', and none has the name 'sda': these
-hint: two were taken, the only ones that look like a bus
+taken="hint: no signal of one bit has the name 'scl', and none has the name 'sda':
+hint: these two were taken, the only ones that look like a bus
 hint:   --scl D0 --sda D1"
 report='10000-115000  S 48 Wr A P
 1 transactions'

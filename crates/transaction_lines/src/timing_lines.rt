@@ -45,12 +45,11 @@ impl Clocking {
         for limit in &LIMITS {
             if let Some(miss) = judging.miss(*limit, timed) {
                 self.push_miss(text, *limit, miss);
-                text.push("\n");
             }
         }
         if let Some(miss) = judging.timeout(timed) {
-            self.push_shortest(text, "tTIMEOUT", miss.span);
-            text.push("devices may give up from 25 ms on, all do by 35 ms\n");
+            self.push_span(text, "tTIMEOUT", miss.span);
+            text.push("devices give up between 25 and 35 ms\n");
         }
     }
 
@@ -74,26 +73,34 @@ impl Clocking {
 
     // A time that is less than its limit, or may be.
     fn push_miss(self, text: &mut Text, limit: Limit, miss: Miss) {
-        self.push_shortest(text, limit.name(), miss.span);
+        self.push_span(text, limit.name(), miss.span);
         if miss.is_sure {
             text.push("less than ");
+            self.push_wanted(text, miss.wanted);
+            text.push("\n");
         } else {
-            text.push("a step of ");
-            self.push_steps(text, 1);
-            text.push(" cannot tell ");
+            self.push_untold(text, miss.wanted);
         }
-        self.push_wanted(text, miss.wanted);
+    }
+
+    // That the dump cannot tell a value.
+    fn push_untold(self, text: &mut Text, wanted: Time) {
+        text.push("a step of ");
+        self.push_steps(text, 1);
+        text.push(" cannot tell ");
+        self.push_wanted(text, wanted);
+        text.push("\n");
     }
 
     // A time, and when it began.
-    fn push_shortest(self, text: &mut Text, name: &str, span: Span) {
+    fn push_span(self, text: &mut Text, name: &str, span: Span) {
         text.push("    ");
         text.push(name);
         text.push(" ");
         self.push_steps(text, span.steps);
-        text.push(" from ");
+        text.push(" at ");
         push_time(self.alloc, text, self.told, span.from);
-        text.push(" on: ");
+        text.push(": ");
     }
 
     fn push_wanted(self, text: &mut Text, wanted: Time) {
@@ -121,15 +128,17 @@ impl Clocking {
             text.push("\n");
         }
         if let Some(low) = totals.low {
-            self.push_shortest(text, "SCL LOW", low);
+            self.push_span(text, "SCL LOW", low);
             text.push("the longest\n");
         }
         for limit in &LIMITS {
             if let Some((tally, miss)) = totals.tally(*limit) {
-                self.push_miss(text, *limit, miss);
-                text.push(", in ");
+                self.push_span(text, limit.name(), miss.span);
+                text.push("less than ");
+                self.push_wanted(text, miss.wanted);
+                text.push(" in ");
                 text.push_number(tally.sure);
-                text.push(", perhaps in ");
+                text.push(", maybe in ");
                 text.push_number(tally.unsure);
                 text.push(" more\n");
             }
@@ -138,7 +147,9 @@ impl Clocking {
 
     /// Adds which limits the dump cannot tell, and which lines were stuck, as far as these are told.
     pub(crate) fn push_end(self, text: &mut Text, selection: &Selection, stuck: &[Stuck]) {
-        self.push_untold(text);
+        if let Some(judging) = self.judging {
+            self.push_limits(text, judging);
+        }
         for stuck in stuck {
             if selection.has(stuck.span.from) {
                 self.push_stuck(text, stuck);
@@ -146,26 +157,20 @@ impl Clocking {
         }
     }
 
-    fn push_untold(self, text: &mut Text) {
-        let Some(judging) = self.judging else {
-            return;
-        };
+    fn push_limits(self, text: &mut Text, judging: Judging) {
         for limit in &LIMITS {
             if let Some(wanted) = judging.untold(*limit) {
                 text.push("    ");
                 text.push(limit.name());
-                text.push(": a step of ");
-                self.push_steps(text, 1);
-                text.push(" cannot tell ");
-                self.push_wanted(text, wanted);
-                text.push("\n");
+                text.push(": ");
+                self.push_untold(text, wanted);
             }
         }
     }
 
     fn push_stuck(self, text: &mut Text, stuck: &Stuck) {
         let line = if stuck.clocks.is_some() { "SDA" } else { "SCL" };
-        self.push_shortest(text, line, stuck.span);
+        self.push_span(text, line, stuck.span);
         text.push("stuck LOW");
         if let Some(clocks) = stuck.clocks {
             text.push(", and ");

@@ -229,7 +229,7 @@ impl Asks {
 
     fn miss_line(&self, name: &str, (from, steps): Taken, wanted: u128, is_sure: bool) -> String {
         let how = if is_sure { "less than".into() } else { format!("a step of {} cannot tell", self.time(1)) };
-        format!("    {name} {} from {from} on: {how} {}", self.time(steps), in_unit(wanted))
+        format!("    {name} {} at {from}: {how} {}", self.time(steps), in_unit(wanted))
     }
 
     // The lines below a transaction.
@@ -249,8 +249,8 @@ impl Asks {
             }
         }
         if let Some((from, low)) = low.filter(|(_, low)| self.mode == Some(3) && self.of(*low) >= Some(TIMEOUT)) {
-            let how = "devices may give up from 25 ms on, all do by 35 ms";
-            out += &format!("    tTIMEOUT {} from {from} on: {how}\n", self.time(low));
+            let how = "devices give up between 25 and 35 ms";
+            out += &format!("    tTIMEOUT {} at {from}: {how}\n", self.time(low));
         }
         out
     }
@@ -270,16 +270,16 @@ impl Asks {
         }
         let lows: Vec<Taken> = all.iter().flat_map(|times| times.lows.clone()).collect();
         if let Some((from, low)) = longest(&lows) {
-            out += &format!("    SCL LOW {} from {from} on: the longest\n", self.time(low));
+            out += &format!("    SCL LOW {} at {from}: the longest\n", self.time(low));
         }
         for (place, wanted) in self.wanted().iter().flatten().enumerate() {
             let misses: Vec<_> = all.iter().filter_map(|times| self.miss(&times.all[place], *wanted)).collect();
             let sure = misses.iter().filter(|(_, is_sure)| *is_sure).count();
             let mut shortest = misses.clone();
             shortest.sort_by_key(|((_, steps), _)| *steps);
-            if let Some((taken, is_sure)) = shortest.first() {
-                out += &self.miss_line(NAMES[place], *taken, *wanted, *is_sure);
-                out += &format!(", in {sure}, perhaps in {} more\n", misses.len() - sure);
+            if let Some((taken, _)) = shortest.first() {
+                out += &self.miss_line(NAMES[place], *taken, *wanted, true);
+                out += &format!(" in {sure}, maybe in {} more\n", misses.len() - sure);
             }
         }
         out
@@ -304,14 +304,14 @@ impl Asks {
         for (from, to, is_over) in lows(part, |point| point.scl) {
             if self.of(to - from) >= Some(TIMEOUT) {
                 let end = if is_over { "" } else { ", and still LOW" };
-                found.push((to, 0, format!("    SCL {} from {from} on: stuck LOW{end}\n", self.time(to - from))));
+                found.push((to, 0, format!("    SCL {} at {from}: stuck LOW{end}\n", self.time(to - from))));
             }
         }
         for (from, to, is_over) in lows(part, |point| point.sda) {
             if let Some(clocks) = self.clocks(part, from, to) {
                 let end = if is_over { "HIGH" } else { "still LOW" };
                 let told = format!("stuck LOW, and {end} after {clocks} clocks");
-                found.push((to, 1, format!("    SDA {} from {from} on: {told}\n", self.time(to - from))));
+                found.push((to, 1, format!("    SDA {} at {from}: {told}\n", self.time(to - from))));
             }
         }
         found.sort();
