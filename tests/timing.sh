@@ -234,6 +234,12 @@ hinted "two of SCL" "2 levels of SCL last 30 to 100 steps of the dump, and the o
 hinted "the same of signals" "2 levels of SCL last 30 to 100 steps of the dump, and the others at least 1000: are they pulses? --min-pulse 200 leaves them out" ticks signals
 hinted "the same of a brief" "2 levels of SCL last 30 to 100 steps of the dump, and the others at least 1000: are they pulses? --min-pulse 200 leaves them out" ticks learn
 
+# A capture that begins before a bit that is 1, so that both lines are HIGH, with a repeated START after two bits; and one of
+# which the lines are exchanged.
+{ sed '/^#0/,$d' plain; printf '%s\n' '#0 1! 1"' '#5 0!' '#7 0"' '#10 1!' '#15 0!' '#17 1"' '#20 1!' '#25 0"' '#30 0!' '#35 1!' '#40 1"'; } >late
+hinted "a capture that may begin in a transaction" "the capture may begin in a transaction: both lines are HIGH at first, and bits come before a START" late decode
+hinted "not where its lines are exchanged" "0 of the transactions have whole bytes; with the two lines exchanged 1 would: are SCL and SDA exchanged?" plain decode --scl sda --sda scl
+
 # ---- the only two signals that look like a bus
 
 sed 's/ scl / D0 /; s/ sda / D1 /; s/^\$var.*D1/$var wire 1 # clk $end\n&/' plain >only

@@ -172,6 +172,8 @@ pub(crate) struct Beginning {
     pub(crate) is_within: bool,
     /// Whether the bus was not free when its levels became known.
     pub(crate) is_busy: bool,
+    // whether bits came on a bus that was taken for free
+    has_bits: bool,
     watch: Watch,
 }
 
@@ -180,8 +182,9 @@ impl Beginning {
     pub(crate) fn new() -> Beginning {
         Beginning {
             is_within: false,
-            watch: Watch::new(),
             is_busy: false,
+            has_bits: false,
+            watch: Watch::new(),
         }
     }
 
@@ -192,13 +195,13 @@ impl Beginning {
                 self.is_busy = !is_free;
                 true
             }
-            // (also where both lines were HIGH, as in a HIGH period of SCL in the middle of a byte)
-            What::Bit(_) => {
-                self.is_within = true;
-                false
+            // (both lines are HIGH in a HIGH period of SCL in the middle of a byte, too)
+            What::Bit(_) if !self.is_busy => {
+                self.has_bits = true;
+                true
             }
-            What::Start => {
-                self.is_within = self.is_busy;
+            What::Bit(_) | What::Start => {
+                self.is_within = self.is_busy || self.has_bits;
                 false
             }
             What::Stop | What::Unknown => false,
