@@ -225,14 +225,15 @@ hinted "none where the LOW before a STOP is short" "" <(sed 's/^#115000 /#110001
 # A spike of SDA while SCL is LOW, and one of 40 ns while it is HIGH, in the first bit, where SCL is HIGH from 20000 to 25000.
 hinted "none where SDA has a spike while SCL is LOW" "" <(sed 's/^#25000 0!$/&\n#25500 0"\n#25540 1"/' plain) decode
 sed 's/^#20000 1!$/&\n#21000 0"\n#21040 1"/' plain >spike
-hinted "one of SDA while SCL is HIGH" "1 levels of SDA last 40 to 40 steps of the dump while SCL is HIGH, where one of SCL lasts at least 5000: are they pulses? --min-pulse 80 leaves them out 8 bits follow 1 STOPs on a free bus, the first at 35000: is a STOP a glitch?" spike decode
-hinted "none that --min-pulse leaves out" "" spike decode --min-pulse 80
+hinted "one of SDA while SCL is HIGH" "1 levels of SDA last less than 64 steps of the dump while SCL is HIGH, where those of SCL last at least 4096: are they pulses? --min-pulse 64 leaves them out 8 bits follow 1 STOPs on a free bus, the first at 35000: is a STOP a glitch?" spike decode
+hinted "none that --min-pulse leaves out" "" spike decode --min-pulse 64
 # Two of SCL, one in a HIGH and one in a LOW, of the first of three transactions.
 bus three 1 "1 ns" 100100000 100100000 100100000
 sed 's/^#20000 1!$/&\n#22000 0!\n#22100 1!/; s/^#35000 0!$/&\n#36000 1!\n#36030 0!/' three >ticks
-hinted "two of SCL" "2 levels of SCL last 30 to 100 steps of the dump, and the others at least 1000: are they pulses? --min-pulse 200 leaves them out" ticks decode
-hinted "the same of signals" "2 levels of SCL last 30 to 100 steps of the dump, and the others at least 1000: are they pulses? --min-pulse 200 leaves them out" ticks signals
-hinted "the same of a brief" "2 levels of SCL last 30 to 100 steps of the dump, and the others at least 1000: are they pulses? --min-pulse 200 leaves them out" ticks learn
+hinted "two of SCL" "2 levels of SCL last less than 128 steps of the dump, and the others at least 512: are they pulses? --min-pulse 128 leaves them out" ticks decode
+hinted "none that --min-pulse leaves out" "" ticks decode --min-pulse 128
+hinted "the same of signals" "2 levels of SCL last less than 128 steps of the dump, and the others at least 512: are they pulses? --min-pulse 128 leaves them out" ticks signals
+hinted "the same of a brief" "2 levels of SCL last less than 128 steps of the dump, and the others at least 512: are they pulses? --min-pulse 128 leaves them out" ticks learn
 
 # A capture that begins before a bit that is 1, so that both lines are HIGH, with a repeated START after two bits; and one of
 # which the lines are exchanged.

@@ -2,55 +2,24 @@
 
 use crate::watching::Lines;
 
-// The levels whose lengths have one number of binary digits.
-#[derive(Clone, Copy)]
-struct Group {
-    count: u64,
-    least: u64,
-    most: u64,
-}
-
-const NOBODY: Group = Group {
-    count: 0,
-    least: 0,
-    most: 0,
-};
-
-impl Group {
-    // With so many levels more, of these lengths.
-    fn with(self, other: Group) -> Group {
-        match (self.count, other.count) {
-            (_, 0) => self,
-            (0, _) => other,
-            _ => Group {
-                count: self.count.saturating_add(other.count),
-                least: self.least.min(other.least),
-                most: self.most.max(other.most),
-            },
-        }
-    }
-}
-
 // A length has 64 binary digits at most, and 0 has none.
 const GROUPS: usize = 65;
 
 // So many binary digits less, and a level is short: it has between an eighth and a sixteenth of the usual, or less.
 const FEWER: usize = 4;
 
-/// The lengths of levels, counted by their binary digits.
+/// Levels, counted by how many binary digits their lengths have.
 #[derive(Clone, Copy)]
 pub struct Widths {
-    groups: [Group; GROUPS],
-    all: u64,
+    counts: [u64; GROUPS],
 }
 
 /// Levels that are too short for the others.
 #[derive(Clone, Copy)]
 pub struct Short {
     pub count: u64,
-    /// The least and the greatest of their lengths.
-    pub least: u64,
-    pub most: u64,
+    /// The least power of two that is more than the length of each.
+    pub below: u64,
 }
 
 /// The short levels of both lines: of SDA those that lie within one HIGH period of SCL.
@@ -58,7 +27,7 @@ pub struct Short {
 pub struct Pulses {
     pub scl: Short,
     pub sda: Short,
-    /// The least length of the other levels of SCL.
+    /// The greatest power of two that is not more than the length of any other level of SCL.
     pub usual: u64,
 }
 
@@ -70,31 +39,23 @@ impl Pulses {
         usual: 0,
     };
 
-    /// A time that leaves these out, and no other level of SCL: twice the longest of them, where that is not too much.
+    /// A time that leaves these out, and no other level of SCL.
     pub fn min_pulse(self) -> Option<u64> {
-        let longest = self.scl.most.max(self.sda.most);
-        if longest == 0 {
-            return None;
-        }
-        Some(longest.saturating_mul(2).min(self.usual))
+        let below = self.scl.below.max(self.sda.below);
+        (below != 0).then_some(below)
     }
 }
 
 impl Short {
     /// None.
-    pub const NONE: Short = Short {
-        count: 0,
-        least: 0,
-        most: 0,
-    };
+    pub const NONE: Short = Short { count: 0, below: 0 };
 }
 
 impl Widths {
     /// No level yet.
     pub fn new() -> Widths {
         Widths {
-            groups: [NOBODY; GROUPS],
-            all: 0,
+            counts: [0; GROUPS],
         }
     }
 
@@ -102,57 +63,57 @@ impl Widths {
     #[inline(always)]
     pub fn add(&mut self, width: u64) {
         let digits = 64u32.saturating_sub(width.leading_zeros()) as usize;
-        if let Some(group) = self.groups.get_mut(digits) {
-            *group = group.with(Group {
-                count: 1,
-                least: width,
-                most: width,
-            });
-            self.all = self.all.saturating_add(1);
+        if let Some(count) = self.counts.get_mut(digits) {
+            *count = count.saturating_add(1);
         }
     }
 
-    // How many digits a quarter of the levels have at most.
-    fn usual(&self) -> usize {
-        let mut count = 0u64;
-        for (digits, group) in self.groups.iter().enumerate() {
-            count = count.saturating_add(group.count);
-            if count > self.all / 4 {
-                return digits;
+    // Those with fewer digits.
+    fn below(&self, digits: usize) -> Short {
+        let mut short = Short::NONE;
+        for (own, count) in self.counts.iter().enumerate() {
+            if own < digits && *count != 0 {
+                short = Short {
+                    count: short.count.saturating_add(*count),
+                    below: power(own),
+                };
+            }
+        }
+        short
+    }
+
+    // The least number of digits with which, or with fewer, there are more levels than this.
+    fn digits_of(&self, number: u64) -> usize {
+        let mut all = 0u64;
+        for (own, count) in self.counts.iter().enumerate() {
+            all = all.saturating_add(*count);
+            if all > number {
+                return own;
             }
         }
         0
     }
 
-    // Those with at least as many digits as the first number says, and fewer than the second.
-    fn between(&self, from: usize, to: usize) -> Group {
-        let mut all = NOBODY;
-        for (digits, group) in self.groups.iter().enumerate() {
-            if from <= digits && digits < to {
-                all = all.with(*group);
-            }
-        }
-        all
-    }
-
-    // Those with fewer digits.
-    fn below(&self, digits: usize) -> Short {
-        let Group { count, least, most } = self.between(0, digits);
-        Short { count, least, most }
-    }
-
     /// The levels of a line that are too short for SCL, of which these are the lengths, beside those of SCL.
     pub fn pulses(&self, sda: &Widths) -> Pulses {
-        let digits = self.usual().saturating_sub(FEWER).saturating_add(1);
-        if self.usual() < FEWER {
+        // (more than a quarter are as short as usual)
+        let usual = self.digits_of(self.below(GROUPS).count / 4);
+        if usual < FEWER {
             return Pulses::NONE;
         }
+        let digits = usual.saturating_sub(FEWER).saturating_add(1);
+        let scl = self.below(digits);
+        let least = self.digits_of(scl.count);
         Pulses {
-            scl: self.below(digits),
+            scl,
             sda: sda.below(digits),
-            usual: self.between(digits, GROUPS).least,
+            usual: power(least.saturating_sub(1)),
         }
     }
+}
+
+fn power(of: usize) -> u64 {
+    1u64.wrapping_shl(of as u32)
 }
 
 /// Takes the lengths of levels as they end.

@@ -51,15 +51,15 @@ fn push_pulses(lines: &mut Lines, pulses: Pulses) {
     };
     let (scl, sda, usual) = (pulses.scl, pulses.sda, pulses.usual);
     if scl.count != 0 {
-        let (count, least, most) = (scl.count, scl.least, scl.most);
+        let (count, below) = (scl.count, scl.below);
         lines.say(format_args!(
-            "{count} levels of SCL last {least} to {most} steps of the dump, and the others at least {usual}: are they pulses?"
+            "{count} levels of SCL last less than {below} steps of the dump, and the others at least {usual}: are they pulses?"
         ));
     }
     if sda.count != 0 {
-        let (count, least, most) = (sda.count, sda.least, sda.most);
+        let (count, below) = (sda.count, sda.below);
         lines.say(format_args!(
-            "{count} levels of SDA last {least} to {most} steps of the dump while SCL is HIGH, where one of SCL lasts at least {usual}: are they pulses?"
+            "{count} levels of SDA last less than {below} steps of the dump while SCL is HIGH, where those of SCL last at least {usual}: are they pulses?"
         ));
     }
     lines.say(format_args!("--min-pulse {min_pulse} leaves them out"));
