@@ -62,9 +62,9 @@ impl Widths {
     /// One more level, of this length.
     #[inline(always)]
     pub fn add(&mut self, width: u64) {
-        let digits = 64u32.saturating_sub(width.leading_zeros()) as usize;
+        let digits = 64u32.wrapping_sub(width.leading_zeros()) as usize;
         if let Some(count) = self.counts.get_mut(digits) {
-            *count = count.saturating_add(1);
+            *count = count.wrapping_add(1);
         }
     }
 
@@ -146,12 +146,13 @@ impl Lengths {
         };
         if old.scl != new.scl {
             if let Some(from) = self.scl_from {
-                self.scl.add(time.saturating_sub(from));
+                // (no time is below the last one)
+                self.scl.add(time.wrapping_sub(from));
             }
             self.scl_from = Some(time);
         } else if old.sda != new.sda {
             if moved {
-                self.sda.add(time.saturating_sub(self.sda_from));
+                self.sda.add(time.wrapping_sub(self.sda_from));
             }
             self.sda_from = time;
         }
