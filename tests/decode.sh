@@ -198,7 +198,7 @@ hint:   libsigrok.D0
 hint:   libsigrok.D1
 hint: give the names that the lines have in the file with --scl NAME --sda NAME
 hint: two signals look like a bus; try
-hint:   twire decode $examples/probe_sigrok.vcd --scl D0 --sda D1" decode "$examples/probe_sigrok.vcd" --hints always
+hint:   twire decode $examples/probe_sigrok.vcd --scl D0 --sda D1" decode "$examples/probe_sigrok.vcd" --scl scl --hints always
 expect "no hint on a dump with transactions" 0 "$("$twire" decode three)" "" decode three --hints always
 expect "a hint on a free bus" 0 "0 transactions" "hint: the capture has 1 samples of the two lines, and no START on a free bus
 hint: the bus is free at times, but SDA never falls there while SCL stays HIGH

@@ -261,7 +261,7 @@ for pattern in '' ' ' 1 1g 100 'Wr' '80 Wr' '50 Wr Rd' '50 W' 'A' '10 A' '0 1 2'
 done
 refuses "a device, and no brief" "'--device' wants '--names <BRIEF>', which has the device" decode mixed --device eeprom
 refuses "codes of no transaction" "'--summary' leaves no transactions for '--pec'" decode mixed --summary --pec
-no_rows="'--format csv' is for 'decode', without '--summary', '--explain', '--pec' and '--wave'"
+no_rows="'--format csv' is for 'decode', without '--summary', '--explain', '--pec', '--timing' and '--wave'"
 for words in "check plan" "capture plan mixed" "decode mixed --summary" "decode mixed --explain" "decode mixed --pec" \
     "decode mixed --wave wave" "signals mixed"; do
     read -ra words <<<"$words"

@@ -127,7 +127,7 @@ done
 # ---- refusals: nothing is written, and the old file stays
 
 echo old >old.html
-refusal=$("$twire" page "${probe[@]}" -o old.html --hints never 2>&1)
+refusal=$("$twire" page "${probe[@]}" --scl scl -o old.html --hints never 2>&1)
 same "no such signal" "2 refused V1 scl old" "$? $refusal $(<old.html)"
 refusal=$("$twire" page "${probe[@]}" --scl D0 --sda D1 --from 1.5.5us -o old.html 2>&1 | head -n 1)
 same "a time that is none" "error: the value for '--from <TIME>' is no time as 15 or 1.5us old" "$refusal $(<old.html)"

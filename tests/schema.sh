@@ -58,6 +58,14 @@ asked expand - <<<$'brief 2\nwith "none" ;'
 asked print "$examples/two_writers.plan" -o nowhere/plan
 asked check - <<<$'brief 1\n# a \r device d 0x50 ;'
 asked decode - <<<"$heads"
+# Each time that a mode limits, too short; a limit that is less than a step; and both lines stuck.
+timed="100 ns \$end $heads \$end"' #0 1! 1" #100 0" #110 0! #119 1" #120 1! #130 0! #140 1! #150 0" #160 0! #170 1! #180 1" #190 0"
+#200 0! #210 1! #220 1"'
+stuck="1 us \$end $heads \$end"' #0 1! 1" #10 0" #15 0! #30015 1! #60015 0! #60020 1"'
+for summary in "" --summary; do
+    asked decode - --timing --mode standard $summary <<<"\$timescale $timed"
+    asked decode - --timing --mode smbus $summary <<<"\$timescale $stuck"
+done
 asked decode - <<<"${heads%%\$end*}"
 asked decode <(echo "$heads \$end #0 0! 0\" #1 1! #2 0!")
 lines on.plan "plan 1" "message m write 1001000 stop else stop ;" \

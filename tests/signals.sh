@@ -1022,7 +1022,7 @@ expect "odd times in parts of a second" 1 'brief 1
 controller seen ;' "" learn parts_glitch --to 5 --times si
 refuses "a time to learn from that is none" "the value for '--from <TIME>' is no time as 15 or 1.5us" learn parts --from x
 refuses "a summary of what is learned" "unexpected argument '--summary' found" learn parts --summary
-expect "a signal that is not there" 2 "" "refused V1 scl" learn blanks
+expect "a signal that is not there" 2 "" "refused V1 scl" learn blanks --scl scl
 
 # A read whose header is not acknowledged has one byte in a brief, for which 256 bytes leave no room.
 many_bytes() {

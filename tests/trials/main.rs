@@ -48,6 +48,7 @@ mod several;
 mod slips;
 mod tallies;
 mod texts;
+mod timings;
 mod unreadable;
 mod values;
 mod vectors;
@@ -77,6 +78,7 @@ use std::error::Error;
 use std::io;
 use std::path::PathBuf;
 use std::process::ExitCode;
+use timings::try_timings;
 use vectors::try_vectors;
 use versions::try_versions;
 use waves::try_waves;
@@ -178,6 +180,7 @@ fn try_all(orders: &Orders) -> Result<Score, Box<dyn Error>> {
     try_waves(&mut crew, &mut score, &cases, orders.seed, step)?;
     try_vectors(&mut crew, &mut score, orders.seed, step)?;
     try_drives(&mut crew, &mut score, orders.seed, step)?;
+    try_timings(&mut crew, &mut score, orders.seed, step)?;
     try_layouts(&mut crew, &mut score, &cases, orders.seed, step)?;
     if takes_refusals {
         try_scarce(&mut crew, &mut score, &cases)?;

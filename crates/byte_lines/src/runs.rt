@@ -73,7 +73,7 @@ pub fn write_decoded_beside<J: Input, O: Output, B: Beside>(
         live: _,
     } = lines;
     match ended {
-        Ok(ending) => write_last(out, telling, ending.rises),
+        Ok(ending) => write_last(out, telling, ending.signs),
         Err(error) => Err(error),
     }
 }

@@ -6,7 +6,7 @@ ghost use Rattle.run_parts.specs.Writing.{WritesAll, WritingStops};
 ghost use Rattle.run_parts.specs.declared.errors.RunError.TheVariants.{NoMemory};
 
 use crate::telling::{ByteReport, ByteTelling};
-use capture_check::{Rises, Transaction};
+use capture_check::{Signs, Transaction};
 use decoding::TransactionSink;
 use run_parts::{Output, RunError, write_report};
 
@@ -20,8 +20,8 @@ pub struct ByteCounts {
     pub transactions: u64,
     /// How many of them a STOP ended.
     pub stopped: u64,
-    /// How often SCL has risen.
-    pub rises: Rises,
+    /// What says how well it was recorded.
+    pub signs: Signs,
 }
 
 /// Writes the lines of transactions as they come, and counts them. Where it is live, the lines of all that has ended are written
@@ -61,7 +61,7 @@ impl<O: Output> ByteWriting<'_, O> {
 pub(crate) fn write_last<O: Output>(
     out: &mut O,
     telling: ByteTelling,
-    rises: Rises,
+    signs: Signs,
 ) -> Result<ByteCounts, RunError>
     ensures written { OnOk result (WritesAll O.writer out.old
         (string_bytes telling.lines ++ count_line telling.stopped) out.new) }
@@ -71,7 +71,7 @@ pub(crate) fn write_last<O: Output>(
         ⊎ WritingStops O.writer out.old (string_bytes telling.lines ++ count_line telling.stopped) error out.new) }
 {
     match telling.finish() {
-        Ok(report) => write_counted(out, &report, rises),
+        Ok(report) => write_counted(out, &report, signs),
         Err(error) => Err(RunError::from(error)),
     }
 }
@@ -80,7 +80,7 @@ pub(crate) fn write_last<O: Output>(
 fn write_counted<O: Output>(
     out: &mut O,
     report: &ByteReport,
-    rises: Rises,
+    signs: Signs,
 ) -> Result<ByteCounts, RunError>
     ensures written { OnOk result (WritesAll O.writer out.old (string_bytes report.now.report) out.new) }
     ensures transactions { IfOk result (λ it. it.transactions ≡ report.now.transactions) }
@@ -92,7 +92,7 @@ fn write_counted<O: Output>(
         Ok(()) => Ok(ByteCounts {
             transactions: report.transactions,
             stopped: report.stopped,
-            rises,
+            signs,
         }),
         Err(error) => Err(error),
     }

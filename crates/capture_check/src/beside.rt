@@ -76,6 +76,29 @@ pub struct Stretch {
     pub to: u64,
 }
 
+/// A time on the wire: when it began, and how many steps of the dump it took.
+#[derive(Clone, Copy)]
+pub struct Span {
+    pub from: u64,
+    pub steps: u64,
+}
+
+/// How many times on the wire have a least limit (UM10204, table 10).
+pub const LIMITED: usize = 7;
+
+/// The times in a transaction.
+#[derive(Clone, Copy)]
+pub struct Timed {
+    /// How often SCL rises, and when it first and last does.
+    pub rises: u64,
+    pub first: u64,
+    pub last: u64,
+    /// The longest LOW of SCL.
+    pub low: Option<Span>,
+    /// The shortest of each time that has a least limit.
+    pub least: [Option<Span>; LIMITED],
+}
+
 /// A sample of the bus, what happens there, and whether a transaction goes on, or begins.
 #[derive(Clone, Copy)]
 pub struct Moment<'a> {
@@ -105,6 +128,11 @@ pub trait Beside: Tokens {
 
     /// When each mark of it came, where that is kept.
     fn take_times(&mut self) -> Option<Vec<Stretch>> {
+        None
+    }
+
+    /// The times in it, where they were taken.
+    fn take_timed(&mut self) -> Option<Timed> {
         None
     }
 }

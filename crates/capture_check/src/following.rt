@@ -5,10 +5,31 @@ ghost use Rattle.capture_check.specs.Transactions.{before};
 ghost use Rattle.capture_check.specs.Views.{recorded, recorded_option};
 
 use crate::beside::{Beside, Moment};
-use crate::listening::{Listener, Transaction};
+use crate::listening::{Listener, Lost, Transaction};
 use crate::watching::{Rises, Watch};
+use crate::widths::Pulses;
 use std::alloc::{AllocError, Global};
 use vcd_read::Sample;
+
+/// What says how well a capture was recorded.
+#[derive(Clone, Copy)]
+pub struct Signs {
+    /// How often SCL has risen.
+    pub rises: Rises,
+    /// Which levels were short.
+    pub pulses: Pulses,
+    /// Which bits have followed a STOP.
+    pub lost: Lost,
+}
+
+impl Signs {
+    /// Before the first sample.
+    pub const NONE: Signs = Signs {
+        rises: Rises::NONE,
+        pulses: Pulses::NONE,
+        lost: Lost::NONE,
+    };
+}
 
 /// The bus, followed from sample to sample, however the samples are handed over.
 #[derive(Drop)]
@@ -103,9 +124,13 @@ impl Follower {
         self.listener.idle()
     }
 
-    /// How often SCL has risen.
-    pub fn rises(&self) -> Rises {
-        self.watch.rises()
+    /// What says how well it was recorded.
+    pub fn signs(&self) -> Signs {
+        Signs {
+            rises: self.watch.rises(),
+            pulses: self.watch.pulses(),
+            lost: self.listener.lost(),
+        }
     }
 }
 
@@ -127,7 +152,7 @@ fn with_last<B: Beside>(
     }
 }
 
-// The same transaction, with who pulled SDA in it, and when its marks came.
+// The same transaction, with who pulled SDA in it, when its marks came, and its times.
 #[inline(always)]
 fn with_drove<B: Beside>(transaction: Transaction, beside: &mut B) -> Transaction
     ensures { recorded result ≡ recorded transaction }
@@ -135,5 +160,6 @@ fn with_drove<B: Beside>(transaction: Transaction, beside: &mut B) -> Transactio
     let mut transaction = transaction;
     transaction.drove = beside.take_drove();
     transaction.times = beside.take_times();
+    transaction.timed = beside.take_timed();
     transaction
 }

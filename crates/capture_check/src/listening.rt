@@ -4,7 +4,7 @@ ghost use Rattle.std.specs.Prelude.{◌≡◌, IfOk, map};
 ghost use Rattle.capture_check.specs.Transactions.{transactions_of};
 ghost use Rattle.capture_check.specs.Views.{recorded};
 
-use crate::beside::{Drove, Stretch};
+use crate::beside::{Drove, Stretch, Timed};
 use crate::watching::{Event, What};
 use std::alloc::{AllocError, Global};
 use std::mem;
@@ -43,6 +43,8 @@ pub struct Transaction {
     pub drove: Option<Drove>,
     /// When each mark came, where that is kept.
     pub times: Option<Vec<Stretch>>,
+    /// Its times, where they were taken.
+    pub timed: Option<Timed>,
 }
 
 // What is known of the bus.
@@ -54,6 +56,25 @@ pub(crate) enum Heard {
     Busy(u64, Vec<Mark>),
 }
 
+/// Bits that belong to no transaction, since they follow STOPs.
+#[derive(Clone, Copy)]
+pub struct Lost {
+    pub bits: u64,
+    /// How many STOPs they follow.
+    pub stops: u64,
+    /// The time of the first bit.
+    pub first: u64,
+}
+
+impl Lost {
+    /// None.
+    pub const NONE: Lost = Lost {
+        bits: 0,
+        stops: 0,
+        first: 0,
+    };
+}
+
 /// The bus, followed from event to event.
 #[derive(Drop)]
 pub struct Listener {
@@ -61,6 +82,7 @@ pub struct Listener {
     // whether the bus is free since a transaction ended with a STOP, and how many bits have followed the last one
     pub(crate) follows: bool,
     pub(crate) idle: u64,
+    lost: Lost,
 }
 
 impl Listener {
@@ -77,6 +99,7 @@ impl Listener {
             heard: Heard::Unknown,
             follows: false,
             idle: 0,
+            lost: Lost::NONE,
         }
     }
 
@@ -106,11 +129,24 @@ impl Listener {
                 self.heard = Heard::Unknown;
                 self.follows = false;
             }
-            (Heard::Free, What::Bit(_)) if self.follows => self.idle = self.idle.saturating_add(1),
+            (Heard::Free, What::Bit(_)) if self.follows => self.lose(event.time),
             (Heard::Unknown, What::Known(true) | What::Stop) => self.heard = Heard::Free,
             _ => {}
         }
         Ok(None)
+    }
+
+    // A bit follows a STOP.
+    fn lose(&mut self, time: u64)
+        ensures { self.new.heard ≡ self.old.heard }
+    {
+        let lost = self.lost;
+        self.lost = Lost {
+            bits: lost.bits.saturating_add(1),
+            stops: lost.stops.saturating_add(u64::from(self.idle == 0)),
+            first: if lost.bits == 0 { time } else { lost.first },
+        };
+        self.idle = self.idle.saturating_add(1);
     }
 
     // The transaction that goes on, if any, ends so, and this is then known of the bus.
@@ -126,6 +162,7 @@ impl Listener {
                 idle: mem::replace(&mut self.idle, 0),
                 drove: None,
                 times: None,
+                timed: None,
             }),
             _ => None,
         }
@@ -155,6 +192,11 @@ impl Listener {
     /// How many bits have followed the STOP of the last transaction, as long as both levels were known.
     pub fn idle(&self) -> u64 {
         self.idle
+    }
+
+    /// Which bits have followed any STOP.
+    pub fn lost(&self) -> Lost {
+        self.lost
     }
 }
 

@@ -3,6 +3,7 @@
 ghost use Rattle.std.specs.Prelude.{◌≡◌, IfOk};
 ghost use Rattle.capture_check.specs.Events.{events_of, known_lines, what_between, moved_between};
 
+use crate::widths::{Lengths, Pulses};
 use std::alloc::{AllocError, Global};
 use vcd_read::{Level, Sample};
 
@@ -69,6 +70,7 @@ pub struct Watch {
     // SDA has changed in the HIGH period of SCL that goes on.
     pub(crate) moved: bool,
     rises: Rises,
+    lengths: Lengths,
 }
 
 impl Watch {
@@ -84,6 +86,7 @@ impl Watch {
             lines: None,
             moved: false,
             rises: Rises::NONE,
+            lengths: Lengths::new(),
         }
     }
 
@@ -96,6 +99,7 @@ impl Watch {
         let new = lines_of(sample.scl, sample.sda);
         let what = what_between(old, self.moved, new);
         self.rises = self.rises.after(old, new);
+        self.lengths.next(old, self.moved, new, sample.time);
         self.lines = new;
         self.moved = moved_between(old, self.moved, new);
         match what {
@@ -118,6 +122,11 @@ impl Watch {
     /// How often SCL has risen.
     pub fn rises(&self) -> Rises {
         self.rises
+    }
+
+    /// Which levels were short.
+    pub fn pulses(&self) -> Pulses {
+        self.lengths.pulses()
     }
 }
 

@@ -9,7 +9,7 @@ use crate::requests::{
 use crate::table::COMMANDS;
 use clap::error::ErrorKind;
 use clap::{ArgMatches, Error};
-use dump_tokens::{Drive, Drives, Pulling};
+use dump_tokens::{Bus, Drive, Drives, Pulling};
 use std::alloc::{AllocError, Global};
 
 /// What a command line comes to.
@@ -72,6 +72,8 @@ const NOT_BITS: Fault = "the value for '--answers <BITS>' is not of 0 and 1";
 
 const NO_FILE: Fault = "'--wave' wants a file, since the report goes to standard output";
 
+const NOT_TIMED: Fault = "the argument '--timing' cannot be used with '--wave <FILE>'";
+
 const NOT_IN_PLACE: Fault = "'--in-place' wants a file, and standard input is none";
 
 const NOT_BOTH: Fault = "the argument '--in-place' cannot be used with '--check'";
@@ -90,7 +92,7 @@ const NOT_SEVERAL: Fault = "several files go with '--check' alone";
 const INPUT_TWICE: Fault = "standard input can be one of the files, and not two";
 
 const NO_ROWS: Fault =
-    "'--format csv' is for 'decode', without '--summary', '--explain', '--pec' and '--wave'";
+    "'--format csv' is for 'decode', without '--summary', '--explain', '--pec', '--timing' and '--wave'";
 
 const NO_NAMES: Fault = "'--device' wants '--names <BRIEF>', which has the device";
 
@@ -483,26 +485,37 @@ fn capture_of<'a>(matches: &ArgMatches<'a>) -> Result<Request<'a>, Fault> {
     })
 }
 
+// A capture that is told while it is recorded is not read ahead, so its lines are those that are given.
 fn decode_of<'a>(matches: &ArgMatches<'a>) -> Result<Request<'a>, Fault> {
+    let options = options_of(matches)?;
+    let live = matches.get_flag("live");
     let decoding = Decoding {
-        bus: options_of(matches)?.bus(),
-        live: matches.get_flag("live"),
+        bus: if live {
+            options.bus()
+        } else {
+            options.bus_or_only()
+        },
+        live,
         explain: matches.get_flag("explain"),
         pec: matches.get_flag("pec"),
         rows: are_rows(matches),
     };
-    let names = matches.get_str("names");
-    if decoding.bus.device.is_some() && names.is_none() {
+    let (names, wave) = (matches.get_str("names"), wave_of(matches)?);
+    let Bus { device, view, .. } = decoding.bus;
+    if device.is_some() && names.is_none() {
         return Err(NO_NAMES);
     }
-    if decoding.pec && decoding.bus.view.summary {
+    if decoding.pec && view.summary {
         return Err(NOT_COUNTED);
+    }
+    if wave.is_some() && view.timing.is_some() {
+        return Err(NOT_TIMED);
     }
     Ok(Request::Decode {
         vcd: word(matches, "VCD"),
         names,
         decoding,
-        wave: wave_of(matches)?,
+        wave,
     })
 }
 
@@ -515,6 +528,7 @@ fn refuse_rows(name: &str, matches: &ArgMatches<'_>) -> Result<(), Fault> {
     let has_more = matches.get_flag("summary")
         || matches.get_flag("explain")
         || matches.get_flag("pec")
+        || matches.get_flag("timing")
         || matches.get_str("wave").is_some();
     if are_rows(matches) && (name != "decode" || has_more) {
         Err(NO_ROWS)
@@ -525,7 +539,7 @@ fn refuse_rows(name: &str, matches: &ArgMatches<'_>) -> Result<(), Fault> {
 
 fn learn_of<'a>(matches: &ArgMatches<'a>) -> Result<Request<'a>, Fault> {
     let lesson = Lesson {
-        bus: options_of(matches)?.bus(),
+        bus: options_of(matches)?.bus_or_only(),
         merge: matches.get_flag("merge"),
         widen: matches.get_flag("widen"),
         drives: pulling_of(matches),
@@ -542,7 +556,7 @@ fn page_of<'a>(matches: &ArgMatches<'a>) -> Result<Request<'a>, Fault> {
     Ok(Request::Page {
         plan: word(matches, "PLAN"),
         capture: matches.get_str("capture"),
-        bus: options_of(matches)?.bus(),
+        bus: options_of(matches)?.bus_or_only(),
         output: output_of(matches),
     })
 }

@@ -1,7 +1,9 @@
 // What the options of a capture ask for.
 
 use clap::ArgMatches;
-use dump_tokens::{Bus, BusLines, BytePattern, Drive, Filter, Limits, Target, Time, View, Window};
+use dump_tokens::{
+    Bus, BusLines, BytePattern, Drive, Filter, Limits, Mode, Target, Time, Timing, View, Window,
+};
 use vcd_read::Probe;
 
 /// The options of a capture, as they were given.
@@ -23,6 +25,8 @@ pub(crate) struct Options<'a> {
     times: Option<&'a str>,
     summary: bool,
     explain: bool,
+    timing: bool,
+    mode: Option<&'a str>,
 }
 
 impl<'a> Options<'a> {
@@ -46,6 +50,8 @@ impl<'a> Options<'a> {
             summary: matches.get_flag("summary"),
             // (without a plan also counts are explained)
             explain: matches.get_flag("explain") && matches.get_str("PLAN").is_some(),
+            timing: matches.get_flag("timing"),
+            mode: matches.get_str("mode"),
         }
     }
 
@@ -55,6 +61,23 @@ impl<'a> Options<'a> {
             lines: self.lines(),
             view: self.view(),
             device: self.device,
+        }
+    }
+
+    /// The same, where the only two signals that look like a bus may stand in for lines that are not given.
+    pub(crate) fn bus_or_only(&self) -> Bus<'a> {
+        let are_given = self.scl.is_some()
+            || self.sda.is_some()
+            || self.scl_code.is_some()
+            || self.sda_code.is_some()
+            || self.scope.is_some();
+        let lines = BusLines {
+            finds: !are_given,
+            ..self.lines()
+        };
+        Bus {
+            lines,
+            view: self.view(),
         }
     }
 
@@ -72,6 +95,7 @@ impl<'a> Options<'a> {
             sda: probe_of(self.sda, self.sda_code, "sda"),
             scope: self.scope,
             min_pulse: time_of(self.min_pulse),
+            finds: false,
         }
     }
 
@@ -82,6 +106,19 @@ impl<'a> Options<'a> {
             filter: self.filter(),
             si: self.times == Some("si"),
             summary: self.summary,
+            timing: self.timing(),
+        }
+    }
+
+    fn timing(&self) -> Option<Timing> {
+        let mode = match self.mode {
+            Some(name) => Mode::of(name),
+            None => None,
+        };
+        match mode {
+            Some(mode) => Some(Timing::Against(mode)),
+            None if self.timing => Some(Timing::Alone),
+            None => None,
         }
     }
 

@@ -278,6 +278,16 @@ With '--format csv' each byte is a row: when it begins and ends, whether it is
 'write', 'read', 'address', 'data' or 'cut', its value, its acknowledge, and the
 number of its transaction.
 
+With '--timing' lines below each say its rate and its longest LOW of SCL; with
+'--mode' also which times are less than the mode wants (UM10204, table 10). Above
+the last line stands which line was stuck LOW, and after how many clocks it was
+not:
+
+  twire decode bus.vcd --timing --mode fast
+
+Where the capture has no signals 'scl' and 'sda', and no others are given, the
+only two that look like a bus are taken, and a hint says which.
+
 With '--live' all that has ended is written before the capture is read on, also
 of one that is refused later:
 

@@ -222,7 +222,7 @@ const DECODE: Entry = Entry {
     after_help: AFTER_DECODE_HELP,
     arguments: &[
         VCD, SCL, SDA, SCOPE, SCL_CODE, SDA_CODE, MIN_PULSE, FROM, TO, ADDRESS, DEVICE, NACKED,
-        PATTERN, TIMES, ADDRESSES, CALLED, PEC, DEVICES, LIVE, WAVE,
+        PATTERN, TIMES, ADDRESSES, CALLED, PEC, DEVICES, TIMING, MODE, LIVE, WAVE,
     ],
 };
 
@@ -614,6 +614,20 @@ const SUMMARY: Argument = Argument::Flag {
 const ADDRESSES: Argument = Argument::Flag {
     id: "summary",
     help: "Count for each address, list no transactions",
+};
+
+const TIMING: Argument = Argument::Flag {
+    id: "timing",
+    help: "Say below each how fast it is, and what is stuck",
+};
+
+const MODE: Argument = Argument::ChoiceWith {
+    id: "mode",
+    other: "timing",
+    value_name: "MODE",
+    default: "none",
+    values: &["none", "standard", "fast", "fast-plus", "smbus"],
+    help: "The limits: standard, fast, fast-plus, smbus",
 };
 
 const LIVE: Argument = Argument::Flag {

@@ -139,7 +139,7 @@ impl Decoder {
         Ok(Ending {
             short: follower.short(),
             idle: follower.idle(),
-            rises: follower.rises(),
+            signs: follower.signs(),
         })
     }
 }

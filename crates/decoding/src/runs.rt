@@ -8,7 +8,7 @@ ghost use Rattle.vcd_read.specs.Views.{asked};
 
 use crate::following::Decoder;
 use crate::sinks::TransactionSink;
-use capture_check::{Beside, Rises};
+use capture_check::{Beside, Signs};
 use run_parts::devices::reading::{BLOCK, READS};
 use run_parts::{Input, RunError};
 use std::alloc::Global;
@@ -21,8 +21,8 @@ pub struct Ending {
     pub short: u64,
     /// How many bits followed the STOP of the last transaction, as long as both levels were known.
     pub idle: u64,
-    /// How often SCL has risen, of levels that lasted.
-    pub rises: Rises,
+    /// What says how well it was recorded, of levels that lasted.
+    pub signs: Signs,
 }
 
 /// Hands the transactions in the dump that the reader gives on to a sink, as they end: one call for each block, and one

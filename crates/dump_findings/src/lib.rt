@@ -31,4 +31,4 @@ pub use leaving::{Leaves, NEAREST, bytes_until, mark_words, nearest, offer_words
 pub use meanings::{Remarks, push_called, push_target};
 pub use selecting::{Seen, Selection, status_of_seen};
 pub use tallies::{Explains, Others, Tallies};
-pub use times::Timing;
+pub use times::MarkTimes;

@@ -5,7 +5,7 @@ ghost use Rattle.dump_findings.specs.Statuses.{JudgesSeen, least_of};
 
 use crate::filtering::Passing;
 use capture_check::{Transaction, Until};
-use dump_tokens::{Filter, Scale, View};
+use dump_tokens::{Filter, Scale, Timing, View};
 use message_tree::Address;
 use run_parts::Status;
 
@@ -118,6 +118,21 @@ impl Selection {
     /// What the numbers of the dump count, where times are told in parts of a second.
     pub fn told_scale(&self) -> Option<Scale> {
         if self.view.si { self.scale } else { None }
+    }
+
+    /// How times on the wire are told, where they are.
+    pub fn timing(&self) -> Option<Timing> {
+        self.view.timing
+    }
+
+    /// What the numbers of the dump count, where that is known.
+    pub fn scale(&self) -> Option<Scale> {
+        self.scale
+    }
+
+    /// Whether this time of the dump is among those that are told.
+    pub fn has(&self, time: u64) -> bool {
+        self.view.window.has(self.scale, time)
     }
 
     /// Whether transactions are counted, and not told.

@@ -7,7 +7,7 @@ use vcd_read::{Level, Tokens};
 
 /// Keeps for each mark of a transaction when it came, beside the bus.
 #[derive(Drop)]
-pub struct Timing {
+pub struct MarkTimes {
     alloc: Global,
     // the level of SCL before, and when it fell last
     scl: Level,
@@ -16,10 +16,10 @@ pub struct Timing {
     open: Option<Vec<Stretch>>,
 }
 
-impl Timing {
+impl MarkTimes {
     /// Nothing of the dump has been read.
-    pub fn new(alloc: Global) -> Timing {
-        Timing {
+    pub fn new(alloc: Global) -> MarkTimes {
+        MarkTimes {
             alloc,
             scl: Level::Unknown,
             fell: 0,
@@ -40,9 +40,9 @@ impl Timing {
     }
 }
 
-impl Tokens for Timing {}
+impl Tokens for MarkTimes {}
 
-impl Beside for Timing {
+impl Beside for MarkTimes {
     fn reach(&mut self, moment: Moment<'_>) -> Result<(), AllocError> {
         let scl = moment.sample.scl;
         if moment.begins {

@@ -23,7 +23,7 @@ pub fn on_choice<F: Read + Seek + Drop>(
 ) -> Result<Hints, AllocError> {
     let mut lines = Lines::new(alloc);
     if let Some(mut file) = file {
-        push_passed(alloc, &mut lines, &mut file, names);
+        push_passed(alloc, &mut lines, &mut file, names, false);
         push_twins(alloc, &mut lines, &mut file, names);
     }
     lines.finish()

@@ -5,9 +5,10 @@
 //! it, or says that the file has another format (`converting`); `opening` finds what has no end in a file that can be read once
 //! more, and `naming` lists the signals that it declares, or `scoping` the scopes of a name. After a report `silence` tells what
 //! was seen of the bus (`looking`), also with the two lines exchanged, `choosing` looks at names that several signals have, and
-//! `recordings` is for the other runs over a dump, `passing` for runs that tell of a part. `driving` is for lines that were to be what controllers pull. `sampling` says
-//! where samples are too far apart, as the run itself has counted. Where the file cannot be read once more, or has changed, only
-//! the words are left (`wording`). Hints as values, and their parts, are those of `hints`.
+//! `recordings` is for the other runs over a dump, `passing` for runs that tell of a part. `driving` is for lines that were to
+//! be what controllers pull. `sampling` says where samples are too far apart, levels short or bits lost, as the run itself has
+//! counted. Where the file cannot be read once more, or has changed, only the words are left (`wording`). Hints as values, and
+//! their parts, are those of `hints`.
 #![tactic(auto)]
 
 mod choosing;
@@ -32,5 +33,5 @@ pub use dumps::on_dump;
 pub use naming::Names;
 pub use passing::{on_no_device, on_none_passes};
 pub use recordings::{on_bytes, on_recording, on_signals};
-pub use sampling::on_rises;
+pub use sampling::{on_only, on_signs};
 pub use silence::{on_silence, on_unexplained};

@@ -170,9 +170,11 @@ impl Looking for Wholes {
 #[derive(Clone, Copy)]
 pub(crate) struct Beginning {
     pub(crate) is_within: bool,
+    /// Whether the bus was not free when its levels became known.
+    pub(crate) is_busy: bool,
+    // whether bits came on a bus that was taken for free
+    has_bits: bool,
     watch: Watch,
-    // whether the bus was not free when its levels became known
-    is_busy: bool,
 }
 
 impl Beginning {
@@ -180,8 +182,9 @@ impl Beginning {
     pub(crate) fn new() -> Beginning {
         Beginning {
             is_within: false,
-            watch: Watch::new(),
             is_busy: false,
+            has_bits: false,
+            watch: Watch::new(),
         }
     }
 
@@ -190,10 +193,15 @@ impl Beginning {
         match what {
             What::Known(is_free) => {
                 self.is_busy = !is_free;
-                self.is_busy
+                true
+            }
+            // (both lines are HIGH in a HIGH period of SCL in the middle of a byte, too)
+            What::Bit(_) if !self.is_busy => {
+                self.has_bits = true;
+                true
             }
             What::Bit(_) | What::Start => {
-                self.is_within = self.is_busy;
+                self.is_within = self.is_busy || self.has_bits;
                 false
             }
             What::Stop | What::Unknown => false,

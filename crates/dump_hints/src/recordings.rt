@@ -32,8 +32,8 @@ pub fn on_bytes<F: Read + Seek + Drop>(
 ) -> Result<Hints, AllocError> {
     let mut lines = Lines::new(alloc);
     if let Some(mut file) = file {
-        push_exchanged(alloc, &mut lines, &mut file, names);
-        push_passed(alloc, &mut lines, &mut file, names);
+        let are_exchanged = push_exchanged(alloc, &mut lines, &mut file, names);
+        push_passed(alloc, &mut lines, &mut file, names, are_exchanged);
         push_twins(alloc, &mut lines, &mut file, names);
     }
     lines.finish()

@@ -31,23 +31,32 @@ pub fn on_unexplained<F: Read + Seek + Drop>(
     push_one_for_both(&mut lines, names);
     if let Some(mut file) = file {
         push_lost_clock(alloc, &mut lines, &mut file, names);
-        push_exchanged(alloc, &mut lines, &mut file, names);
-        push_passed(alloc, &mut lines, &mut file, names);
+        let are_exchanged = push_exchanged(alloc, &mut lines, &mut file, names);
+        push_passed(alloc, &mut lines, &mut file, names, are_exchanged);
         push_twins(alloc, &mut lines, &mut file, names);
     }
     lines.finish()
 }
 
-/// Says where a capture begins in a transaction.
+/// Says where a capture begins in a transaction, or may do so. That it may is nothing to speak of where its lines seem to be
+/// exchanged.
 pub(crate) fn push_passed<F: Read + Seek>(
     alloc: Global,
     lines: &mut Lines,
     file: &mut F,
     names: Names<'_>,
+    are_exchanged: bool,
 ) {
     let mut beginning = Beginning::new();
-    if look(alloc, file, names, &mut beginning).is_some() && beginning.is_within {
+    if look(alloc, file, names, &mut beginning).is_none() || !beginning.is_within {
+        return;
+    }
+    if beginning.is_busy {
         lines.say("the capture begins in a transaction, which is left out: its START is not there");
+    } else if !are_exchanged {
+        lines.say(
+            "the capture may begin in a transaction: both lines are HIGH at first, and bits come before a START",
+        );
     }
 }
 
@@ -75,16 +84,16 @@ pub(crate) fn push_lost_clock<F: Read + Seek + Drop>(
     true
 }
 
-/// Says where more transactions would have whole bytes with the two lines exchanged.
+/// Says where more transactions would have whole bytes with the two lines exchanged, and whether it is so.
 pub(crate) fn push_exchanged<F: Read + Seek>(
     alloc: Global,
     lines: &mut Lines,
     file: &mut F,
     names: Names<'_>,
-) {
+) -> bool {
     let mut wholes = Wholes::new();
     if look(alloc, file, names, &mut wholes).is_none() {
-        return;
+        return false;
     }
     let (whole, exchanged) = (wholes.given, wholes.exchanged);
     if exchanged > whole {
@@ -92,6 +101,7 @@ pub(crate) fn push_exchanged<F: Read + Seek>(
             "{whole} of the transactions have whole bytes; with the two lines exchanged {exchanged} would: are SCL and SDA exchanged?"
         ));
     }
+    exchanged > whole
 }
 
 fn push_causes(lines: &mut Lines, names: Names<'_>) {
@@ -135,7 +145,7 @@ fn push_looked<F: Read + Seek + Drop>(
     if let Some(words) = cause(seen) {
         lines.say(words);
     }
-    push_passed(alloc, lines, file, names);
+    push_passed(alloc, lines, file, names, seen.exchanged != 0);
     push_twins(alloc, lines, file, names);
     lines.say("the names of the two lines are given with --scl NAME and --sda NAME");
 }

@@ -1,6 +1,7 @@
 // Objects of the transactions of a dump, without a plan.
 
 use crate::remarks::push_remarks;
+use crate::timings::Clocking;
 use crate::transactions::{push_bytes, push_count, push_made, push_times};
 use crate::written::Written;
 use capture_check::Transaction;
@@ -10,6 +11,7 @@ use growing_text::Text;
 use object_lines::ObjectLines;
 use run_parts::{Output, RunError};
 use std::alloc::{AllocError, Global};
+use timing::{Stuck, Totals};
 
 /// Writes the objects of transactions with their bytes.
 #[derive(Drop)]
@@ -19,6 +21,8 @@ pub struct DecodeObjects<'a, 'w, O> {
     remarks: Remarks<'w>,
     // where headers are counted, and transactions are not told
     addresses: Option<Addresses>,
+    clocking: Clocking,
+    totals: Totals,
 }
 
 impl<'a, 'w, O: Output> DecodeObjects<'a, 'w, O> {
@@ -42,12 +46,18 @@ impl<'a, 'w, O: Output> DecodeObjects<'a, 'w, O> {
             selection,
             remarks,
             addresses,
+            clocking: Clocking::of(&selection),
+            totals: Totals::new(),
         })
     }
 
     fn transaction(&mut self, transaction: &Transaction) {
         if !self.selection.takes(transaction, true) {
             return;
+        }
+        if let Some(timed) = &transaction.timed {
+            self.totals
+                .count(timed, self.clocking.scale, self.clocking.judging);
         }
         if let Some(addresses) = &mut self.addresses {
             return addresses.count(transaction);
@@ -59,18 +69,21 @@ impl<'a, 'w, O: Output> DecodeObjects<'a, 'w, O> {
         if !self.remarks.are_none() {
             push_remarks(lines, self.remarks, transaction);
         }
+        if let Some(timed) = &transaction.timed {
+            self.clocking.push_timed(lines, timed);
+        }
         lines.end();
     }
 
-    /// Writes the last objects, and answers what those that were told come to.
+    /// Writes the last objects, with those of lines that were stuck, and answers what those that were told come to.
     ///
     /// # Errors
     ///
     /// `Write` where the writer failed or took no bytes, and `NoMemory`.
-    pub fn finish(mut self) -> Result<Selection, RunError>
+    pub fn finish(mut self, stuck: &[Stuck]) -> Result<Selection, RunError>
         ensures { IfOk result (λ it. it ≡ self.entry.selection) }
     {
-        self.push_last();
+        self.push_last(stuck);
         let DecodeObjects {
             written,
             selection,
@@ -79,9 +92,10 @@ impl<'a, 'w, O: Output> DecodeObjects<'a, 'w, O> {
         written.finish(selection)
     }
 
-    fn push_last(&mut self)
+    fn push_last(&mut self, stuck: &[Stuck])
         ensures { self.new.selection ≡ self.old.selection }
     {
+        let (clocking, selection) = (self.clocking, self.selection);
         let lines = &mut self.written.lines;
         if let Some(addresses) = &self.addresses {
             push_addresses(lines, addresses);
@@ -90,7 +104,11 @@ impl<'a, 'w, O: Output> DecodeObjects<'a, 'w, O> {
             }
             push_count(lines, "cut", addresses.cut);
             push_count(lines, "unfinished", addresses.unfinished);
+            if selection.timing().is_some() {
+                clocking.push_totals(lines, &self.totals);
+            }
         }
+        clocking.push_end(lines, &selection, stuck);
         lines.begin("transactions");
         lines.number("transactions", self.selection.seen.stopped);
         lines.end();

@@ -27,8 +27,8 @@ pub(crate) fn push_times(lines: &mut ObjectLines, transaction: &Transaction, sca
     }
 }
 
-// A time: in steps of the dump, or in parts of a second.
-fn push_time(lines: &mut ObjectLines, name: &str, time: u64, scale: Option<Scale>) {
+/// A time: in steps of the dump, or in parts of a second.
+pub(crate) fn push_time(lines: &mut ObjectLines, name: &str, time: u64, scale: Option<Scale>) {
     match scale {
         Some(scale) => {
             let told = scale.told(lines.alloc, time);

@@ -16,7 +16,7 @@ seen_in (Bytes window seen) = Some seen
 seen_in _ = None
 
 abbrev pub seen_of : Findings → Option Seen
-seen_of (Recording recorded rises alike) = seen_in recorded
+seen_of (Recording recorded signs alike found) = seen_in recorded
 seen_of _ = None
 
 -- the status is that of these counts, where so many were to be Stopped

@@ -1,7 +1,7 @@
 // The forms of transactions that are no exact lines: sinks that end by what they have told.
 
 use crate::driven::decode_with;
-use capture_check::{Beside, Rises};
+use capture_check::{Beside, Signs};
 use decoding::{Ending, ExplainedSink, Explaining, TransactionSink};
 use dump_findings::Selection;
 use dump_objects::{CaptureObjects, DecodeObjects};
@@ -11,28 +11,29 @@ use run_parts::{Input, Output, RunError};
 use signals::Dump;
 use std::alloc::Global;
 use std::thread::Threads;
+use timing::{Stopwatch, Stuck};
 use transaction_lines::{ByteRows, CaptureLines, DecodeLines};
 
 /// A form of transactions in bytes.
 pub(crate) trait DecodeForm: TransactionSink + Drop {
-    /// Writes what is left, and says what was told.
-    fn told(self) -> Result<Selection, RunError>;
+    /// Writes what is left, with the lines that were stuck, and says what was told.
+    fn told(self, stuck: &[Stuck]) -> Result<Selection, RunError>;
 }
 
 impl<O: Output> DecodeForm for DecodeLines<'_, '_, O> {
-    fn told(self) -> Result<Selection, RunError> {
-        self.finish()
+    fn told(self, stuck: &[Stuck]) -> Result<Selection, RunError> {
+        self.finish(stuck)
     }
 }
 
 impl<O: Output> DecodeForm for DecodeObjects<'_, '_, O> {
-    fn told(self) -> Result<Selection, RunError> {
-        self.finish()
+    fn told(self, stuck: &[Stuck]) -> Result<Selection, RunError> {
+        self.finish(stuck)
     }
 }
 
 impl<O: Output> DecodeForm for ByteRows<'_, O> {
-    fn told(self) -> Result<Selection, RunError> {
+    fn told(self, _stuck: &[Stuck]) -> Result<Selection, RunError> {
         self.finish()
     }
 }
@@ -43,11 +44,41 @@ pub(crate) fn decode_to<J: Input, S: DecodeForm, B: Beside>(
     dump: &mut Dump<'_, '_, J>,
     mut form: S,
     beside: &mut Option<B>,
-) -> Result<(Selection, Rises), RunError>
+) -> Result<(Selection, Signs), RunError>
     requires { S.needs }
 {
     let ending = decode_with(alloc, dump, &mut form, beside)?;
-    Ok((form.told()?, ending.rises))
+    Ok((form.told(&[])?, ending.signs))
+}
+
+/// The same beside a recorder, where one is there, or with the times on the bus.
+pub(crate) fn decode_as<J: Input, S: DecodeForm, B: Beside>(
+    alloc: Global,
+    dump: &mut Dump<'_, '_, J>,
+    form: S,
+    is_timed: bool,
+    beside: &mut Option<B>,
+) -> Result<(Selection, Signs), RunError>
+    requires { S.needs }
+{
+    if is_timed {
+        decode_timed(alloc, dump, form)
+    } else {
+        decode_to(alloc, dump, form, beside)
+    }
+}
+
+fn decode_timed<J: Input, S: DecodeForm>(
+    alloc: Global,
+    dump: &mut Dump<'_, '_, J>,
+    mut form: S,
+) -> Result<(Selection, Signs), RunError>
+    requires { S.needs }
+{
+    let mut stopwatch = Stopwatch::new(alloc, dump.scale());
+    let ending = dump.decode_beside(alloc, &mut form, &mut stopwatch)?;
+    let stuck = stopwatch.finish()?;
+    Ok((form.told(stuck.as_slice())?, ending.signs))
 }
 
 /// A form of transactions with who explains them. It may stop by itself.
@@ -81,7 +112,7 @@ pub(crate) fn capture_to<R: AllocGlobal + Threads + Sync, J: Input, S: CaptureFo
     dump: &mut Dump<'_, '_, J>,
     form: S,
     beside: &mut Option<B>,
-) -> Result<(Selection, Rises), RunError> {
+) -> Result<(Selection, Signs), RunError> {
     let alloc = rt.alloc();
     let mut explaining = Explaining {
         rt,
@@ -90,10 +121,10 @@ pub(crate) fn capture_to<R: AllocGlobal + Threads + Sync, J: Input, S: CaptureFo
         sink: form,
     };
     let ended = decode_with(alloc, dump, &mut explaining, beside);
-    let rises = match &ended {
-        Ok(ending) => ending.rises,
-        Err(_) => Rises::NONE,
+    let signs = match &ended {
+        Ok(ending) => ending.signs,
+        Err(_) => Signs::NONE,
     };
     let Explaining { sink, .. } = explaining;
-    Ok((sink.told(dump.quiet(), ended)?, rises))
+    Ok((sink.told(dump.quiet(), ended)?, signs))
 }

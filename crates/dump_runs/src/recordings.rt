@@ -17,13 +17,13 @@ use crate::driven::{
     decode_with, drivers_of, judging_of, open_driven, refuse_no_names, refuse_others,
     refuse_unknown,
 };
-use crate::forms::{capture_to, decode_to};
+use crate::forms::{capture_to, decode_as, decode_to};
 use bus_rows::Paint;
 use byte_lines::{ByteCounts, write_decoded, write_decoded_beside};
-use capture_check::{Beside, Rises};
+use capture_check::{Beside, Signs};
 use command_words::{Capture, Decoding, Lesson};
 use drives::Drivers;
-use dump_findings::{Layout, Remarks, Seen, Selection, Timing, status_of_seen};
+use dump_findings::{Layout, MarkTimes, Remarks, Seen, Selection, status_of_seen};
 use dump_objects::{CaptureObjects, DecodeObjects, write_signals};
 use dump_tokens::{Bus, BusLines, Drives, Limits, Quiet, View, Window};
 use given_plans::{GivenPlan, Halted, Provenance};
@@ -42,17 +42,17 @@ use signals::{Dump, Listed, OpenDump, Recorder, SignalDump, reads_ahead};
 use std::alloc::Global;
 use std::thread::Threads;
 use transaction_lines::{ByteRows, CaptureLines, DecodeLines};
-use vcd_read::{Nobody, Probe, Wrong};
+use vcd_read::{Nobody, Probe, Signal, VcdError, Wrong};
 use waves::wave_of_recording;
 
 // What a capture has come to: its status, what it tells, in how many transactions a controller departed from the rules of the
-// plan, and how often SCL rises.
+// plan, and how well it was recorded.
 #[derive(Clone, Copy)]
 struct Told {
     status: Status,
     seen: Seen,
     departed: u64,
-    rises: Rises,
+    signs: Signs,
 }
 
 // Whether the lines of a capture are the exact ones, and no others.
@@ -71,10 +71,10 @@ fn layout_of(capture: Capture<'_>, paint: Paint) -> Layout {
 }
 
 // The end of a run over a dump.
-fn ended(status: Status, recorded: Recorded, rises: Rises, alike: Option<usize>) -> Ended {
+fn ended(status: Status, recorded: Recorded, signs: Signs, alike: Option<usize>) -> Ended {
     Ended {
         status,
-        findings: Findings::Recording(recorded, rises, alike),
+        findings: Findings::Recording(recorded, signs, alike, None),
         wave: None,
         mended: None,
     }
@@ -136,7 +136,7 @@ fn capture_exactly<R: AllocGlobal + Threads + Sync, I: Input, J: Input, O: Outpu
             let seen = Recorded::Bus(window, seen_in(&captured));
             Ok(Ended {
                 status: captured.status,
-                findings: Findings::Recording(seen, captured.rises, None),
+                findings: Findings::Recording(seen, captured.signs, None, None),
                 wave: None,
                 mended: None,
             })
@@ -179,7 +179,7 @@ fn capture_live<R: AllocGlobal + Threads + Sync, I: Input, J: Input, O: Output>(
     match live_given(rt, alloc, readers, vcd, out, scl, sda, least, &mut wrong) {
         Ok(GivenLive { counts, .. }) => {
             let seen = Recorded::Bus(window, seen_live(counts));
-            Ok(ended(counts.status, seen, counts.rises, None))
+            Ok(ended(counts.status, seen, counts.signs, None))
         }
         Err(halted) => Err(halt_at(plans, halted, wrong)),
     }
@@ -209,7 +209,7 @@ fn capture_ahead<R: AllocGlobal + Threads + Sync, I: Input, J: Input, O: Output>
     match capture_picked(rt, &plan, dump.parts(), out, live) {
         Ok(told) => {
             let seen = Recorded::Bus(bus.view.window, told.seen);
-            Ok(ended(told.status, seen, told.rises, None))
+            Ok(ended(told.status, seen, told.signs, None))
         }
         Err(error) => Err(halted(dump, error)),
     }
@@ -238,7 +238,7 @@ fn capture_picked<R: AllocGlobal + Threads + Sync, J: Input, O: Output>(
                 status: counts.status,
                 seen: seen_live(counts),
                 departed: 0,
-                rises: counts.rises,
+                signs: counts.signs,
             }),
             Err(error) => Err(error),
         }
@@ -248,7 +248,7 @@ fn capture_picked<R: AllocGlobal + Threads + Sync, J: Input, O: Output>(
                 status: captured.status,
                 seen: seen_in(&captured),
                 departed: 0,
-                rises: captured.rises,
+                signs: captured.signs,
             }),
             Err(error) => Err(error),
         }
@@ -277,7 +277,7 @@ fn capture_in_form<R: AllocGlobal + Threads + Sync, I: Input, J: Input, O: Outpu
             let seen = Recorded::Bus(capture.bus.view.window, told.seen);
             Ok(Ended {
                 status: told.status,
-                findings: Findings::Recording(seen, told.rises, alike),
+                findings: Findings::Recording(seen, told.signs, alike, None),
                 wave: None,
                 mended: None,
             })
@@ -320,7 +320,7 @@ fn capture_dump<R: AllocGlobal + Threads + Sync, J: Input, O: Output>(
     let plan = words.plan();
     let selection = Selection::new(capture.bus.view, dump.scale()).with_device(device);
     let judging = judging_of(alloc, capture.drives, plan, words)?;
-    let (selection, rises) = match style {
+    let (selection, signs) = match style {
         Style::Objects => {
             let layout = layout_of(capture, Paint::Plain);
             let objects = CaptureObjects::new(alloc, words, selection, layout, out)?;
@@ -337,7 +337,7 @@ fn capture_dump<R: AllocGlobal + Threads + Sync, J: Input, O: Output>(
         status: status_of_seen(capture.bus.view.at_least, seen, departed),
         seen,
         departed,
-        rises,
+        signs,
     })
 }
 
@@ -352,11 +352,10 @@ pub fn decode<J: Input, O: Output>(
     style: Style,
     has_wave: bool,
 ) -> Result<Ended, Halt> {
-    let Decoding { bus, live, .. } = decoding;
-    let is_exact = decoding.is_plain() && matches!(style, Style::Lines(_));
-    if !is_exact || has_wave || reads_ahead(bus) {
+    if !is_exactly(decoding, style, has_wave) {
         return decode_in_form(alloc, vcd, out, decoding, NAMELESS, style, has_wave);
     }
+    let Decoding { bus, live, .. } = decoding;
     let BusLines {
         scl,
         sda,
@@ -365,6 +364,38 @@ pub fn decode<J: Input, O: Output>(
     } = bus.lines;
     let least = Quiet::of(min_pulse, None).least;
     decode_exactly(alloc, vcd, out, scl, sda, least, live, bus.view.window)
+}
+
+// Whether the exact lines are written, and no others, with lines that are found by their references or codes.
+fn is_exactly(decoding: Decoding<'_>, style: Style, has_wave: bool) -> bool {
+    decoding.is_plain()
+        && matches!(style, Style::Lines(_))
+        && !has_wave
+        && !reads_ahead(decoding.bus)
+}
+
+/// Whether what was to be decoded may have other lines, for which it has to be read once more: where the run that has ended so has
+/// looked for `scl` and `sda` alone. It has written nothing.
+pub fn may_have_others(
+    decoding: Decoding<'_>,
+    style: Style,
+    has_wave: bool,
+    ended: &Result<Ended, Halt>,
+) -> bool {
+    let lacks_scl = matches!(ended, Err(Halt::Dump(VcdError::NoSignal(Signal::Scl), _)));
+    lacks_scl && decoding.bus.lines.finds && is_exactly(decoding, style, has_wave)
+}
+
+/// Writes the exact lines of such a dump, which the reader gives from its beginning on: the only two signals that look like a bus
+/// stand in for the lines that it does not have.
+pub fn decode_others<J: Input, O: Output>(
+    alloc: Global,
+    vcd: &mut J,
+    out: &mut O,
+    decoding: Decoding<'_>,
+) -> Result<Ended, Halt> {
+    let style = Style::Lines(Paint::Plain);
+    decode_in_form(alloc, vcd, out, decoding, NAMELESS, style, false)
 }
 
 /// The same with the names that devices have in the briefs which the first readers give. These are read to their ends and judged
@@ -419,7 +450,7 @@ fn decode_exactly<J: Input, O: Output>(
             let seen = Recorded::Bytes(window, seen_in_bytes(counts));
             Ok(Ended {
                 status: Status::Good,
-                findings: Findings::Recording(seen, counts.rises, None),
+                findings: Findings::Recording(seen, counts.signs, None, None),
                 wave: None,
                 mended: None,
             })
@@ -462,25 +493,26 @@ fn decode_in_form<J: Input, O: Output>(
     } else {
         None
     };
+    let is_timed = bus.view.timing.is_some();
     let told = match style {
         Style::Objects => {
             let objects = DecodeObjects::new(alloc, selection, remarks, live, out)?;
-            decode_to(alloc, &mut dump, objects, &mut recorder)
+            decode_as(alloc, &mut dump, objects, is_timed, &mut recorder)
         }
         Style::Lines(_) if decoding.rows => {
             let rows = ByteRows::new(alloc, selection, live, out);
-            decode_to(alloc, &mut dump, rows, &mut Some(Timing::new(alloc)))
+            decode_to(alloc, &mut dump, rows, &mut Some(MarkTimes::new(alloc)))
         }
         Style::Lines(_) if decoding.is_plain() && remarks.are_none() => {
             exact_bytes(alloc, &mut dump, out, selection, live, &mut recorder)
         }
         Style::Lines(_) => {
             let lines = DecodeLines::new(alloc, selection, remarks, live, out)?;
-            decode_to(alloc, &mut dump, lines, &mut recorder)
+            decode_as(alloc, &mut dump, lines, is_timed, &mut recorder)
         }
     };
     let least = dump.quiet().least;
-    let (selection, rises) = match told {
+    let (selection, signs) = match told {
         Ok(told) => told,
         Err(error) => return Err(halted(dump, error)),
     };
@@ -491,7 +523,7 @@ fn decode_in_form<J: Input, O: Output>(
     let recorded = Recorded::Bytes(bus.view.window, selection.seen);
     Ok(Ended {
         status: status_of_seen(bus.view.at_least, selection.seen, 0),
-        findings: Findings::Recording(recorded, rises, None),
+        findings: Findings::Recording(recorded, signs, None, dump.take_only()),
         wave,
         mended: None,
     })
@@ -520,7 +552,7 @@ fn exact_bytes<J: Input, O: Output>(
     mut selection: Selection,
     live: bool,
     recorder: &mut Option<Recorder>,
-) -> Result<(Selection, Rises), RunError> {
+) -> Result<(Selection, Signs), RunError> {
     let dump = dump.parts();
     let told = match recorder {
         Some(recorder) => bytes_beside(alloc, dump, out, live, recorder),
@@ -529,7 +561,7 @@ fn exact_bytes<J: Input, O: Output>(
     match told {
         Ok(counts) => {
             selection.seen = seen_in_bytes(counts);
-            Ok((selection, counts.rises))
+            Ok((selection, counts.signs))
         }
         Err(error) => Err(error),
     }
@@ -657,7 +689,12 @@ fn learn_alone<J: Input, O: Output>(
         ..
     } = dump.parts();
     let (status, ending) = write_learned(alloc, vcd, out, scl, sda, least, seen, likeness, wrong)?;
-    Ok(ended(status, Recorded::Other, ending.rises, None))
+    Ok(Ended {
+        status,
+        findings: Findings::Recording(Recorded::Other, ending.signs, None, dump.take_only()),
+        wave: None,
+        mended: None,
+    })
 }
 
 fn learn_driven<J: Input, O: Output>(
@@ -675,7 +712,7 @@ fn learn_driven<J: Input, O: Output>(
     };
     let alike = refuse_others(&drivers)?;
     let status = write_seen(alloc, seen, likeness, out)?;
-    Ok(Ok(ended(status, Recorded::Other, ending.rises, alike)))
+    Ok(Ok(ended(status, Recorded::Other, ending.signs, alike)))
 }
 
 // Writes the brief of what was seen: what it means, and which paths that has, is promised of what is written.
@@ -711,7 +748,11 @@ pub fn list_signals<J: Input, O: Output>(
         Err(error) => return Err(halted_by(error, wrong)),
     };
     write_listed(alloc, &listed, out, style)?;
-    Ok(ended(Status::Good, Recorded::Signals, Rises::NONE, None))
+    let signs = Signs {
+        pulses: listed.pulses(),
+        ..Signs::NONE
+    };
+    Ok(ended(Status::Good, Recorded::Signals, signs, None))
 }
 
 fn write_listed<O: Output>(

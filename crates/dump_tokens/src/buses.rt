@@ -1,5 +1,6 @@
 // A recorded bus: which signals of a dump are its lines, and what is told of it.
 
+use crate::modes::Timing;
 use crate::times::Time;
 use crate::windows::{View, has_unit};
 use vcd_read::Probe;
@@ -13,6 +14,8 @@ pub struct BusLines<'a> {
     pub scope: Option<&'a str>,
     /// A level that lasts less is ignored.
     pub min_pulse: Option<Time>,
+    /// Whether the only two signals that look like a bus stand in for these, where the dump has neither.
+    pub finds: bool,
 }
 
 /// The lines of a bus, and which of its transactions are told.
@@ -30,14 +33,15 @@ impl Bus<'_> {
         self.view.is_whole() && self.device.is_none()
     }
 
-    /// Whether a time has a unit.
+    /// Whether a time has a unit. Those of a mode have one.
     pub fn has_unit(self) -> bool {
-        self.view.window.has_unit() || has_unit(self.lines.min_pulse)
+        let is_held = matches!(self.view.timing, Some(Timing::Against(_)));
+        is_held || self.view.window.has_unit() || has_unit(self.lines.min_pulse)
     }
 
     /// Whether it matters what the numbers of the dump count.
     pub fn needs_scale(self) -> bool {
-        self.view.si || self.has_unit()
+        self.view.si || self.view.timing.is_some() || self.has_unit()
     }
 }
 

@@ -33,8 +33,8 @@ impl Scale {
         self.unit
     }
 
-    // So many steps, in femtoseconds: below 2 to the power 121.
-    fn femtoseconds(self, time: u64) -> u128 {
+    /// So many steps, in femtoseconds: below 2 to the power 121.
+    pub fn femtoseconds(self, time: u64) -> u128 {
         u128::from(time)
             .saturating_mul(u128::from(self.number))
             .saturating_mul(self.unit.femtoseconds())

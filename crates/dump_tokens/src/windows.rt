@@ -1,6 +1,7 @@
 // Which part of a dump is told.
 
 use crate::filters::Filter;
+use crate::modes::Timing;
 use crate::scales::Scale;
 use crate::times::Time;
 use std::cmp::Ordering;
@@ -68,6 +69,8 @@ pub struct View {
     pub si: bool,
     /// Whether transactions are counted, and not told.
     pub summary: bool,
+    /// How times on the wire are told, where they are.
+    pub timing: Option<Timing>,
 }
 
 impl View {
@@ -79,12 +82,17 @@ impl View {
             filter: Filter::NONE,
             si: false,
             summary: false,
+            timing: None,
         }
     }
 
     /// Whether all transactions are told as they are.
     pub fn is_whole(self) -> bool {
-        self.at_least.is_none() && self.tells_all() && !self.si && !self.summary
+        self.at_least.is_none()
+            && self.tells_all()
+            && !self.si
+            && !self.summary
+            && self.timing.is_none()
     }
 
     /// Whether no transaction is left out.

@@ -4,7 +4,7 @@ use crate::keeping::{Keeping, Reread};
 use crate::progress::{Count, Told, Watcher};
 use run_parts::{Opened, Watched};
 use std::fs::{self, Metadata, OpenFile};
-use std::io::{self, Cursor};
+use std::io::{self, Cursor, Seek};
 use std::os::unix::fs::{FileTypeExt, MetadataExt};
 use std::rt::Files;
 
@@ -89,6 +89,24 @@ pub fn closed<R, F: Drop, S: Drop>(
                 Some(kept) => (error, Some(Reread::Kept(Cursor::new(kept)))),
                 None => (error, None),
             }
+        }
+    }
+}
+
+/// The same source from its beginning on, where it can be read once more, and whether that is so.
+pub fn rewound<R, F: Seek + Drop, S: Drop>(
+    source: Source<'_, R, F, S>,
+) -> (Source<'_, R, F, S>, bool) {
+    match source {
+        Opened::File(file) => {
+            let mut file = file.into_inner();
+            let is_there = file.rewind();
+            (Opened::File(Watched::new(file)), is_there)
+        }
+        Opened::Standard(input) => {
+            let mut input = input.into_inner();
+            let is_there = input.rewind();
+            (Opened::Standard(Watched::new(input)), is_there)
         }
     }
 }

@@ -11,6 +11,8 @@ const MOST: usize = 1 << 20;
 pub struct Keeping<D> {
     device: D,
     kept: Option<Vec<u8>>,
+    // how many of the last bytes that were kept are given once more, before the device is read on
+    left: usize,
 }
 
 impl<D> Keeping<D> {
@@ -19,13 +21,36 @@ impl<D> Keeping<D> {
         Keeping {
             device,
             kept: Some(Vec::new(alloc)),
+            left: 0,
         }
     }
 
     /// The device, and all that was read, where it was kept.
     pub fn into_parts(self) -> (D, Option<Vec<u8>>) {
-        let Keeping { device, kept } = self;
+        let Keeping { device, kept, .. } = self;
         (device, kept)
+    }
+
+    /// Goes back to the beginning, where all that was read was kept.
+    pub fn rewind(&mut self) -> bool {
+        match &self.kept {
+            Some(kept) => {
+                self.left = kept.len();
+                true
+            }
+            None => false,
+        }
+    }
+
+    // What is given once more.
+    fn again(&self) -> &[u8] {
+        match &self.kept {
+            Some(kept) => {
+                let from = kept.len().saturating_sub(self.left);
+                kept.as_slice().get(from..).unwrap_or(&[])
+            }
+            None => &[],
+        }
     }
 
     fn keep(&mut self, bytes: &[u8]) {
@@ -43,6 +68,12 @@ impl<D> Keeping<D> {
 
 impl<D: Read> Read for Keeping<D> {
     fn read(&mut self, buf: &mut [u8]) -> io::Result<usize> {
+        let mut again = self.again();
+        if !again.is_empty() {
+            let count = again.read(buf)?;
+            self.left = self.left.saturating_sub(count);
+            return Ok(count);
+        }
         let count = self.device.read(buf)?;
         self.keep(buf.get(..count).unwrap_or(&[]));
         Ok(count)

@@ -13,7 +13,7 @@ mod progress;
 
 pub use inputs::{
     FileId, FilesRead, OpenSource, Source, closed, identity_of, is_standard_input, missing,
-    open_file, open_path,
+    open_file, open_path, rewound,
 };
 pub use keeping::{Keeping, Reread};
 pub use outputs::{Form, Sheet};

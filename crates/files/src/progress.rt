@@ -2,7 +2,7 @@
 
 ghost use Rattle.std.specs.Prelude.{◌<◌};
 
-use std::io::{self, Read};
+use std::io::{self, Read, Seek, SeekFrom};
 use std::time::{Clock, Instant};
 use verdicts::Gate;
 
@@ -89,6 +89,11 @@ impl Count {
         }
     }
 
+    // None of them again.
+    fn anew(self) -> Count {
+        Count { done: 0, ..self }
+    }
+
     // Where standard error takes nothing there is no line.
     fn tell<R: Eprint>(&self, rt: &R) {
         let (size, unit) = unit_of(self.whole.unwrap_or(self.done));
@@ -136,6 +141,14 @@ impl<'a, R, D> Told<'a, R, D> {
     pub fn into_parts(self) -> (D, Option<io::Error>) {
         let Told { device, error, .. } = self;
         (device, error)
+    }
+}
+
+impl<R, D: Seek> Told<'_, R, D> {
+    /// Goes back to the beginning, where the device has a place to go back to.
+    pub fn rewind(&mut self) -> bool {
+        self.count = self.count.anew();
+        self.device.seek(SeekFrom::Start(0)).is_ok()
     }
 }
 

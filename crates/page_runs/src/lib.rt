@@ -5,7 +5,7 @@ ghost use Rattle.plan_core.specs.PlanContents.{plan_contents};
 ghost use Rattle.verdicts.specs.Faults.{AreFaults, fault_list};
 
 use bus_rows::Paint;
-use capture_check::{Rises, Transaction};
+use capture_check::{Signs, Transaction};
 use decoding::{ExplainedSink, Explaining};
 use dump_findings::{Layout, Selection};
 use dump_tokens::Bus;
@@ -56,7 +56,7 @@ pub fn write_page_with<R: AllocGlobal + Threads + Sync, I: Input, J: Input, O: O
     let words = plans.words(&checked.plan, &provenance);
     let device = device_of(rt.alloc(), bus.device, &provenance)?;
     let mut written = Watched::new(Vec::new(rt.alloc()));
-    let (recording, selection, rises) = recording_of(rt, words, vcd, &mut written, bus, device)?;
+    let (recording, shown, findings) = recording_of(rt, words, vcd, &mut written, bus, device)?;
     let capture = written.into_inner();
     let capture = Shown {
         recording: &recording,
@@ -72,8 +72,8 @@ pub fn write_page_with<R: AllocGlobal + Threads + Sync, I: Input, J: Input, O: O
         out,
     )?;
     Ok(Ended {
-        status: worse(status_of(checked.faults.is_safe()), selection.status()),
-        findings: Findings::Recording(Recorded::Page(selection.seen), rises, None),
+        status: worse(status_of(checked.faults.is_safe()), shown),
+        findings,
         wave: None,
         mended: None,
     })
@@ -86,7 +86,7 @@ struct Shown<'a> {
     report: &'a str,
 }
 
-// What a dump shows, with its explained report, what that tells of, and how often SCL rises.
+// What a dump shows, with its explained report, the status of a run with that, and what people may be told of it.
 fn recording_of<R: AllocGlobal + Threads + Sync, J: Input, O: Output>(
     rt: &R,
     words: PlanWords<'_>,
@@ -94,12 +94,16 @@ fn recording_of<R: AllocGlobal + Threads + Sync, J: Input, O: Output>(
     report: &mut O,
     bus: Bus<'_>,
     device: Option<Address>,
-) -> Result<(Recording, Selection, Rises), Halt> {
+) -> Result<(Recording, Status, Findings), Halt> {
     let mut dump = open_dump(rt.alloc(), vcd, bus)?;
     let selection = Selection::new(bus.view, dump.scale()).with_device(device);
     let recorder = Recorder::new(rt.alloc());
     match record(rt, words, &mut dump, report, selection, recorder) {
-        Ok(recorded) => Ok(recorded),
+        Ok((recording, selection, signs)) => {
+            let told = Recorded::Page(selection.seen);
+            let findings = Findings::Recording(told, signs, None, dump.take_only());
+            Ok((recording, selection.status(), findings))
+        }
         Err(error) => Err(halted(dump, error)),
     }
 }
@@ -111,7 +115,7 @@ fn record<R: AllocGlobal + Threads + Sync, J: Input, O: Output>(
     report: &mut O,
     selection: Selection,
     mut recorder: Recorder,
-) -> Result<(Recording, Selection, Rises), RunError> {
+) -> Result<(Recording, Selection, Signs), RunError> {
     let alloc = rt.alloc();
     let lines = CaptureLines::new(alloc, words, selection, LAYOUT, report)?;
     let both = Both {
@@ -133,7 +137,7 @@ fn record<R: AllocGlobal + Threads + Sync, J: Input, O: Output>(
     let ending = ended?;
     let selection = lines.finish(dump.quiet(), ending)?;
     put_lines(alloc, &mut recording, recorder, dump.quiet().least)?;
-    Ok((recording, selection, ending.rises))
+    Ok((recording, selection, ending.signs))
 }
 
 // Puts the two lines beside the transactions, also without what is shorter than this.

@@ -1,7 +1,7 @@
 // A capture that comes in parts, from its samples to its transactions, without short pulses.
 
 use crate::filtering::Filter;
-use capture_check::{Beside, Follower, Rises, Transaction};
+use capture_check::{Beside, Follower, Signs, Transaction};
 use std::alloc::{AllocError, Global};
 use vcd_read::{Further, Sample};
 
@@ -104,8 +104,8 @@ impl QuietFollower {
         self.follower.idle()
     }
 
-    /// How often SCL has risen.
-    pub fn rises(&self) -> Rises {
-        self.follower.rises()
+    /// What says how well it was recorded.
+    pub fn signs(&self) -> Signs {
+        self.follower.signs()
     }
 }

@@ -155,7 +155,7 @@ fn read_capture<J: Input>(
     };
     let ending = decode(alloc, vcd, scl, sda, least, &mut explaining, wrong)?;
     let mut telling = explaining.sink;
-    telling.rises = ending.rises;
+    telling.signs = ending.signs;
     let captured = telling.finish()?;
     Ok(captured)
 }

@@ -88,7 +88,7 @@ pub fn live_capture<J: Input, O: Output>(
         transactions: last.transactions,
         stopped: last.stopped,
         unexplained: last.unexplained,
-        rises: last.rises,
+        signs: last.signs,
     })
 }
 
@@ -128,6 +128,6 @@ fn tell<J: Input, O: Output>(
         transactions: explaining.sink.transactions,
         stopped: explaining.sink.stopped,
         unexplained: explaining.sink.unexplained,
-        rises: ending.rises,
+        signs: ending.signs,
     })
 }

@@ -6,7 +6,7 @@ ghost use Rattle.plan_core.specs.PlanContents.{plan_contents};
 ghost use Rattle.report.specs.CaptureLines.{capture_line, ending_text, who};
 ghost use Rattle.run_parts.specs.Lines.{labels};
 
-use capture_check::{Rises, Transaction, Until};
+use capture_check::{Signs, Transaction, Until};
 use decoding::ExplainedSink;
 use plan_core::Plan;
 use run_parts::{RunError, Status, push_labels};
@@ -25,8 +25,8 @@ pub struct CaptureReport {
     pub stopped: u64,
     /// How many of these nobody explains.
     pub unexplained: u64,
-    /// How often SCL has risen.
-    pub rises: Rises,
+    /// What says how well it was recorded.
+    pub signs: Signs,
 }
 
 /// What a run says of a capture, beside its lines.
@@ -40,8 +40,8 @@ pub struct CaptureCounts {
     pub stopped: u64,
     /// How many of these nobody explains.
     pub unexplained: u64,
-    /// How often SCL has risen.
-    pub rises: Rises,
+    /// What says how well it was recorded.
+    pub signs: Signs,
 }
 
 /// The lines of the transactions so far, how many of them a STOP ended, and how many of these nobody explains.
@@ -51,8 +51,8 @@ pub struct Telling {
     pub(crate) transactions: u64,
     pub(crate) stopped: u64,
     pub(crate) unexplained: u64,
-    // how often SCL has risen, where that is known
-    pub(crate) rises: Rises,
+    // what says how well it was recorded, where that is known
+    pub(crate) signs: Signs,
 }
 
 impl Telling {
@@ -74,7 +74,7 @@ impl Telling {
             transactions: 0,
             stopped: 0,
             unexplained: 0,
-            rises: Rises::NONE,
+            signs: Signs::NONE,
         }
     }
 
@@ -130,7 +130,7 @@ impl Telling {
             transactions,
             stopped,
             unexplained,
-            rises,
+            signs,
         } = self;
         writeln!(lines, "{stopped} transactions, {unexplained} unexplained")?;
         Ok(CaptureReport {
@@ -139,7 +139,7 @@ impl Telling {
             transactions,
             stopped,
             unexplained,
-            rises,
+            signs,
         })
     }
 }

@@ -10,8 +10,8 @@ use diagnostics::reason_of;
 use dump_findings::Seen;
 use dump_hints::{
     Names, on_bytes, on_choice, on_denied_line, on_dump, on_like_line, on_no_controller,
-    on_no_device, on_no_line, on_no_name, on_none_passes, on_recording, on_rises, on_same_line,
-    on_signals, on_silence, on_unexplained,
+    on_no_device, on_no_line, on_no_name, on_none_passes, on_only, on_recording, on_same_line,
+    on_signals, on_signs, on_silence, on_unexplained,
 };
 use dump_tokens::Drive;
 use given_plans::Provenance;
@@ -34,6 +34,7 @@ use run_values::{Findings, Halt, Mended, NoDrive, Recorded, RefusedSource, words
 use spellings::brief_word;
 use std::alloc::{AllocError, Global};
 use std::io::{self, Read, Seek};
+use vcd_read::Probe;
 
 // ---- after a report
 
@@ -86,11 +87,16 @@ pub(crate) fn advise<R: Eprint + AllocGlobal, F: Read + Seek + Drop>(
         ),
         Findings::Unanswered => on_no_answers(alloc),
         Findings::Fault => on_fault(alloc, errand.form().path()),
-        Findings::Recording(recorded, rises, alike) => {
+        Findings::Recording(recorded, signs, alike, only) => {
             let command = made(alloc, errand.command(alloc));
             let vcd = made(alloc, errand.vcd(alloc));
-            let names = errand.names(command.as_str(), vcd.as_str());
-            say(rt, on_rises(alloc, names, rises), errand.extras);
+            let mut names = errand.names(command.as_str(), vcd.as_str());
+            if let Some(only) = &only {
+                names.scl = Probe::Coded(only.scl.as_str());
+                names.sda = Probe::Coded(only.sda.as_str());
+                say(rt, on_only(alloc, only.options.as_str()), errand.extras);
+            }
+            say(rt, on_signs(alloc, names, signs), errand.extras);
             if let Some(number) = alike {
                 say(
                     rt,

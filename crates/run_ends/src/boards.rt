@@ -5,7 +5,7 @@ ghost use Rattle.board_files.specs.Files.{any_files};
 use crate::errands::Errand;
 use board_files::{FileId, GivenText, Listed, Opener, Unlisted, Why, folder_of, list_texts};
 use brief_tokens::{begin, record};
-use files::{OpenSource, Source, Watcher, closed, is_standard_input, open_path};
+use files::{OpenSource, Source, Watcher, closed, is_standard_input, open_path, rewound};
 use given_plans::RefusedText;
 use lexer::Letters;
 use origins::{Language, Spans};
@@ -14,10 +14,10 @@ use run_parts::{Opened, RunError, Watched, read_within};
 use run_refusals::NamedSources;
 use run_values::{Halt, RefusedSource, Takes, UnreadFile};
 use std::alloc::{AllocError, Global};
-use std::io::{self, Cursor, ErrorKind, Read};
+use std::io::{self, Cursor, ErrorKind, Read, Seek};
 use std::rt::Files;
-use std::str;
 use std::time::Clock;
+use std::{mem, str};
 
 /// What gives a text of a run: its bytes, which were read, what failed as they were read, or its source, of which nothing was read.
 pub type TextReader<S> = Opened<Watched<Cursor<Vec<u8>>>, Opened<Watched<Failing>, S>>;
@@ -42,6 +42,28 @@ pub(crate) fn unread_source<S: Drop>(text: TextReader<S>) -> Option<S> {
     match text {
         Opened::Standard(Opened::Standard(source)) => Some(source),
         _ => None,
+    }
+}
+
+/// Goes back to the beginning of the first text, of which no bytes are kept, where its source can be read once more.
+pub fn rewind_first<R, F: Seek + Drop, S: Drop>(
+    alloc: Global,
+    texts: &mut [TextReader<Source<'_, R, F, S>>],
+) -> bool {
+    let Some(first) = texts.first_mut() else {
+        return false;
+    };
+    let nothing = Opened::File(Watched::new(Cursor::new(Vec::new(alloc))));
+    match mem::replace(first, nothing) {
+        Opened::Standard(Opened::Standard(source)) => {
+            let (source, is_there) = rewound(source);
+            *first = Opened::Standard(Opened::Standard(source));
+            is_there
+        }
+        text => {
+            *first = text;
+            false
+        }
     }
 }
 

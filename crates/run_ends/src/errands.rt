@@ -198,6 +198,7 @@ impl<'a> Errand<'a> {
             sda,
             scope,
             min_pulse,
+            ..
         } = self.lines();
         Names {
             scl,
@@ -281,6 +282,7 @@ const NO_LINES: BusLines<'static> = BusLines {
     sda: Probe::Coded(""),
     scope: None,
     min_pulse: None,
+    finds: false,
 };
 
 // Whether this number of workers can be.

@@ -14,7 +14,7 @@ mod inputs;
 mod messages;
 mod voices;
 
-pub use boards::{FailedText, TextReader, Texts, read_texts};
+pub use boards::{FailedText, TextReader, Texts, read_texts, rewind_first};
 pub use errands::{BoardNames, Errand};
 pub use finishing::finish;
 pub use inputs::{Inputs, OpenFiles, open_files};

@@ -2,7 +2,7 @@
 
 ghost use Rattle.std.specs.Prelude.{◌≡◌};
 
-use capture_check::Rises;
+use capture_check::Signs;
 use cert_check::Answered;
 use dump_findings::Seen;
 use dump_tokens::Window;
@@ -12,6 +12,7 @@ use plan_core::Plan;
 use plan_text::{NoBrief, PlanError};
 use plays::RefusedStarters;
 use run_parts::{RunError, Status};
+use signals::OnlyBus;
 use std::alloc::AllocError;
 use std::io;
 use vcd_read::{VcdError, Wrong};
@@ -64,8 +65,9 @@ pub enum Findings {
     Unanswered,
     /// That what was written is the certificate of a fault.
     Fault,
-    /// What was made of a dump, how often SCL rises in it, and which line of a controller cannot be told apart from SDA.
-    Recording(Recorded, Rises, Option<usize>),
+    /// What was made of a dump, what says how well it was recorded, and which line of a controller cannot be told apart from SDA;
+    /// and the two signals that stood in for lines that it does not have.
+    Recording(Recorded, Signs, Option<usize>, Option<OnlyBus>),
 }
 
 /// What is made of a dump.

@@ -2,7 +2,8 @@
 
 use crate::blocks::{Blocks, read_blocks};
 use crate::definitions::{Definitions, Header, Listing};
-use run_parts::{Input, RunError};
+use run_parts::devices::reading::READS;
+use run_parts::{Input, RunError, Watched, read_within};
 use std::alloc::Global;
 use std::io::{self, Read};
 use vcd_read::{Probe, Reader, VcdError};
@@ -26,6 +27,30 @@ impl<'a, J> Again<'a, J> {
             is_whole: false,
             rest: vcd,
         }
+    }
+
+    /// The whole dump, where all of it was read.
+    pub(crate) fn text(&self) -> &[u8] {
+        self.text.as_slice()
+    }
+}
+
+impl<'a, J: Input> Again<'a, J> {
+    /// Reads the dump to its end, and keeps it.
+    ///
+    /// # Errors
+    ///
+    /// `Read` where the reader fails or gives no end, and `NoMemory`.
+    pub(crate) fn read_all(self, alloc: Global) -> Result<Again<'a, J>, RunError> {
+        let mut dump = Watched::new(self);
+        let text = read_within(alloc, &mut dump, READS)?;
+        let Again { rest, .. } = dump.into_inner();
+        Ok(Again {
+            text,
+            at: 0,
+            is_whole: true,
+            rest,
+        })
     }
 }
 

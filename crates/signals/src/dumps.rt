@@ -1,6 +1,7 @@
 // A dump with the two lines of a bus.
 
 use crate::beginning::Again;
+use crate::listing::{OnlyBus, only_bus};
 use crate::picking::{Line, Picked, Sought, needs_picking, pick, pick_with, probe_of};
 use capture_check::Beside;
 use decoding::{Ending, TransactionSink, decode, decode_beside};
@@ -9,7 +10,8 @@ use run_parts::{Input, RunError, Watched};
 use std::alloc::{AllocError, Global};
 use vcd_read::{Probe, Wrong};
 
-/// Whether the definitions of a dump have to be known before it is read for this bus.
+/// Whether the definitions of a dump have to be known before it is read for this bus: its lines are not found by their references or
+/// codes alone, or it matters what the numbers of the dump count.
 pub fn reads_ahead(bus: Bus<'_>) -> bool {
     let BusLines {
         scl,
@@ -25,6 +27,8 @@ pub struct Dump<'a, 'l, J> {
     again: Watched<Again<'a, J>>,
     lines: BusLines<'l>,
     picked: Option<Picked>,
+    // the two signals that stand in for lines that it does not have
+    only: Option<OnlyBus>,
     // what is wrong with it, where it was refused
     wrong: Option<Wrong>,
 }
@@ -50,6 +54,7 @@ impl<J> Drop for Dump<'_, '_, J> {
             again: _,
             lines: _,
             picked: _,
+            only: _,
             wrong: _,
         } = self;
     }
@@ -57,23 +62,46 @@ impl<J> Drop for Dump<'_, '_, J> {
 
 impl<'a, 'l, J: Input> Dump<'a, 'l, J> {
     /// A dump with the lines of this bus. Its definitions are read ahead, and kept, where the lines are looked for in a scope or by
-    /// names with white space, or it matters what the numbers of the dump count.
+    /// names with white space, or it matters what the numbers of the dump count. All of it is read, and kept, where the only two
+    /// signals that look like a bus are to stand in for lines of which it has neither.
     ///
     /// # Errors
     ///
     /// `Read` where the reader fails, and `NoMemory`.
     pub fn open(alloc: Global, vcd: &'a mut J, bus: Bus<'l>) -> Result<Dump<'a, 'l, J>, RunError> {
         let lines = bus.lines;
-        if !reads_ahead(bus) {
+        if !lines.finds && !reads_ahead(bus) {
             return Ok(Dump {
                 again: Watched::new(Again::unread(alloc, vcd)),
                 lines,
                 picked: None,
+                only: None,
                 wrong: None,
             });
         }
         let (again, picked) = pick(alloc, vcd, lines.scl, lines.sda, lines.scope)?;
-        Ok(Dump::picked(again, lines, picked))
+        if lines.finds && picked.lacks_both() {
+            return Dump::found(alloc, again, lines, picked);
+        }
+        Ok(Dump::picked(again, lines, reads_ahead(bus).then_some(picked)))
+    }
+
+    // The same with the only two signals that look like a bus, where there are such.
+    fn found(
+        alloc: Global,
+        again: Again<'a, J>,
+        lines: BusLines<'l>,
+        picked: Picked,
+    ) -> Result<Dump<'a, 'l, J>, RunError> {
+        let again = again.read_all(alloc)?;
+        let only = only_bus(alloc, again.text(), lines.min_pulse)?;
+        let mut dump = Dump::picked(again, lines, Some(picked));
+        if let (Some(only), Some(picked)) = (&only, &mut dump.picked) {
+            picked.scl = Some(Line::coded(alloc, only.scl.as_str())?);
+            picked.sda = Some(Line::coded(alloc, only.sda.as_str())?);
+        }
+        dump.only = only;
+        Ok(dump)
     }
 
     /// The same with further lines, which are given by names, paths or codes.
@@ -89,14 +117,15 @@ impl<'a, 'l, J: Input> Dump<'a, 'l, J> {
     ) -> Result<Dump<'a, 'l, J>, RunError> {
         let lines = bus.lines;
         let (again, picked) = pick_with(alloc, vcd, lines.scl, lines.sda, lines.scope, others)?;
-        Ok(Dump::picked(again, lines, picked))
+        Ok(Dump::picked(again, lines, Some(picked)))
     }
 
-    fn picked(again: Again<'a, J>, lines: BusLines<'l>, picked: Picked) -> Dump<'a, 'l, J> {
+    fn picked(again: Again<'a, J>, lines: BusLines<'l>, picked: Option<Picked>) -> Dump<'a, 'l, J> {
         Dump {
             again: Watched::new(again),
             lines,
-            picked: Some(picked),
+            picked,
+            only: None,
             wrong: None,
         }
     }
@@ -135,6 +164,11 @@ impl<'a, 'l, J: Input> Dump<'a, 'l, J> {
         Quiet::of(self.lines.min_pulse, self.scale())
     }
 
+    /// The two signals that stand in for lines that the dump does not have: the first time that they are asked for.
+    pub fn take_only(&mut self) -> Option<OnlyBus> {
+        self.only.take()
+    }
+
     /// What is wrong with the dump, where it was refused: the first time that it is asked for.
     pub fn take_wrong(&mut self) -> Option<Wrong> {
         self.wrong.take()
@@ -148,6 +182,7 @@ impl<'a, 'l, J: Input> Dump<'a, 'l, J> {
             lines,
             picked,
             wrong,
+            ..
         } = self;
         let picked: &Option<Picked> = picked;
         let (scl, sda) = match picked {

@@ -4,6 +4,7 @@
 use crate::buses::{Bus, Buses, Change};
 use crate::candidates::Candidates;
 use crate::waiting::Waiting;
+use capture_check::{Pulses, Widths};
 use dump_tokens::{Limits, Quiet, Scale, Window};
 use std::alloc::{AllocError, Global};
 use vcd_read::Level;
@@ -11,9 +12,10 @@ use vcd_read::Level;
 // One signal.
 #[derive(Clone, Copy)]
 struct One {
-    // the level that goes on, and whether one was given that does
+    // the level that goes on, whether one was given that does, and when it began after a known one
     kept: Level,
     has_kept: bool,
+    since: Option<u64>,
     // the level of the latest run, when that began, and whether it has still to last
     now: Level,
     from: u64,
@@ -24,6 +26,7 @@ struct One {
 const UNSEEN: One = One {
     kept: Level::Unknown,
     has_kept: false,
+    since: None,
     now: Level::Unknown,
     from: 0,
     is_waiting: false,
@@ -47,6 +50,8 @@ pub(crate) struct Lasting {
     counts: bool,
     changed: Vec<Change>,
     candidates: Candidates,
+    // how long levels of these are
+    widths: Vec<Widths>,
     buses: Buses,
 }
 
@@ -65,6 +70,7 @@ impl Drop for Lasting {
             counts: _,
             changed: _,
             candidates: _,
+            widths: _,
             buses: _,
         } = self;
     }
@@ -82,6 +88,7 @@ impl Lasting {
         let least = Quiet::of(limits.min_pulse, scale).least;
         let waiting = if least == 0 { 0 } else { signals };
         let buses = Buses::new(alloc, candidates.count())?;
+        let widths = vec![in alloc; Widths::new(); candidates.count()]?;
         Ok(Lasting {
             least,
             window: limits.window,
@@ -94,6 +101,7 @@ impl Lasting {
             counts: limits.window.has(scale, 0),
             changed: Vec::new(alloc),
             candidates,
+            widths,
             buses,
         })
     }
@@ -103,6 +111,18 @@ impl Lasting {
         match self.ones.get(number as usize) {
             Some(one) => one.changes,
             None => 0,
+        }
+    }
+
+    /// The levels of the signal with this number that are too short for the others.
+    pub(crate) fn pulses(&self, number: usize) -> Pulses {
+        let widths = match self.candidates.place(number) {
+            Some(place) => self.widths.get(place),
+            None => None,
+        };
+        match widths {
+            Some(widths) => widths.pulses(&Widths::new()),
+            None => Pulses::NONE,
         }
     }
 
@@ -176,6 +196,7 @@ impl Lasting {
         let One {
             kept: before,
             has_kept,
+            since,
             now,
             from,
             ..
@@ -186,11 +207,15 @@ impl Lasting {
         if before == now {
             return Ok(());
         }
+        one.since = (before != Level::Unknown).then_some(from);
         self.begin_stamp(from);
         if has_kept && self.counts {
             self.count(number);
         }
         if let Some(signal) = self.candidates.place(number) {
+            if now != Level::Unknown {
+                self.measure(signal, since, from);
+            }
             self.changed.push(Change {
                 signal,
                 before,
@@ -198,6 +223,13 @@ impl Lasting {
             })?;
         }
         Ok(())
+    }
+
+    // A level of a candidate ends, before another that is known.
+    fn measure(&mut self, place: usize, since: Option<u64>, to: u64) {
+        if let (Some(widths), Some(since)) = (self.widths.get_mut(place), since) {
+            widths.add(to.saturating_sub(since));
+        }
     }
 
     fn count(&mut self, number: usize) {

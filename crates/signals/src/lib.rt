@@ -29,7 +29,7 @@ pub use beginning::{Again, read_beginning};
 pub use definitions::{Found, Header, Listing};
 pub use dumps::{Dump, OpenDump, reads_ahead};
 pub use fits::{Fit, base_of, fit_of};
-pub use listing::{Listed, Pair, Signal, SignalDump, bus_options};
+pub use listing::{Listed, OnlyBus, Pair, Signal, SignalDump, bus_options};
 pub use masks::MOST as CANDIDATES;
 pub use picking::{Line, Picked, Sought, needs_picking, pick};
 pub use recorded::{RecordedLines, Recorder, Samples};

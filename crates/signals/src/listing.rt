@@ -8,6 +8,7 @@ use crate::codes::Codes;
 use crate::definitions::{Found, Header, Listing};
 use crate::lasting::Lasting;
 use crate::levels::Levels;
+use capture_check::Pulses;
 use dump_tokens::{Limits, Scale, Time, Window};
 use growing_text::Text;
 use run_parts::{Input, RunError, Watched};
@@ -222,6 +223,14 @@ pub struct Signal {
     pub name: String,
 }
 
+/// The codes of the only two signals of a dump that look like a bus, and the options that choose them.
+#[derive(Drop)]
+pub struct OnlyBus {
+    pub scl: String,
+    pub sda: String,
+    pub options: String,
+}
+
 /// Two signals that look like the two lines of a bus.
 #[derive(Drop)]
 pub struct Pair {
@@ -379,7 +388,56 @@ pub fn bus_options<J: Input>(
     }
 }
 
+/// The only two signals of this dump that look like a bus, without levels that last less than this time. A dump that is refused
+/// has none.
+pub(crate) fn only_bus(
+    alloc: Global,
+    vcd: &[u8],
+    min_pulse: Option<Time>,
+) -> Result<Option<OnlyBus>, RunError> {
+    let limits = Limits {
+        window: Window::whole(),
+        min_pulse,
+    };
+    let mut vcd = Watched::new(vcd);
+    match SignalDump::open(alloc, &mut vcd)?.find(alloc, limits, &mut None) {
+        Ok(listed) => listed.only(alloc),
+        Err(RunError::Vcd(_)) => Ok(None),
+        Err(error) => Err(error),
+    }
+}
+
 impl Listed {
+    // The only pair, where its codes are text.
+    fn only(&self, alloc: Global) -> Result<Option<OnlyBus>, RunError> {
+        let [bus] = self.buses.as_slice() else {
+            return Ok(None);
+        };
+        let codes = (
+            str::from_utf8(self.declared.code(bus.scl)),
+            str::from_utf8(self.declared.code(bus.sda)),
+        );
+        let (Ok(scl), Ok(sda)) = codes else {
+            return Ok(None);
+        };
+        Ok(Some(OnlyBus {
+            scl: String::from_str(alloc, scl)?,
+            sda: String::from_str(alloc, sda)?,
+            options: self.options_of(alloc, bus)?,
+        }))
+    }
+
+    /// The short levels of SCL in the first pair that has some.
+    pub fn pulses(&self) -> Pulses {
+        for bus in self.buses.iter() {
+            let pulses = self.shown.pulses(bus.scl);
+            if pulses.scl.count != 0 {
+                return pulses;
+            }
+        }
+        Pulses::NONE
+    }
+
     /// How many signals there are.
     pub fn signals(&self) -> usize {
         self.declared.entries.len()
@@ -472,15 +530,15 @@ impl Listed {
 
     fn options(&self, alloc: Global) -> Result<Option<String>, AllocError> {
         match self.buses.first() {
-            Some(bus) => self.options_of(alloc, bus),
+            Some(bus) => Ok(Some(self.options_of(alloc, bus)?)),
             None => Ok(None),
         }
     }
 
-    fn options_of(&self, alloc: Global, bus: &Bus) -> Result<Option<String>, AllocError> {
+    fn options_of(&self, alloc: Global, bus: &Bus) -> Result<String, AllocError> {
         let mut text = Text::new(alloc);
         self.push_options(&mut text, bus);
-        Ok(Some(text.finish()?))
+        text.finish()
     }
 
     fn push_options(&self, text: &mut Text, bus: &Bus) {

@@ -10,12 +10,14 @@ use vcd_read::Probe;
 
 /// The two lines, where signals were found that have them, and what one step of the dump's time is.
 pub struct Picked {
-    scl: Option<Line>,
-    sda: Option<Line>,
+    pub(crate) scl: Option<Line>,
+    pub(crate) sda: Option<Line>,
     // further lines, in the order in which they were asked for
     others: Vec<Option<Line>>,
     pub scale: Option<Scale>,
     pub(crate) lacks_scale: bool,
+    // whether the definitions have come to their end
+    is_whole: bool,
 }
 
 // Written out, so that one call lets it go.
@@ -27,6 +29,7 @@ impl Drop for Picked {
             others: _,
             scale: _,
             lacks_scale: _,
+            is_whole: _,
         } = self;
     }
 }
@@ -51,6 +54,11 @@ impl Picked {
     pub(crate) fn has_both(&self) -> bool {
         self.scl.is_some() && self.sda.is_some()
     }
+
+    /// Whether the definitions are there, and have neither.
+    pub(crate) fn lacks_both(&self) -> bool {
+        self.is_whole && self.scl.is_none() && self.sda.is_none()
+    }
 }
 
 /// A line that was found: the code of its signal, and which bit of that it is, where the signal has several.
@@ -61,6 +69,14 @@ pub struct Line {
 }
 
 impl Line {
+    /// The signal of one bit with this code.
+    pub(crate) fn coded(alloc: Global, code: &str) -> Result<Line, AllocError> {
+        Ok(Line {
+            code: String::from_str(alloc, code)?,
+            place: None,
+        })
+    }
+
     /// How the reader of dumps finds it.
     pub fn probe(&self) -> Probe<'_> {
         match self.place {
@@ -171,6 +187,7 @@ impl Picker<'_> {
             others: lines,
             scale: header.scale,
             lacks_scale: header.lacks_scale(),
+            is_whole: header.is_whole,
         })
     }
 }

@@ -3,6 +3,7 @@
 use crate::counts::{push_addresses, push_stopped, traffic_lines};
 use crate::moments::push_times;
 use crate::remarks::push_remarks;
+use crate::timing_lines::Clocking;
 use crate::written::Written;
 use bus_rows::with_bytes;
 use capture_check::{Transaction, Until};
@@ -12,6 +13,7 @@ use growing_text::Text;
 use run_parts::{Output, RunError};
 use std::alloc::{AllocError, Global};
 use std::mem;
+use timing::{Stuck, Totals};
 
 /// Writes the lines of transactions with their bytes.
 #[derive(Drop)]
@@ -21,6 +23,8 @@ pub struct DecodeLines<'a, 'w, O> {
     remarks: Remarks<'w>,
     // where headers are counted, and transactions are not told
     addresses: Option<Addresses>,
+    clocking: Clocking,
+    totals: Totals,
 }
 
 impl<'a, 'w, O: Output> DecodeLines<'a, 'w, O> {
@@ -44,12 +48,18 @@ impl<'a, 'w, O: Output> DecodeLines<'a, 'w, O> {
             selection,
             remarks,
             addresses,
+            clocking: Clocking::of(alloc, &selection),
+            totals: Totals::new(),
         })
     }
 
     fn transaction(&mut self, transaction: &Transaction) {
         if !self.selection.takes(transaction, true) {
             return;
+        }
+        if let Some(timed) = &transaction.timed {
+            self.totals
+                .count(timed, self.clocking.scale, self.clocking.judging);
         }
         if let Some(addresses) = &mut self.addresses {
             return addresses.count(transaction);
@@ -72,17 +82,20 @@ impl<'a, 'w, O: Output> DecodeLines<'a, 'w, O> {
         if !self.remarks.are_none() {
             push_remarks(&mut self.written.text, self.remarks, transaction);
         }
+        if let Some(timed) = &transaction.timed {
+            self.clocking.push_timed(&mut self.written.text, timed);
+        }
     }
 
-    /// Writes the last lines, and answers what those that were told come to.
+    /// Writes the last lines, with those of lines that were stuck, and answers what those that were told come to.
     ///
     /// # Errors
     ///
     /// `Write` where the writer failed or took no bytes, and `NoMemory`.
-    pub fn finish(mut self) -> Result<Selection, RunError>
+    pub fn finish(mut self, stuck: &[Stuck]) -> Result<Selection, RunError>
         ensures { IfOk result (λ it. it ≡ self.entry.selection) }
     {
-        self.push_rest();
+        self.push_rest(stuck);
         let DecodeLines {
             mut written,
             selection,
@@ -92,9 +105,10 @@ impl<'a, 'w, O: Output> DecodeLines<'a, 'w, O> {
         Ok(selection)
     }
 
-    fn push_rest(&mut self)
+    fn push_rest(&mut self, stuck: &[Stuck])
         ensures { self.new.selection ≡ self.old.selection }
     {
+        let (clocking, selection) = (self.clocking, self.selection);
         if let Some(addresses) = &self.addresses {
             if self.remarks.explain {
                 let lines = traffic_lines(self.written.alloc, addresses, self.selection.time());
@@ -102,7 +116,9 @@ impl<'a, 'w, O: Output> DecodeLines<'a, 'w, O> {
             } else {
                 push_addresses(&mut self.written.text, addresses, None);
             }
+            clocking.push_totals(&mut self.written.text, &self.totals);
         }
+        clocking.push_end(&mut self.written.text, &selection, stuck);
         push_stopped(&mut self.written.text, self.selection.seen);
         self.written.text.push("\n");
     }

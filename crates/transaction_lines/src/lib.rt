@@ -2,8 +2,8 @@
 //!
 //! `capture_lines` writes them with who explains each, and `decode_lines` without a plan (`written` hands lines on). Which of them
 //! are told, and what they come to, is found in `dump_findings`. `moments` has their times, `captures` what people read below
-//! them (`drove` who pulled the lines, `meetings` where two meet, `pulse_lines` short levels, and `remarks` whom they call), and
-//! `counts` the lines of a summary. `byte_rows` writes their bytes as a table.
+//! them (`drove` who pulled the lines, `meetings` where two meet, `pulse_lines` short levels, and `remarks` whom they call),
+//! `timing_lines` those of times, and `counts` the lines of a summary. `byte_rows` writes their bytes as a table.
 #![tactic(auto)]
 
 mod byte_rows;
@@ -16,6 +16,7 @@ mod meetings;
 mod moments;
 mod pulse_lines;
 mod remarks;
+mod timing_lines;
 mod written;
 
 pub use byte_rows::ByteRows;

@@ -1,6 +1,6 @@
 // What the program does, and the status that it ends with.
 
-use crate::tasks::run_over;
+use crate::tasks::{run_once_more, run_over, with_others};
 use crate::versions::version_of;
 use command_words::{Asked, Format, Manner, Request, Rewriting, When, read_words};
 use files::{FilesRead, Form, Sheet, Source, Watcher, is_standard_input};
@@ -9,7 +9,7 @@ use language_server::serve;
 use refusal_objects::Detail;
 use run_ends::{
     BoardNames, Errand, FailedText, Inputs, OpenFiles, TextReader, Texts, finish, open_files,
-    read_texts, refused,
+    read_texts, refused, rewind_first,
 };
 use run_parts::{RunError, Watched};
 use run_values::{Extras, Halt, Sources};
@@ -234,6 +234,11 @@ fn do_over<'a, R: Files + Input + Print + Eprint + AllocGlobal + Threads + Wait 
         Some(halt) => Err(halt),
         None => run_over(rt, errand, &mut sources, &mut second, &mut out),
     };
+    if let Some(decoding) = with_others(errand, &ended)
+        && rewind_first(rt.alloc(), sources.readers.as_mut_slice())
+    {
+        ended = run_once_more(rt.alloc(), decoding, &mut sources, &mut out);
+    }
     if let (Err(halt), true) = (&mut ended, errand.extras.says_why()) {
         sources.read_on(rt.alloc(), halt);
     }

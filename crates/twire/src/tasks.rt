@@ -1,14 +1,16 @@
 // Which run a request is, over which files.
 
-use command_words::{Mend, Request, Taking};
+use command_words::{Decoding, Mend, Request, Taking};
 use dump_runs::{
-    decode, decode_with_names, explain_capture, learn, learn_with_names, list_signals,
+    decode, decode_others, decode_with_names, explain_capture, learn, learn_with_names,
+    list_signals, may_have_others,
 };
 use page_runs::{write_page_alone, write_page_with};
 use plan_runs::{bench, bench_alone, check, list_offers, order, rewrite, take_offers, verify};
 use run_ends::Errand;
 use run_parts::{Input, Output, RunError};
 use run_values::{Ended, Halt, Sources};
+use std::alloc::Global;
 use std::sync::Wait;
 use std::thread::Threads;
 use std::time::Clock;
@@ -81,6 +83,31 @@ pub fn run_over<
         }
         Request::Rewrite { rewriting, .. } => rewrite(alloc, texts, out, rewriting),
     }
+}
+
+/// What is to be decoded once more, of other lines, where the run that has ended so did not find those that it looked for.
+pub fn with_others<'a>(errand: Errand<'a>, ended: &Result<Ended, Halt>) -> Option<Decoding<'a>> {
+    match errand.request {
+        Request::Decode {
+            names: None,
+            decoding,
+            wave,
+            ..
+        } if may_have_others(decoding, errand.extras.style(), wave.is_some(), ended) => {
+            Some(decoding)
+        }
+        _ => None,
+    }
+}
+
+/// Runs that, over the first text, which is read from its beginning on.
+pub fn run_once_more<I: Input, O: Output>(
+    alloc: Global,
+    decoding: Decoding<'_>,
+    texts: &mut Sources<'_, I>,
+    out: &mut O,
+) -> Result<Ended, Halt> {
+    decode_others(alloc, texts.first()?, out, decoding)
 }
 
 // The second text, which a request that needs it names.

@@ -46,6 +46,7 @@ pub mod sources;
 mod tests;
 #[cfg(test)]
 mod texts;
+pub mod timed;
 mod wires;
 mod words;
 mod writing;

@@ -19,7 +19,7 @@ returns-in_err-ending-clause-stops g c =
 
 pub returns-clause-all : goal.returns-clause-all
 returns-clause-all g c =
-    let it : Telling = record { lines = c.new.result; transactions = c.decode.new.sink.sink.transactions; stopped = c.decode.new.sink.sink.stopped; unexplained = c.decode.new.sink.sink.unexplained; rises = c.in_ok-ending.ending.rises } in
+    let it : Telling = record { lines = c.new.result; transactions = c.decode.new.sink.sink.transactions; stopped = c.decode.new.sink.sink.stopped; unexplained = c.decode.new.sink.sink.unexplained; signs = c.in_ok-ending.ending.signs } in
     let all = tells_all g.O.Output.writer _ c.args.least (asked c.args.scl) (asked c.args.sda) g.J.Input.reader c.args.vcd.now c.decode.new.vcd c.decode.new.sink it refl refl refl refl refl refl c.new.ensures.bytes c.in_ok-ending.ensures.all in
     let same = sym all.0 in
     subst (λ out. HasTold c.args.least (asked c.args.scl) (asked c.args.sda) (plan_contents c.args.plan.now) g.J.Input.reader g.O.Output.writer c.args.vcd.now c.args.out.now it c.decode.new.vcd out) (sym (search rules)) all.1
