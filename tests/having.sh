@@ -263,7 +263,7 @@ refuses "a device, and no brief" "'--device' wants '--names <BRIEF>', which has 
 refuses "codes of no transaction" "'--summary' leaves no transactions for '--pec'" decode mixed --summary --pec
 no_rows="'--format csv' is for 'decode', without '--summary', '--explain', '--pec', '--timing' and '--wave'"
 for words in "check plan" "capture plan mixed" "decode mixed --summary" "decode mixed --explain" "decode mixed --pec" \
-    "decode mixed --wave wave" "signals mixed"; do
+    "decode mixed --timing" "decode mixed --wave wave" "signals mixed"; do
     read -ra words <<<"$words"
     refuses "no rows: ${words[*]}" "$no_rows" "${words[@]}" --format csv
 done

@@ -241,6 +241,32 @@ hinted "the same of a brief" "2 levels of SCL last less than 128 steps of the du
 hinted "a capture that may begin in a transaction" "the capture may begin in a transaction: both lines are HIGH at first, and bits come before a START" late decode
 hinted "not where its lines are exchanged" "0 of the transactions have whole bytes; with the two lines exchanged 1 would: are SCL and SDA exchanged?" plain decode --scl sda --sda scl
 
+# ---- beside what bytes mean
+
+bus general 1 "1 ns" 000000000 100100000
+expect "what bytes mean, and then times" 0 '10000-115000  S 00 Wr A P
+    00 Wr: the general call
+    100.0 kHz, SCL LOW 5 us at most
+125000-230000  S 48 Wr A P
+    100.0 kHz, SCL LOW 5 us at most
+2 transactions' "" decode general --timing --explain
+expect "of one that is asked for" 0 '10000-115000  S 00 Wr A P
+    00 Wr: the general call
+    100.0 kHz, SCL LOW 5 us at most
+1 transactions' "" decode general --timing --explain --address 0x00
+expect "in objects" 0 '{"kind":"transaction","from":10000,"to":115000,"end":"stop","bytes":"S 00 Wr A P","calls":[{"address":"00","direction":"write","meaning":"the general call","devices":[]}],"timing":{"rises":10,"rate":100000,"low":{"from":15000,"lasts":5000}}}
+{"kind":"transactions","transactions":1}' "" decode general --timing --explain --address 0x00 --format json
+expect "in a summary" 0 '00 Wr 1 times, 0 not acknowledged
+48 Wr 1 times, 0 not acknowledged
+00: 1 transactions, 0 bytes, 0 headers and 0 bytes refused, 47.7 % of time
+48: 1 transactions, 0 bytes, 0 headers and 0 bytes refused, 47.7 % of time
+cut 0
+unfinished 0
+    100.0 kHz to 100.0 kHz
+    SCL LOW 5 us at 15000: the longest
+2 transactions' "" decode general --timing --explain --summary
+refuses "times and rows" "'--format csv' is for 'decode', without '--summary', '--explain', '--pec', '--timing' and '--wave'" decode general --timing --format csv
+
 # ---- the only two signals that look like a bus
 
 sed 's/ scl / D0 /; s/ sda / D1 /; s/^\$var.*D1/$var wire 1 # clk $end\n&/' plain >only
@@ -269,7 +295,31 @@ sed '/enddefinitions/i $var wire 1 % D2 $end\n$var wire 1 & D3 $end' only | awk 
     /^#/ { time = substr($1, 2); line = $0; gsub(/!/, "%", line); gsub(/"/, "\\&", line); print; sub(/^#[0-9]* /, "", line)
            other = other "#" (time + 200000) " " line "\n"; next } { print } END { printf "%s", other }' >both
 expect "not where two pairs look like a bus" 2 "" "refused V1 scl" decode both
-expect "nor where the dump is refused" 2 "" "refused V1 scl" decode <(cat only; echo '$end')
-expect "nor where none does" 2 "" "refused V1 scl" decode <(sed '/^#15000/,$d' only)
+{ cat only; echo '$end'; } >refused
+expect "nor where the dump is refused" 2 "" "refused V1 scl" decode refused
+sed '/^#15000/,$d' only >short
+expect "nor where none does" 2 "" "refused V1 scl" decode short
+
+# The exact lines are found by a second reading: of a file, and of up to 1 MiB of standard input, whatever its reads have given.
+expect "with the hint, from a pipe" 0 "$report" "$taken" decode - --hints always < <(cat only)
+expect "from a file that is standard input" 0 "$report" "" decode - <only
+expect "from a pipe in small reads" 0 "$report" "" decode - < <(while IFS= read -r line; do printf '%s\n' "$line"; done <only)
+expect "not from a pipe with a path" 2 "" "refused V1 scl" decode <(cat only)
+expect "but there in another form" 0 "48 Wr 1 times, 0 not acknowledged
+cut 0
+unfinished 0
+1 transactions" "" decode <(cat only) --summary
+# comments NUMBER: lines of 64 bytes.
+comments() {
+    awk -v n="$1" 'BEGIN { for (k = 0; k < n; k++) printf "$comment %049d $end\n", k }'
+}
+# (with what follows in the same read)
+{ comments 15000; cat only; } >below
+{ comments 17000; cat only; } >above
+expect "after less than 1 MiB of standard input" 0 "$report" "" decode - < <(cat below)
+expect "not after more of it" 2 "" "refused V1 scl" decode - < <(cat above)
+expect "after as much of a file" 0 "$report" "" decode above
+{ cat only; comments 17000; } >after
+expect "before more of standard input" 0 "$report" "" decode - < <(cat after)
 
 finish

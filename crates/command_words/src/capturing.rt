@@ -78,6 +78,7 @@ impl<'a> Options<'a> {
         Bus {
             lines,
             view: self.view(),
+            device: self.device,
         }
     }
 

@@ -56,7 +56,8 @@ pub fn add_met(all: &mut Vec<Met>, mut met: Met) -> Result<(), AllocError> {
             }
         }
     }
-    all.push(met)
+    all.push(met)?;
+    Ok(())
 }
 
 /// The pairs of the plan whose two meet in a slot. `parties` are those who send something there, by their numbers.
