@@ -144,7 +144,7 @@ expect "a plan has no devices" 2 "" "refused device fan
 hint: no brief has a device 'fan': devices have names in briefs, and here there
 hint: are none" \
     capture plan mixed --device fan --hints always
-expect "a plan in the place of a brief" 2 "" "refused P2" decode mixed --names plan
+expect "a plan in the place of a brief" 2 "" "refused P2 line 1" decode mixed --names plan
 expect "a brief that is missing" 2 "" "refused read" decode mixed --names missing
 
 # ---- what bytes mean
@@ -179,7 +179,7 @@ wires ten "f4A a5A r f5A 33N" "f4A a5A r f3A 33N" "f5A 33N" "f4A" "f4A 1010010"
 same "addresses of ten bits" '0 2a5 Wr: an address of ten bits
 0 2a5 Rd: an address of ten bits
 1 2a5 Wr: an address of ten bits' "$("$twire" decode ten --explain | awk '/^[0-9]+-/ { k = int($1 / 1000) } /^    / { sub(/^ */, ""); print k, $0 }')"
-expect "ten bits, as objects" 0 '{"kind":"transaction","from":5,"to":580,"end":"stop","bytes":"S 7a Wr A a5 A Sr 7a Rd A 33 NA P","calls":[{"address":"2a5","direction":"write","meaning":"an address of ten bits","devices":[]},{"address":"2a5","direction":"read","meaning":"an address of ten bits","devices":[]}]}
+expect "ten bits, as objects" 0 '{"kind":"transaction","from":5,"to":585,"end":"stop","bytes":"S 7a Wr A a5 A Sr 7a Rd A 33 NA P","calls":[{"address":"2a5","direction":"write","meaning":"an address of ten bits","devices":[]},{"address":"2a5","direction":"read","meaning":"an address of ten bits","devices":[]}]}
 {"kind":"transactions","transactions":1}' "" decode ten --explain --to 5 --format json
 
 # The packet error codes of a0 10 2a and of 90 01 91 d4 are c9 and eb (CRC-8 with the polynomial 0x107).

@@ -258,8 +258,8 @@ expect "in objects" 0 '{"kind":"transaction","from":10000,"to":115000,"end":"sto
 {"kind":"transactions","transactions":1}' "" decode general --timing --explain --address 0x00 --format json
 expect "in a summary" 0 '00 Wr 1 times, 0 not acknowledged
 48 Wr 1 times, 0 not acknowledged
-00: 1 transactions, 0 bytes, 0 headers and 0 bytes refused, 47.7 % of time
-48: 1 transactions, 0 bytes, 0 headers and 0 bytes refused, 47.7 % of time
+    00: 1 transactions, 0 bytes, 0 headers and 0 bytes refused, 47.7 % of time
+    48: 1 transactions, 0 bytes, 0 headers and 0 bytes refused, 47.7 % of time
 cut 0
 unfinished 0
     100.0 kHz to 100.0 kHz
