@@ -112,8 +112,12 @@ impl Widths {
     }
 }
 
+// (there are at most 64 groups)
 fn power(of: usize) -> u64 {
-    1u64.wrapping_shl(of as u32)
+    match u32::try_from(of) {
+        Ok(of) => 1u64.wrapping_shl(of),
+        Err(_) => 0,
+    }
 }
 
 /// Takes the lengths of levels as they end.
