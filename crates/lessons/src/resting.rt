@@ -14,10 +14,8 @@ use run_parts::RunError;
 use std::alloc::{AllocError, Global};
 use verdicts::{Faults, faults};
 
-// How many groups are told.
+// How many groups are told, and how many paths of an item are looked at.
 const TOLD: usize = 8;
-
-// How many paths of an item are looked at.
 const MOST_PATHS: usize = 64;
 
 /// Lines for what the plan of a draft with this likeness rests on: none where no message was seen, or no two may start together.
@@ -123,7 +121,8 @@ enum Side {
 // The unsafe pairs of two sides.
 #[derive(Clone, Copy)]
 struct Group {
-    sides: (Side, Side),
+    one: Side,
+    other: Side,
     pairs: u64,
 }
 
@@ -143,9 +142,9 @@ impl Opened<'_> {
         let names = names_of(self.alloc, trees, items, self.seen.before)?;
         let (groups, others) = self.groups()?;
         for group in groups.iter() {
-            let (one, other) = group.sides;
+            let Group { one, other, pairs } = *group;
             line.begin("#   ", "#      ");
-            line.number(group.pairs, " pairs:");
+            line.number(pairs, " pairs:");
             line.word_made(self.label(names.as_slice(), one));
             line.word("and");
             line.word_made(self.label(names.as_slice(), other));
@@ -170,10 +169,10 @@ impl Opened<'_> {
             let (pair, _) = faults.get(k);
             if pair < plan.pair_count() {
                 let (x, y) = plan.pair(pair);
-                let sides = (self.side(x), self.side(y));
-                if !is_counted(&mut groups, sides) {
+                let (one, other, pairs) = (self.side(x), self.side(y), 1);
+                if !is_counted(&mut groups, one, other) {
                     if groups.len() < TOLD {
-                        groups.push(Group { sides, pairs: 1 })?;
+                        groups.push(Group { one, other, pairs })?;
                     } else {
                         others = others.saturating_add(1);
                     }
@@ -280,10 +279,10 @@ impl Opened<'_> {
     }
 }
 
-// Whether one of these groups has these sides, and counts the pair.
-fn is_counted(groups: &mut Vec<Group>, sides: (Side, Side)) -> bool {
+// Whether one of these groups is of these sides, and counts the pair.
+fn is_counted(groups: &mut Vec<Group>, one: Side, other: Side) -> bool {
     for group in groups.iter_mut() {
-        if group.sides == sides {
+        if group.one == one && group.other == other {
             group.pairs = group.pairs.saturating_add(1);
             return true;
         }
