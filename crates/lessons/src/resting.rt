@@ -57,20 +57,23 @@ fn rests_between(
     wide: &Draft,
 ) -> Result<String, RunError> {
     let (pairs, faults) = judged(alloc, seen, narrow)?.tally();
+    if pairs == 0 {
+        return Ok(String::new(alloc));
+    }
+    let judged = judged(alloc, seen, wide)?;
     let mut line = Lines::new(alloc);
-    if pairs > 0 {
-        push_tally(&mut line, begin, pairs, faults);
-        let judged = judged(alloc, seen, wide)?;
-        let (pairs, faults) = judged.tally();
-        let begin = "# with data open and lengths free (--widen):";
-        push_tally(&mut line, begin, pairs, faults);
-        let opened = Opened {
-            alloc,
-            seen,
-            draft: wide,
-            judged: &judged,
-        };
-        opened.push_groups(&mut line)?;
+    push_tally(&mut line, begin, pairs, faults);
+    let (pairs, faults) = judged.tally();
+    let begin = "# with data open and lengths free (--widen):";
+    push_tally(&mut line, begin, pairs, faults);
+    let opened = Opened {
+        alloc,
+        seen,
+        draft: wide,
+        judged: &judged,
+    };
+    if opened.push_groups(&mut line).is_err() {
+        line.cut();
     }
     Ok(line.finish()?)
 }
