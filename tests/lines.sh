@@ -409,12 +409,23 @@ writes() {
         drove "$free" "$sent" "$target" b $seconds
     fi
 }
-# rests NAME LINES ARG..: the lines that begin with these words of what is learned of the dump `rested`.
+# checked ARG..: what a check says, in the words of these lines.
+checked() { "$twire" check "$@" | sed -n '$ { s/^safe: /safe, /; s/^unsafe: \(.*\)/\1 unsafe/; p }'; }
+# rests NAME LINES ARG..: the lines that begin with these words of what is learned of the dump `rested`. A check of what is learned
+# without --widen, and with it, says the same.
 rests() {
-    local name=$1 wanted=$2
+    local name=$1 wanted=$2 word given=() board=()
     shift 2
     "$twire" learn rested "$@" >learned
     same "$name" "$wanted" "$(sed -n '/^# seen: [0-9]* trans/d; /^brief/d; /^$/q; /^# [0-9]* trans/d; p' learned)"
+    [[ -n $wanted ]] || return 0
+    for word; do [[ $word == --widen ]] || given+=("$word"); done
+    [[ " $* " != *" --names "* ]] || board=(two.brief --with)
+    "$twire" learn rested "${given[@]}" >narrow.brief
+    "$twire" learn rested "${given[@]}" --widen >wide.brief
+    same "$name: a check without --widen" "$(sed -n 's/^# \(as seen\|.*(--merge)\): //p' learned)" \
+        "$(checked "${board[@]}" narrow.brief)"
+    same "$name: a check with --widen" "$(sed -n 's/^# .*(--widen): //p' learned)" "$(checked "${board[@]}" wide.brief)"
 }
 wide="# with data open and lengths free (--widen):"
 # Both write register 0x01, and their first data bytes differ. With these open the one may stop where the other goes on.
