@@ -16,6 +16,7 @@ use verdicts::{Faults, faults};
 
 // How many groups are told, and how many paths of an item are looked at.
 const TOLD: usize = 8;
+
 const MOST_PATHS: usize = 64;
 
 /// Lines for what the plan of a draft with this likeness rests on: none where no message was seen, or no two may start together.
