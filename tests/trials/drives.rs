@@ -23,24 +23,14 @@ use crate::vectors::disagreement;
 use std::io;
 
 // How many dumps there are, and in how many of their plays a controller has a fault: none of one, or all but one of so many.
-const LOTS: [(&str, u32, u64); 3] =
-    [("plays by the rules", 1, 100), ("plays with faults", 8, 200), (LENGTHS, 1, 200)];
+const LOTS: [(&str, u32, u64); 3] = [("plays by the rules", 1, 100), ("plays with faults", 8, 200), (LENGTHS, 1, 200)];
 
 // In these two controllers write data of several lengths to the same registers, so that data may be all that keeps them apart.
 const LENGTHS: &str = "plays of several lengths";
 
 // Each of these is to come up.
-const WANTED: [&str; 9] = [
-    "goes on",
-    "loses",
-    "pulls on",
-    "departs",
-    "joins late",
-    "is SDA",
-    "is not on the bus",
-    APART[0],
-    APART[1],
-];
+const WANTED: [&str; 9] =
+    ["goes on", "loses", "pulls on", "departs", "joins late", "is SDA", "is not on the bus", APART[0], APART[1]];
 
 // What is said of data that kept messages apart.
 const APART: [&str; 2] = ["(apart as seen by data", "(apart by no data)"];
