@@ -343,6 +343,8 @@ same "a lesson where short levels are left out" "$("$twire" learn long "${both[@
 { heads; drove "${header}1000011111" "${header}1001111111" $target Aab; drove "${rest}1111111111" "${header}1001100111" $target b 300; } >lesson
 shared='brief 1
 # seen: 2 transactions, 2 messages
+# as seen: safe, 1 pairs
+# with data open and lengths free (--widen): safe, 1 pairs
 
 # 1 times, first at 5: S 48 Wr A 0f A P
 # never seen: 48 Wr NA, 0x0f NA
@@ -366,6 +368,8 @@ controller seen_2 write_48_r0f ;" "" learn lesson --drives seen=ob
 { heads; drove "${header}1000011111" "${header}1000011111" $target Aab; drove "${rest}1111111111" "${header}1000011111" $target b 300; } >one_message
 expect "a message of both" 0 'brief 1
 # seen: 2 transactions, 1 messages
+# as seen: safe, 1 pairs
+# with data open and lengths free (--widen): safe, 1 pairs
 
 # 2 times, first at 5: S 48 Wr A 0f A P
 # never seen: 48 Wr NA, 0x0f NA
@@ -383,6 +387,9 @@ controller b write_48_r0f ;' "" learn one_message "${both[@]}"
 } >polls
 expect "no message has what only another one sent" 0 'brief 1
 # seen: 2 transactions, 2 messages
+# as seen: 1 of 1 pairs unsafe
+# with data open and lengths free (--widen): 1 of 1 pairs unsafe
+#    1 pairs: a/write_48 and b/write_48_r33 (apart by no data)
 
 # 1 times, first at 5: S 48 Wr A 33 A P
 # never seen: 48 Wr NA, 0x33 NA
@@ -454,6 +461,8 @@ controller b high ;' "" learn other "${both[@]}" --names known.brief
 expect "a controller that the brief has" 0 'brief 1
 # seen: 2 transactions, 1 messages
 # 1 transactions are those of messages in known.brief
+# as seen: safe, 3 pairs
+# with data open and lengths free (--widen): safe, 3 pairs
 
 # 1 times, first at 5: S 48 Wr A 0f A P
 # never seen: 48 Wr NA, 0x0f NA
@@ -467,6 +476,8 @@ sed 's/brief 1/brief 2/' known.brief >board.brief
 expect "a controller of a brief 2 is given more" 0 'brief 2
 # seen: 2 transactions, 1 messages
 # 1 transactions are those of messages in board.brief
+# as seen: safe, 2 pairs
+# with data open and lengths free (--widen): safe, 2 pairs
 
 # 1 times, first at 5: S 48 Wr A 0f A P
 # never seen: 48 Wr NA, 0x0f NA
@@ -490,6 +501,89 @@ for more in 'controller c ; never c a ;' 'controller c high ; never a/high c ;';
     same "a controller that a never names is given nothing: $more" "brief 1 controller a_2" \
         "$(head -n 1 learned.brief) $(grep -o '^controller a_2' learned.brief)"
 done
+
+# ---- what a plan rests on
+
+# writes WHO BYTE..: a controller alone writes these bytes to 0x48 (hex), each acknowledged. One second of the dump after the other.
+seconds=0
+writes() {
+    local who=$1 byte k sent=${header}1 free=${rest}1 target=111111110
+    shift
+    for byte; do
+        for ((k = 7; k >= 0; k--)); do sent+=$(((0x$byte >> k) & 1)); done
+        sent+=1 free+=${rest}1 target+=111111110
+    done
+    ((seconds += 1000))
+    if [[ $who == a ]]; then
+        drove "$sent" "$free" "$target" Aa $seconds
+    else
+        drove "$free" "$sent" "$target" b $seconds
+    fi
+}
+# checked ARG..: what a check says, in the words of these lines.
+checked() { "$twire" check "$@" | sed -n '$ { s/^safe: /safe, /; s/^unsafe: \(.*\)/\1 unsafe/; p }'; }
+# rests NAME LINES ARG..: the lines that begin with these words of what is learned of the dump `rested`. A check of what is learned
+# without --widen, and with it, says the same.
+rests() {
+    local name=$1 wanted=$2 word given=() board=()
+    shift 2
+    "$twire" learn rested "$@" >learned
+    same "$name" "$wanted" "$(sed -n '/^# seen: [0-9]* trans/d; /^brief/d; /^$/q; /^# [0-9]* trans/d; p' learned)"
+    [[ -n $wanted ]] || return 0
+    for word; do [[ $word == --widen ]] || given+=("$word"); done
+    [[ " $* " != *" --names "* ]] || board=(two.brief --with)
+    "$twire" learn rested "${given[@]}" >narrow.brief
+    "$twire" learn rested "${given[@]}" --widen >wide.brief
+    same "$name: a check without --widen" "$(sed -n 's/^# \(as seen\|.*(--merge)\): //p' learned)" \
+        "$(checked "${board[@]}" narrow.brief)"
+    same "$name: a check with --widen" "$(sed -n 's/^# .*(--widen): //p' learned)" "$(checked "${board[@]}" wide.brief)"
+}
+wide="# with data open and lengths free (--widen):"
+# Both write register 0x01, and their first data bytes differ. With these open the one may stop where the other goes on.
+{ heads; writes a 01 3c; writes a 01 3d 3e; writes b 01 40 55 66; } >rested
+apart="$wide 2 of 2 pairs unsafe
+#    2 pairs: a/write_48_r01_any and b/write_48_r01_2 (apart as seen by data
+#       such as 0x3c and 0x40)"
+rests "data kept them apart" "# as seen: safe, 2 pairs
+$apart" "${both[@]}"
+rests "data kept them apart, as --widen writes it" "# as seen: safe, 2 pairs
+$apart" "${both[@]}" --widen
+rests "data kept them apart, and its bits still do" "# with differing bits open (--merge): safe, 2 pairs
+$apart" "${both[@]}" --merge
+rests "one controller" "" --drives a=oa --to 2500
+# 0x3c and 0x42 have no bit in common but the first and the last one, which are those of 0x40.
+{ heads; writes a 01 3c; writes a 01 42; writes b 01 40 55; } >rested
+apart="$wide 1 of 1 pairs unsafe
+#    1 pairs: a/write_48_r01 and b/write_48_r01_2 (apart as seen by data such as
+#       0x3c and 0x40)"
+rests "bits that are open do not keep them apart" "# with differing bits open (--merge): 1 of 1 pairs unsafe
+$apart" "${both[@]}" --merge
+rests "each by itself they are apart" "# as seen: safe, 2 pairs
+$apart" "${both[@]}"
+# The first data byte is the same, and the next one is not.
+{ heads; writes a 01 00 3c; writes b 01 00 40 55; } >rested
+rests "the data that differs is told" "# as seen: safe, 1 pairs
+${apart}" "${both[@]}"
+# The longer one goes on where the other stops, whatever it sends then.
+{ heads; writes a 01 3c; writes b 01 3c 40; } >rested
+rests "they are unsafe as they were seen" "# as seen: 1 of 1 pairs unsafe
+$wide 1 of 1 pairs unsafe
+#    1 pairs: a/write_48_r01 and b/write_48_r01_2 (apart by no data)" "${both[@]}"
+# Of as many bytes each both go on alike, whatever they are.
+{ heads; writes a 01 3c; writes b 01 40; } >rested
+rests "of one length they are safe" "# as seen: safe, 1 pairs
+$wide safe, 1 pairs" "${both[@]}"
+# a calls alone, and b goes on with nine registers.
+{ heads; writes a; for register in 0{1..9}; do writes b $register; done; } >rested
+rests "eight groups are told" "# as seen: 9 of 9 pairs unsafe
+$wide 9 of 9 pairs unsafe
+$(printf '#    1 pairs: a/write_48 and b/write_48_r%s (apart by no data)\n' 0{1..8})
+# and 1 pairs of others" "${both[@]}"
+# A message of the brief before with one that was learned.
+{ heads; writes b 33 7e; } >rested
+rests "beside a brief" "# as seen: 1 of 3 pairs unsafe
+$wide 1 of 3 pairs unsafe
+#    1 pairs: b/high and seen/write_48_r33" --names two.brief
 
 # ---- refusals
 

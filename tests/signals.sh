@@ -1193,6 +1193,8 @@ BYTES
 expect "what is new" 0 'brief 1
 # seen: 8 transactions, 3 messages
 # 4 transactions are those of messages in board.brief
+# as seen: safe, 4 pairs
+# with data open and lengths free (--widen): safe, 4 pairs
 
 # 2 times, first at 1000: S 48 Wr A 01 A 10 A 25 A P
 # never seen: 48 Wr NA, 0x01 NA, 0x10 NA, 0x25 NA

@@ -23,13 +23,18 @@ use crate::values::object;
 use crate::vectors::disagreement;
 use std::io;
 
-// How many dumps there are, and in how many of their plays a controller has a fault: none of one, or all but one of so many. In
-// the last lot messages are alike up to a slot.
-const LOTS: [(&str, u32, u64); 3] =
-    [("plays by the rules", 1, 100), ("plays with faults", 8, 200), ("plays in which two meet", 2, 400)];
+// How many dumps there are, and in how many of their plays a controller has a fault: none of one, or all but one of so many.
+const LOTS: [(&str, u32, u64); 4] =
+    [("plays by the rules", 1, 100), ("plays with faults", 8, 200), (MEETINGS, 2, 400), (LENGTHS, 1, 200)];
+
+// In these messages are alike up to a slot.
+const MEETINGS: &str = "plays in which two meet";
+
+// In these two controllers write data of several lengths to the same registers, so that data may be all that keeps them apart.
+const LENGTHS: &str = "plays of several lengths";
 
 // Each of these is to come up.
-const WANTED: [&str; 16] = [
+const WANTED: [&str; 18] = [
     "goes on",
     "loses",
     "pulls on",
@@ -46,7 +51,12 @@ const WANTED: [&str; 16] = [
     "restart, stop: 0",
     "restart, stop: stop",
     "could have met",
+    APART[0],
+    APART[1],
 ];
+
+// What is said of data that kept messages apart.
+const APART: [&str; 2] = ["(apart as seen by data", "(apart by no data)"];
 
 /// Tells who drove in such dumps, and learns of them, one of so many.
 pub fn try_drives(crew: &mut Crew, score: &mut Score, seed: u64, step: usize) -> io::Result<()> {
@@ -56,7 +66,8 @@ pub fn try_drives(crew: &mut Crew, score: &mut Score, seed: u64, step: usize) ->
         let tried = crew.each(&numbers, |desk, number| {
             let mut dice = Dice { state: mixed(seed ^ 0xd21e ^ place as u64, *number) };
             let plan = match dice.throw(3) {
-                _ if place == 2 => generated::alike_plan(&mut dice),
+                _ if name == MEETINGS => generated::alike_plan(&mut dice),
+                _ if name == LENGTHS => plan_of_two(&mut dice),
                 0 => generated::safe_plan(2 + dice.index(3), &mut dice),
                 _ => generated::plan(&mut dice),
             };
@@ -84,6 +95,15 @@ pub fn try_drives(crew: &mut Crew, score: &mut Score, seed: u64, step: usize) ->
         score.fail(&format!("too few of {kind} among plays: {found}"));
     }
     Ok(())
+}
+
+// A plan of several lengths whose messages two controllers share.
+fn plan_of_two(dice: &mut Dice) -> String {
+    let plan = generated::plan_of_lengths(dice);
+    let (messages, list) = plan.split_once(" controller c ").expect("a controller");
+    let names: Vec<&str> = list.trim_end_matches(" ;").split(' ').collect();
+    let of = |turn: usize| names.iter().skip(turn).step_by(2).map(|name| format!(" {name}")).collect::<String>();
+    format!("{messages} controller c{} ; controller d{} ;", of(0), of(1))
 }
 
 // The kinds of what controllers did, and where both do not say the same.
@@ -116,7 +136,10 @@ fn compare(desk: &mut Desk, name: &str, plan: &str, plays: &Plays) -> io::Result
     for lesson in lessons(plays, &brief) {
         let said = desk.say(brief.as_bytes(), dump, lesson.options(), vec![NAMES[1]])?;
         let told = format!("{name}: {:?}\n{brief}\n{}", lesson.options(), plays.dump);
-        let fault = disagreement(&told, brief.as_bytes(), dump, lesson.wanted(&found), &said);
+        let wanted = lesson.wanted(&found);
+        let unbroken = wanted.out.replace("\n#      ", "");
+        kinds.extend(APART.into_iter().filter(|words| unbroken.contains(words)).map(str::to_owned));
+        let fault = disagreement(&told, brief.as_bytes(), dump, wanted, &said);
         if fault.is_some() {
             return Ok((kinds, fault));
         }

@@ -75,8 +75,12 @@ pub(crate) fn without_paths(
     Ok(learned_of(seen, brief, Vec::new(alloc)))
 }
 
-// The plan that a text means after the briefs before it.
-fn plan_meant(
+/// The plan that a text means after the briefs before it.
+///
+/// # Errors
+///
+/// The refusal of the text, and where an allocation fails.
+pub(crate) fn plan_meant(
     alloc: Global,
     before: Option<&BriefBefore<'_>>,
     text: &[u8],

@@ -5,8 +5,8 @@
 //! together into messages, `families` messages of neighbouring lengths, and `counts` those of neighbouring counts.
 //! `naming` names these, `listing` shares them out among controllers, and `writing` writes them: their frames by
 //! `frames`, the answers that never came by `unseen`, data that was always the same by `alike`. `before` has what a
-//! brief says that is given first. `runs` goes from what was seen to the brief, and `told` has what is told of paths
-//! that are in none of its messages. What a brief means is decided by `brief_text`, and what explains a capture by
+//! brief says that is given first. `runs` goes from what was seen to the brief, `told` has what is told of paths
+//! that are in none of its messages, and `resting` what the safety of its plan rests on. What a brief means is decided by `brief_text`, and what explains a capture by
 //! `capture_check`. `had` finds which paths a message has, by contract, and only those are told as what it was made of.
 //! `checking` reads the brief that was made again, and finds by `taken` which paths its plan has, so that `brief_of`
 //! promises it; `laws` says that there is no path without a transaction. `seen` keeps, by `fitting`, a path only of a
@@ -27,6 +27,7 @@ pub mod learning;
 mod listing;
 mod naming;
 mod paths;
+mod resting;
 mod runs;
 mod seen;
 mod taken;

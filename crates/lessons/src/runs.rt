@@ -5,9 +5,10 @@ ghost use Rattle.lessons.specs.Lessons.{Teaches};
 
 use crate::before::Room;
 use crate::checking::{Learned, checked, without_paths};
-use crate::families::{families_of, messages_of};
+use crate::families::{Item, families_of, messages_of};
 use crate::had::those_had;
 use crate::paths::NoPath;
+use crate::resting::rests_of;
 use crate::seen::{Odd, Sight, Sights, add_odd, listing};
 use crate::told::{Outside, Told, all_lost};
 use crate::trees::{Likeness, Tree};
@@ -24,32 +25,34 @@ use std::alloc::{AllocError, Global};
 pub fn brief_of(alloc: Global, seen: Sights<'_>, likeness: Likeness) -> Result<Learned, RunError>
     ensures { IfOk result (λ learned. Teaches seen.entry learned) }
 {
-    let Messages { trees, told } = put_together(alloc, &seen, likeness)?;
-    let items = match likeness {
-        Likeness::Widened => families_of(alloc, &trees)?,
-        Likeness::Exact | Likeness::Merged => messages_of(alloc, &trees)?,
-    };
-    let brief = written(alloc, &seen, &told, &trees, &items)?;
-    match checked(alloc, &seen, brief, &told)? {
+    let draft = draft_of(alloc, &seen, likeness)?;
+    let rests = rests_of(alloc, &seen, &draft, likeness)?;
+    let brief = written(alloc, &seen, &draft, rests.as_str())?;
+    match checked(alloc, &seen, brief, &draft.told)? {
         Some(learned) => Ok(learned),
         None => nothing_learned(alloc, &seen),
     }
 }
 
-// Messages, and what is told beside them.
+/// Messages, how they are written, and what is told beside them.
 #[derive(Drop)]
-struct Messages {
-    trees: Vec<Tree>,
-    told: Told,
+pub(crate) struct Draft {
+    pub(crate) trees: Vec<Tree>,
+    pub(crate) items: Vec<Item>,
+    pub(crate) told: Told,
 }
 
-// Each path goes into the first message that takes it, or into a new one. What finds no room, and what the message does not
-// have after all, is told.
-fn put_together(
+/// The messages of what was seen. Each path goes into the first message that takes it, or into a new one. What finds no room, and
+/// what the message does not have after all, is told.
+///
+/// # Errors
+///
+/// Where an allocation fails.
+pub(crate) fn draft_of(
     alloc: Global,
     seen: &Sights<'_>,
     likeness: Likeness,
-) -> Result<Messages, AllocError> {
+) -> Result<Draft, AllocError> {
     let room = seen.room();
     let mut trees: Vec<Tree> = Vec::new(alloc);
     let mut outside: Vec<Odd> = Vec::new(alloc);
@@ -66,8 +69,13 @@ fn put_together(
     let mut odd = seen.odd.as_slice().to_vec(alloc)?;
     odd.extend_from_slice(outside.as_slice())?;
     lost.tell(&mut odd, NoPath::Lost)?;
-    Ok(Messages {
+    let items = match likeness {
+        Likeness::Widened => families_of(alloc, &trees)?,
+        Likeness::Exact | Likeness::Merged => messages_of(alloc, &trees)?,
+    };
+    Ok(Draft {
         trees,
+        items,
         told: Told { alone, odd, placed },
     })
 }
@@ -206,7 +214,11 @@ fn sendings_of(trees: &Vec<Tree>) -> u32 {
 fn nothing_learned(alloc: Global, seen: &Sights<'_>) -> Result<Learned, RunError>
     ensures { IfOk result (λ learned. Teaches seen.now learned) }
 {
-    let told = all_lost(alloc, seen)?;
-    let brief = written(alloc, seen, &told, &Vec::new(alloc), &Vec::new(alloc))?;
+    let draft = Draft {
+        trees: Vec::new(alloc),
+        items: Vec::new(alloc),
+        told: all_lost(alloc, seen)?,
+    };
+    let brief = written(alloc, seen, &draft, "")?;
     without_paths(alloc, seen, brief)
 }

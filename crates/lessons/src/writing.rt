@@ -5,6 +5,7 @@ use crate::families::Item;
 use crate::frames::{Part, push_frames, push_run};
 use crate::listing::{Controller, controllers_of, push_controllers};
 use crate::naming::{Name, names_of};
+use crate::runs::Draft;
 use crate::seen::{Odd, Sight, Sights};
 use crate::told::Told;
 use crate::trees::Tree;
@@ -17,24 +18,22 @@ use std::alloc::{AllocError, Global};
 // How many paths are told above a message.
 const TOLD: usize = 8;
 
-/// The brief of these messages and families.
+/// The brief of a draft, with these lines below its counts.
 pub(crate) fn written(
     alloc: Global,
     seen: &Sights<'_>,
-    told: &Told,
-    trees: &Vec<Tree>,
-    items: &Vec<Item>,
+    draft: &Draft,
+    rests: &str,
 ) -> Result<String, AllocError> {
-    let names = names_of(alloc, trees, items, seen.before)?;
-    let controllers = controllers_of(alloc, seen, trees, items)?;
+    let names = names_of(alloc, &draft.trees, &draft.items, seen.before)?;
+    let controllers = controllers_of(alloc, seen, &draft.trees, &draft.items)?;
     let mut line = Lines::new(alloc);
     push_brief(
         alloc,
         &mut line,
         seen,
-        told,
-        trees,
-        items,
+        draft,
+        rests,
         names.as_slice(),
         &controllers,
     );
@@ -45,16 +44,17 @@ fn push_brief(
     alloc: Global,
     line: &mut Lines,
     seen: &Sights<'_>,
-    told: &Told,
-    trees: &Vec<Tree>,
-    items: &Vec<Item>,
+    draft: &Draft,
+    rests: &str,
     names: &[Name],
     controllers: &Vec<Controller>,
 ) {
+    let Draft { trees, items, told } = draft;
     let is_second = controllers.iter().any(|one| one.is_extended);
     line.begin(if is_second { "brief 2" } else { "brief 1" }, "");
     line.end();
     push_counts(alloc, line, seen, told, messages_in(items));
+    line.begin(rests, "");
     for (k, name) in names.iter().enumerate() {
         if let Some(item) = items.get(k) {
             line.end();

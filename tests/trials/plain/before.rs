@@ -8,6 +8,7 @@ use super::words::Refusal;
 /// A brief that is given first.
 pub struct Before {
     pub file: String,
+    pub brief: String,
     pub messages: usize,
     pub controllers: usize,
     pub sendings: usize,
@@ -30,6 +31,7 @@ impl Before {
         let items = items_of(&plan)?;
         Ok(Before {
             file: file.to_owned(),
+            brief: brief.to_owned(),
             messages: items.messages.len(),
             controllers: items.controllers.len(),
             sendings: items.controllers.iter().map(|one| one.sends.len()).sum(),

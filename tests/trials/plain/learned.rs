@@ -4,7 +4,11 @@
 //! came there, and a place is the answers up to it: none at the beginning.
 
 use super::before::{Before, Explained};
+use super::briefs::expansion_of;
 use super::captures::{Mark, Transaction, Until};
+use super::found::checked;
+use super::participants::Participants;
+use super::plans::items_of as items_of_plan;
 use std::collections::{BTreeMap, BTreeSet};
 use std::fmt;
 
@@ -155,6 +159,7 @@ struct Sight {
     owners: BTreeSet<usize>,
 }
 
+#[derive(Clone, Copy)]
 struct Odd {
     reason: Reason,
     times: usize,
@@ -543,6 +548,12 @@ impl Item<'_, '_> {
         self.members[0].owners()
     }
 
+    // Whether a message of the plan is this one, of this name, or one of its family.
+    fn makes(&self, name: &str, message: &str) -> bool {
+        let members = (self.least..=self.most).filter(|_| self.is_family()).map(|n| format!("{name}_{n}"));
+        members.chain([name.to_owned()]).any(|name| name == message)
+    }
+
     fn words(&self, before: Option<&Before>) -> Vec<String> {
         let counts = self.counts.as_ref().map(|(place, least, most)| (place.clone(), format!("{least}..{most}")));
         let (stem, _) = parted(self.members[0].pieces(&[], &Saying { counts, before }));
@@ -650,21 +661,48 @@ pub fn learned_of(transactions: &[Transaction], data: Data, before: Option<&Befo
     }
     // of equal ones the messages, unless there is no room for a controller
     rooms.sort_by_key(|(room, reason)| (*room, *reason != Reason::NoController, *reason != Reason::NoRoom));
-    let (room, full) = rooms[0];
-    let mut messages: Vec<Message> = Vec::new();
-    let mut left = 0;
-    for sight in &sights {
-        if let Some(message) = messages.iter_mut().find(|message| message.takes(sight)) {
-            message.sights.push(sight);
-        } else if messages.len() < room {
-            messages.push(Message { data, sights: vec![sight], told: Vec::new() });
-        } else {
-            left += sight.times;
-            put_odd(&mut odd, full, sight.times, sight.first);
+    let room = rooms[0];
+    let draft = Draft::of(&sights, data, room);
+    odd.extend(draft.left.iter().copied());
+    let left = draft.left.iter().map(|one| one.times).sum();
+    let asked = Asked { said: &said, odd: &odd, before, shares };
+    let rests = if draft.messages.is_empty() {
+        String::new()
+    } else {
+        let other = if data == Data::Widened { Data::AsSeen } else { Data::Widened };
+        let other = Draft::of(&sights, other, room);
+        match data {
+            Data::AsSeen => asked.rests("# as seen:", &draft, &other),
+            Data::Merged => asked.rests("# with differing bits open (--merge):", &draft, &other),
+            Data::Widened => asked.rests("# as seen:", &other, &draft),
         }
+    };
+    Learned { brief: asked.written(&draft, &rests), is_all: odd.is_empty(), left }
+}
+
+// What was seen, put together into messages: also what is told beside them, and what found no room.
+struct Draft<'a> {
+    messages: Vec<Message<'a>>,
+    alone: Vec<&'a Sight>,
+    left: Vec<Odd>,
+}
+
+impl<'a> Draft<'a> {
+    fn of(sights: &'a [Sight], data: Data, (room, full): (usize, Reason)) -> Draft<'a> {
+        let mut messages: Vec<Message> = Vec::new();
+        let mut left = Vec::new();
+        for sight in sights {
+            if let Some(message) = messages.iter_mut().find(|message| message.takes(sight)) {
+                message.sights.push(sight);
+            } else if messages.len() < room {
+                messages.push(Message { data, sights: vec![sight], told: Vec::new() });
+            } else {
+                put_odd(&mut left, full, sight.times, sight.first);
+            }
+        }
+        let alone = tell(&mut messages);
+        Draft { messages, alone, left }
     }
-    let alone = tell(&mut messages);
-    Learned { brief: written(&said, &alone, &odd, &messages, before, shares), is_all: odd.is_empty(), left }
 }
 
 // Shares out which message a path is told of. A header alone that was not acknowledged is told of one that ends there, or else of
@@ -728,34 +766,141 @@ impl Said {
     }
 }
 
-fn written(
-    said: &Said,
-    alone: &[&Sight],
-    odd: &[Odd],
-    messages: &[Message],
-    before: Option<&Before>,
-    shares: &Shares,
-) -> String {
-    let items = items_of(messages);
-    let mut brief = String::from("brief 1\n");
-    let count: usize = items.iter().map(|item| item.most - item.least + 1).sum();
-    brief += &lines(&format!("# seen: {} transactions, {count} messages", said.stopped), "#", &[]);
-    if let Some(before) = before {
-        let mut words: Vec<String> = vec![said.explained.to_string()];
-        words.extend("transactions are those of messages in".split(' ').map(str::to_owned));
-        words.push(before.file.clone());
-        brief += &lines("#", "#  ", &words);
+// What is the same for all briefs of one dump.
+struct Asked<'a> {
+    said: &'a Said,
+    odd: &'a [Odd],
+    before: Option<&'a Before>,
+    shares: &'a Shares<'a>,
+}
+
+impl Asked<'_> {
+    // The brief, with these lines below its counts.
+    fn written(&self, draft: &Draft, rests: &str) -> String {
+        let Asked { said, odd, before, shares } = *self;
+        let items = items_of(&draft.messages);
+        let mut brief = String::from("brief 1\n");
+        let count: usize = items.iter().map(|item| item.most - item.least + 1).sum();
+        brief += &lines(&format!("# seen: {} transactions, {count} messages", said.stopped), "#", &[]);
+        if let Some(before) = before {
+            let mut words: Vec<String> = vec![said.explained.to_string()];
+            words.extend("transactions are those of messages in".split(' ').map(str::to_owned));
+            words.push(before.file.clone());
+            brief += &lines("#", "#  ", &words);
+        }
+        brief.extend(draft.alone.iter().map(|sight| sight_lines("# header alone:", sight)));
+        for Odd { reason, times, first } in odd {
+            let mut words = vec![format!("{times},"), "first".to_owned(), "at".to_owned(), format!("{first}:")];
+            words.extend(reason.to_string().split(' ').map(str::to_owned));
+            brief += &lines("# in no message:", "#  ", &words);
+        }
+        brief += rests;
+        let names = names_of(&items, before);
+        for (item, name) in items.iter().zip(&names) {
+            brief.push('\n');
+            brief += &comments(item);
+            let mut words = vec![name.clone()];
+            words.extend(item.words(before));
+            words.push(";".to_owned());
+            brief += &lines("message", "   ", &words);
+        }
+        brief + &controllers(said, &items, &names, before, shares)
     }
-    brief.extend(alone.iter().map(|sight| sight_lines("# header alone:", sight)));
-    for Odd { reason, times, first } in odd {
-        let mut words = vec![format!("{times},"), "first".to_owned(), "at".to_owned(), format!("{first}:")];
-        words.extend(reason.to_string().split(' ').map(str::to_owned));
-        brief += &lines("# in no message:", "#  ", &words);
+
+    // What a plan rests on: lines of a draft without `--widen`, of which the first one begins so, and of the one with it.
+    fn rests(&self, begin: &str, narrow: &Draft, wide: &Draft) -> String {
+        let (pairs, faults) = self.unsafe_in(narrow);
+        if pairs == 0 {
+            return String::new();
+        }
+        let mut text = tally(begin, pairs, faults.len());
+        let (pairs, faults) = self.unsafe_in(wide);
+        text += &tally("# with data open and lengths free (--widen):", pairs, faults.len());
+        let items = items_of(&wide.messages);
+        let names = names_of(&items, self.before);
+        // the label of a participant, or of the item that makes its message, which is then there too
+        let side = |label: &String| {
+            let learned = label.split_once('/').and_then(|(controller, message)| {
+                let number = (0..items.len()).find(|k| items[*k].makes(&names[*k], message))?;
+                Some((format!("{controller}/{}", names[number]), Some(number)))
+            });
+            learned.unwrap_or((label.clone(), None))
+        };
+        let sides: Vec<_> = faults.iter().map(|(x, y)| (side(x), side(y))).collect();
+        let mut groups = Vec::new();
+        for pair in &sides {
+            if !groups.contains(pair) {
+                groups.push(pair.clone());
+            }
+        }
+        for (x, y) in groups.iter().take(TOLD) {
+            let count = sides.iter().filter(|(a, b)| (a, b) == (x, y)).count();
+            let mut words = vec![format!("{count} pairs:"), x.0.clone(), "and".to_owned(), y.0.clone()];
+            if let (Some(x), Some(y)) = (x.1, y.1) {
+                match first_apart(&items[x], &items[y]) {
+                    Some((x, y)) => {
+                        words.extend("(apart as seen by data such as".split(' ').map(str::to_owned));
+                        words.push(format!("0x{x:02x} and 0x{y:02x})"));
+                    }
+                    None => words.extend("(apart by no data)".split(' ').map(str::to_owned)),
+                }
+            }
+            text += &lines("#   ", "#      ", &words);
+        }
+        let told = sides.iter().filter(|pair| groups.iter().take(TOLD).any(|group| group == *pair)).count();
+        if sides.len() > told {
+            text += &format!("# and {} pairs of others\n", sides.len() - told);
+        }
+        text
     }
+
+    // How many pairs there are, and the labels of those that are unsafe.
+    fn unsafe_in(&self, draft: &Draft) -> (usize, Vec<(String, String)>) {
+        let briefs: Vec<String> = self.before.iter().map(|before| before.brief.clone()).collect();
+        let plan = expansion_of(&[briefs, vec![self.written(draft, "")]].concat()).expect("a plan");
+        let items = items_of_plan(&plan).expect("a plan");
+        let participants = Participants::of(&items);
+        let checked = checked(&participants);
+        let labels = checked.faults.iter().map(|fault| (fault.x.label.clone(), fault.y.label.clone()));
+        (checked.pairs, labels.collect())
+    }
+}
+
+fn tally(begin: &str, pairs: usize, faults: usize) -> String {
+    match faults {
+        0 => format!("{begin} safe, {pairs} pairs\n"),
+        _ => format!("{begin} {faults} of {pairs} pairs unsafe\n"),
+    }
+}
+
+// How many paths of an item are looked at.
+const LOOKED_AT: usize = 64;
+
+// The bytes of the first two paths of these items, of each one, that are apart by data.
+fn first_apart(x: &Item, y: &Item) -> Option<(u8, u8)> {
+    let paths = |item: &Item| {
+        let mut sights: Vec<&Sight> = item.members.iter().flat_map(|message| message.told.iter().copied()).collect();
+        sights.sort_by_key(|sight| sight.first);
+        sights.truncate(LOOKED_AT);
+        sights.iter().map(|sight| sight.path.clone()).collect::<Vec<_>>()
+    };
+    let others = paths(y);
+    paths(x).iter().find_map(|one| others.iter().find_map(|other| apart(one, other)))
+}
+
+fn apart(one: &[Step], other: &[Step]) -> Option<(u8, u8)> {
+    let (a, b) = one.iter().zip(other).find(|(a, b)| a != b)?;
+    match (a.sent, b.sent) {
+        (Sent::Data(a), Sent::Data(b)) if a != b => Some((a, b)),
+        _ => None,
+    }
+}
+
+fn names_of(items: &[Item], before: Option<&Before>) -> Vec<String> {
     let mut names: Vec<String> = Vec::new();
     // the names without numbers, and the numbers that were given
     let mut given: Vec<(String, usize)> = Vec::new();
-    for item in &items {
+    for item in items {
         let base = item.members[0].name(item.is_family());
         let last = given.iter().rev().find(|(other, _)| *other == base).map_or(0, |(_, number)| *number);
         let name_of = |number: usize| {
@@ -768,17 +913,10 @@ fn written(
             !members.chain([name.clone()]).any(|name| before.is_some_and(|before| before.has_message(&name)))
         };
         let number = (last + 1..).find(is_free).expect("a number");
-        let name = name_of(number);
-        brief.push('\n');
-        brief += &comments(item);
-        let mut words = vec![name.clone()];
-        words.extend(item.words(before));
-        words.push(";".to_owned());
-        brief += &lines("message", "   ", &words);
+        names.push(name_of(number));
         given.push((base, number));
-        names.push(name);
     }
-    brief + &controllers(said, &items, &names, before, shares)
+    names
 }
 
 // The controllers, and what each of them lists. The last has what nobody was seen to send. Beside others, and beside a brief,

@@ -11,7 +11,7 @@ use super::dumps::{changes_of, changes_on, Change, DumpRefusal, Level, Signal};
 use super::explained::{decided, Decided};
 use super::generated;
 use super::having::{crc8, Called, Having};
-use super::learned::{learned, Data};
+use super::learned::{learned, learned_of, Data, Shares};
 use super::lines::Lines;
 use super::pairs::proof_of;
 use super::participants::Participants;
@@ -581,6 +581,30 @@ fn what_transactions_have() {
     assert_eq!(had(called(Called::Seven(0x50))), [true, true, false]);
     assert_eq!(had(called(Called::Ten(0x2a5))), [false, false, true]);
     assert_eq!(had(Having { nacked: true, ..Having::default() }), [false, false, false]);
+}
+
+// The example of docs/CAPTURES.md, "What a plan rests on".
+#[test]
+fn what_a_plan_rests_on_is_told_as_the_page_says() {
+    let transactions = [
+        transaction(1000, &[vec![0x90, 0x01, 0x3c]]),
+        transaction(2000, &[vec![0x90, 0x01, 0x40, 0x55]]),
+    ];
+    let owners = [0, 1].map(|owner| Some([owner].into_iter().collect())).to_vec();
+    let shares = Shares { controllers: vec!["a", "b"], owners };
+    let page = include_str!("../../../docs/CAPTURES.md");
+    let (_, page) = page.split_once("as `check` says itself:\n\n").unwrap();
+    let (page, _) = page.split_once("\n- ").unwrap();
+    let page: String = page.lines().map(|line| format!("{}\n", line.strip_prefix("    ").unwrap_or(line))).collect();
+    for data in Data::ALL {
+        let learnt = learned_of(&transactions, data, None, &shares).brief;
+        let wanted = match data {
+            Data::Merged => page.replace("# as seen", "# with differing bits open (--merge)"),
+            Data::AsSeen | Data::Widened => page.clone(),
+        };
+        let head = "brief 1\n# seen: 2 transactions, 2 messages\n";
+        assert!(learnt.starts_with(&format!("{head}{wanted}\n")), "{learnt}");
+    }
 }
 
 // All is acknowledged but the last byte of a read.
