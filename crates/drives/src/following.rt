@@ -175,14 +175,15 @@ impl Drivers {
             let Some(further) = self.ahead.get(self.past) else {
                 break;
             };
-            if time < further.time {
+            let then = further.time;
+            if time < then {
                 break;
             }
             let now = self.pulling(further);
-            if further.time < time {
+            if then < time {
                 self.before = now;
             }
-            if further.time <= self.rose {
+            if then <= self.rose {
                 self.at_rise = now;
             }
             self.now = now;
