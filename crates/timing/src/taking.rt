@@ -148,8 +148,9 @@ impl Stopwatch {
     ///
     /// Where an allocation fails.
     pub fn finish(mut self) -> Result<Vec<Stuck>, AllocError> {
+        let time = self.time;
         if let Some(lines) = self.lines {
-            self.lose(lines, self.time)?;
+            self.lose(lines, time)?;
         }
         let Self {
             scale: _,
