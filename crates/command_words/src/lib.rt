@@ -14,5 +14,6 @@ mod table;
 
 pub use asking::{Asked, Manner, When, read_words};
 pub use requests::{
-    Capture, Format, Layout, Lesson, Look, Mend, OfferNumber, Play, Request, Rewriting, Taking,
+    Capture, Format, Layout, Lesson, Look, Mend, OfferNumber, Play, Request, Rewriting, Tabled,
+    Taking,
 };

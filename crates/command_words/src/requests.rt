@@ -1,5 +1,6 @@
 // What a command line asks for.
 
+use dump_tables::{Rate, is_table_name};
 use dump_tokens::{Bus, Drive, Drives, Limits};
 
 /// A run of the program, with lines for people in its report where `explain` says so. `output` is the file to write, where it
@@ -126,6 +127,25 @@ pub struct Capture<'a> {
     pub stops: bool,
     /// The lines of controllers that are followed.
     pub drives: Drives<'a>,
+}
+
+/// Whether a capture is said to be a table, and with how many samples a second.
+#[derive(Clone, Copy)]
+pub struct Tabled<'a> {
+    pub is_table: bool,
+    pub rate: Option<&'a str>,
+}
+
+impl Tabled<'_> {
+    /// Whether the capture of this name is one.
+    pub fn is_table(self, path: &str) -> bool {
+        self.is_table || is_table_name(path)
+    }
+
+    /// The samples a second, where they were given.
+    pub fn rate(self) -> Option<Rate> {
+        Rate::read(self.rate?)
+    }
 }
 
 /// A brief that is asked for: data after registers is put together if `merge` says so, and is any if `widen` does.
