@@ -211,8 +211,8 @@ fn tabled_of<'a>(matches: &ArgMatches<'a>) -> Result<Tabled<'a>, Fault> {
         rate: matches.get_str("rate"),
     };
     let path = matches.get_str("VCD").or(matches.get_str("capture"));
-    let is_table = tabled.is_table(path.unwrap_or(""));
-    match (tabled.rate, tabled.rate()) {
+    let is_table = tabled.has(path.unwrap_or(""));
+    match (tabled.rate, tabled.samples()) {
         (Some(_), None) => Err(NO_RATE),
         (Some(_), _) if !is_table => Err(NO_TABLE),
         _ if is_table && matches.get_flag("live") => Err(NOT_LIVE),

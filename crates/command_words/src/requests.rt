@@ -138,12 +138,12 @@ pub struct Tabled<'a> {
 
 impl Tabled<'_> {
     /// Whether the capture of this name is one.
-    pub fn is_table(self, path: &str) -> bool {
+    pub fn has(self, path: &str) -> bool {
         self.is_table || is_table_name(path)
     }
 
     /// The samples a second, where they were given.
-    pub fn rate(self) -> Option<Rate> {
+    pub fn samples(self) -> Option<Rate> {
         Rate::read(self.rate?)
     }
 }

@@ -14,7 +14,7 @@ pub(crate) struct Comments<'t> {
     rate: Option<Rate>,
     is_sigrok: bool,
     // names, with commas between them
-    channels: &'t str,
+    channels: Option<&'t str>,
 }
 
 impl<'t> Comments<'t> {
@@ -24,7 +24,7 @@ impl<'t> Comments<'t> {
             given,
             rate: given,
             is_sigrok: false,
-            channels: "",
+            channels: None,
         }
     }
 
@@ -39,7 +39,7 @@ impl<'t> Comments<'t> {
             if name.eq_ignore_ascii_case("samplerate") {
                 self.rate = self.rate.or(Rate::read(said));
             } else if name.starts_with("Channels") {
-                self.channels = said;
+                self.channels = Some(said);
             }
         }
     }
@@ -159,8 +159,10 @@ fn names_of<'t>(
     comments: Comments<'t>,
 ) -> Result<Vec<&'t str>, AllocError> {
     let mut channels = Vec::new(alloc);
-    for name in comments.channels.split(',') {
-        add(&mut channels, name.trim_ascii())?;
+    if let Some(names) = comments.channels {
+        for name in names.split(',') {
+            add(&mut channels, name.trim_ascii())?;
+        }
     }
     if cells.len() == channels.len() && cells.iter().all(|name| *name == "logic") {
         return Ok(channels);

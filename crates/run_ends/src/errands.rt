@@ -183,7 +183,7 @@ impl<'a> Errand<'a> {
     /// Whether its dump is given as a table.
     pub(crate) fn is_table(self) -> bool {
         let last = self.second().unwrap_or(self.given().first);
-        last.what == "capture" && self.tabled.is_table(last.path)
+        last.what == "capture" && self.tabled.has(last.path)
     }
 
     /// How the lines of its dump were to be found. The command, and the file of the dump, are these words.

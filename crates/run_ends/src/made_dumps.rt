@@ -48,7 +48,7 @@ pub(crate) fn read_dump<'a, R: Files + Input + Eprint + Clock + AllocGlobal>(
         return (Opened::Standard(Opened::Standard(source)), None);
     }
     let halt = match read_source(alloc, source) {
-        Ok(Ok(table)) => match dump_of(alloc, table.as_slice(), errand.tabled.rate()) {
+        Ok(Ok(table)) => match dump_of(alloc, table.as_slice(), errand.tabled.samples()) {
             Ok(dump) => return (reader_of(dump), None),
             Err(error) => Halt::from(error),
         },
