@@ -497,7 +497,7 @@ const TABLE: Argument = Argument::Flag {
 const RATE: Argument = Argument::Option {
     id: "rate",
     value_name: "RATE",
-    help: "Its samples a second, as 24MHz, where it has no times",
+    help: "Samples a second of one without times, as 24MHz",
 };
 
 const MERGE: Argument = Argument::Flag {
