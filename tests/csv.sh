@@ -100,7 +100,7 @@ table "24 MHz" "$(dump ps 'D0' '#0 1!' '#83333 0!' '#125000 1!')" '; Samplerate:
 
 # The 95th signal has a code of two characters.
 { printf 'Time [s]'; printf ',c%s' {1..95}; echo; printf 0; printf ',0%.0s' {1..95}; echo; } >table.csv
-same "95 columns" $'signal ~ 1 csv c94\nsignal !! 1 csv c95' "$("$twire" signals table.csv | grep 'c9[45]')"
+same "95 columns" $'signal ~ csv c94\nsignal !! csv c95' "$("$twire" signals table.csv | sed -n '/c9[45]$/s/ [0-9]* csv / csv /p')"
 
 # no_table NAME LINE WORDS TEXT ARG..: a table that is refused, in this line and with this reason.
 no_table() {
@@ -210,10 +210,10 @@ done
 echo "plan 9" >wrong.plan
 same "a plan is refused first" "refused P2 line 1, status 2" "$(answer capture wrong.plan wrong.csv)"
 same "a table that is not there" "refused read, status 2" "$(answer decode missing.csv)"
-mkdir folder.csv
-same "a table that cannot be read" "refused read
-hint: PLAN, status 2" "$(answer capture "$plan" folder.csv --hints always | sed 's/hint: the capture .*/hint: PLAN/; /^hint: [^P]/d')"
-same "a signal that is not there" "twire decode bus --table --scl NAME --sda NAME" \
+mkdir folder.csv folder.vcd
+same "a table that cannot be read" "$(answer capture "$plan" folder.vcd --hints always | sed 's/folder\.vcd/folder.csv/')" \
+    "$(answer capture "$plan" folder.csv --hints always)"
+same "a signal that is not there" "twire decode bus --table --scl scl --sda sda" \
     "$("$twire" decode bus --table --scl clock --hints always 2>&1 | grep -o 'twire decode bus.*')"
 same "a bus that shows nothing" "" "$("$twire" decode bus --table --scl sda --sda scl --hints always 2>&1 | grep 'cannot be read')"
 
