@@ -1,161 +1,233 @@
 #!/usr/bin/env bash
-# What comes from the bench: tables (CSV) that tools/csv_to_vcd makes dumps of, what hints say of files in other formats, and
-# captures whose samples are too far apart.
+# What comes from the bench: tables (CSV), what hints say of files in other formats, and captures whose samples are too far apart.
 source "$(dirname -- "$(readlink -f -- "${BASH_SOURCE[0]}")")/suite.bash" || exit 1
 
 plan=$examples/stop_meets_data.plan
-convert=$top/tools/csv_to_vcd
 
 # ---- tables
 
-if command -v python3 >/dev/null; then
-    # Each example is the transaction of examples/probe_*.vcd: a START at 5 us, a STOP at 160 us.
-    probe=$'5-160 service/probe_10\n1 transactions, 0 unexplained, status 0'
-    "$convert" "$examples/probe_logic.csv" >logic.vcd
-    same "Logic 2" "$probe" "$(answer capture "$plan" logic.vcd --scl "Channel 0" --sda "Channel 1")"
-    "$convert" "$examples/probe_kingst.csv" >kingst.vcd
-    same "Kingst" "$probe" "$(answer capture "$plan" kingst.vcd --scl "Channel 0" --sda "Channel 1")"
-    "$convert" "$examples/probe_pulseview.csv" >pulseview.vcd
-    same "PulseView" "$probe" "$(answer capture "$plan" pulseview.vcd --scl "I2C SCL" --sda "I2C SDA")"
-    same "in parts of a second" $'5 us-160 us service/probe_10\n1 transactions, 0 unexplained, status 0' \
-        "$(answer capture "$plan" logic.vcd --scl "Channel 0" --sda "Channel 1" --times si)"
-    same "a table from a pipe" "$(cat logic.vcd)" "$("$convert" /dev/stdin < <(cat "$examples/probe_logic.csv"))"
-    same "one that stands in a file" "$(cat logic.vcd)" "$("$convert" /dev/stdin <"$examples/probe_logic.csv")"
+# Each example is the transaction of examples/probe_*.vcd: a START at 5 us, a STOP at 160 us.
+probe=$'5-160 service/probe_10\n1 transactions, 0 unexplained, status 0'
+logic=(--scl "Channel 0" --sda "Channel 1")
+same "Logic 2" "$probe" "$(answer capture "$plan" "$examples/probe_logic.csv" "${logic[@]}")"
+same "Kingst" "$probe" "$(answer capture "$plan" "$examples/probe_kingst.csv" "${logic[@]}")"
+same "PulseView" "$probe" "$(answer capture "$plan" "$examples/probe_pulseview.csv" --scl "I2C SCL" --sda "I2C SDA")"
+same "in parts of a second" $'5 us-160 us service/probe_10\n1 transactions, 0 unexplained, status 0' \
+    "$(answer capture "$plan" "$examples/probe_logic.csv" "${logic[@]}" --times si)"
 
-    # dump UNIT NAMES CHANGES..: a dump of signals with these names, which commas part.
-    dump() {
-        local names name code=33
-        echo '$version csv_to_vcd $end'
-        echo "\$timescale 1 $1 \$end"
-        echo '$scope module csv $end'
-        IFS=, read -ra names <<<"$2"
-        for name in "${names[@]}"; do
-            printf '$var wire 1 %b %s $end\n' "\\x$(printf %x $code)" "$name"
-            code=$((code + 1))
-        done
-        printf '%s\n' '$upscope $end' '$enddefinitions $end' "${@:3}"
-    }
-    # table NAME WANTED TEXT ARG..: the dump of a table.
-    table() {
-        printf '%b' "$3" >table.csv
-        same "$1" "$2" "$("$convert" table.csv "${@:4}" 2>&1)"
-    }
-
-    both=$(dump us 'scl,sda' '#0 1! 1"' '#5 0"')
-    table "microseconds" "$both" 'Time [s],scl,sda\n0,1,1\n0.000005,1,0\n'
-    table "no end of the last line" "$both" 'Time [s],scl,sda\n0,1,1\n0.000005,1,0'
-    table "ends of lines with a return" "$both" 'Time [s],scl,sda\r\n0,1,1\r\n0.000005,1,0\r\n'
-    table "a byte order mark" "$both" '\xef\xbb\xbfTime [s],scl,sda\n0,1,1\n0.000005,1,0\n'
-    table "semicolons, and commas in numbers" "$both" 'Time (s);scl;sda\n0,0;1;1\n0,000005;1;0\n'
-    table "tabs" "$both" 'Time\tscl\tsda\n0\t1\t1\n5e-6\t1\t0\n'
-    table "powers of ten" "$both" 'time[s],scl,sda\n0.0E+0,1,1\n0.5E-5,1,0\n'
-    table "quotation marks, and blanks" "$both" '"Time [s]", "scl" , sda\n0, 1, 1\n+0.000005, 1 ,0\n'
-    table "its own unit" "$both" 'Time [ms],scl,sda\n0,1,1\n0.005,1,0\n'
-    table "a micro sign" "$both" 'Time [\xc2\xb5s],scl,sda\n0,1,1\n5,1,0\n'
-    table "rows without a change, and empty lines at the end" "$both" \
-        'Time [s],scl,sda\n0,1,1\n0.000003,1,1\n0.000005,1,0\n0.000009,1,0\n\n\n'
-    table "times before 0" "$both" 'Time [s],scl,sda\n-0.000002,1,1\n0.000003,1,0\n'
-    table "a first time above 0" "$(dump us 'scl,sda' '#2 1! 1"' '#3 0"')" 'Time [s],scl,sda\n0.000002,1,1\n0.000003,1,0\n'
-    table "dates" "$(dump us 'scl,sda' '#0 1! 1"' '#1000005 0"')" \
-        'Time,scl,sda\n2026-11-25T23:59:59.5+00:00,1,1\n2026-11-26T00:00:00.500005000Z,1,0\n'
-    table "dates with a decimal comma" "$(dump us 'scl,sda' '#0 1! 1"' '#1000005 0"')" \
-        'Time;scl;sda\n2026-11-25T23:59:59,5+00:00;1;1\n2026-11-26T00:00:00,500005;1;0\n'
-    table "a decimal comma in quotation marks" "$(dump us 'scl,sda' '#0 1! 1"' '#5 0"')" \
-        'Time,scl,sda\n"2026-11-25 10:00:00,000001",1,1\n"2026-11-25 10:00:00,000006",1,0\n'
-    table "dates with picoseconds" "$(dump ps 'scl,sda' '#0 1! 1"' '#1000000000001 0"')" \
-        'Time;scl;sda\n2026-11-25T23:59:59,123456789012Z;1;1\n2026-11-26T00:00:00,123456789013Z;1;0\n'
-    table "dates with a zone" "$(dump s 'scl,sda' '#0 1! 1"' '#1 0"')" \
-        'Time [s],scl,sda\n2026-11-25T12:00:00+01:00,1,1\n2026-11-25T11:00:01Z,1,0\n'
-    table "equal times" "$(dump us 'scl,sda' '#0 1! 1"' '#5 0!' '#5 0"')" 'Time [s],scl,sda\n0,1,1\n0.000005,0,1\n0.000005,0,0\n'
-    table "names with blanks" "$(dump ms 'I2C SCL,I2C SDA' '#0 1! 1"' '#1 0! 0"')" 'Time [s],I2C  SCL,I2C SDA\n0,1,1\n0.001,0,0\n'
-
-    # The coarsest unit in which all times are whole.
-    table "seconds" "$(dump s 'scl' '#0 1!' '#20 0!')" 'Time [s],scl\n0,1\n20.0,0\n'
-    table "nanoseconds" "$(dump ns 'scl' '#0 1!' '#1000 0!' '#1001 1!')" 'Time [us],scl\n0,1\n1,0\n1.001,1\n'
-    table "picoseconds" "$(dump ps 'scl' '#0 1!' '#41667 0!')" 'Time [s],scl\n0,1\n0.000000041667,0\n'
-    table "femtoseconds" "$(dump fs 'scl' '#0 1!' '#1 0!')" 'Time [s],scl\n0,1\n0.000000000000001,0\n'
-
-    # Samples: the third comes two samples after the first.
-    samples='1,1\n1,1\n1,0\n'
-    third=$(dump us 'D0,D1' '#0 1! 1"' '#2 0"')
-    table "sigrok's sample rate" "$third" "; CSV generated by libsigrok 0.5.2\n; Channels (2/2): D0, D1\n; Samplerate: 1 MHz\nlogic,logic\n$samples"
-    table "sigrok's other line of it" "$third" "; Channels (2/2): D0, D1\nMETA samplerate: 1000000\nlogic,logic\n$samples"
-    table "sigrok's times" "$(dump us 'D0,D1' '#1 1! 1"' '#3 0"')" \
-        '; CSV generated by libsigrok 0.5.2\n; Channels (2/2): D0, D1\n; Samplerate: 1 MHz\nmicroseconds,logic,logic\n1,1,1\n2,1,1\n3,1,0\n'
-    for rate in 1MHz '1 MHz' 1M 1000kHz 1000000 0.001G; do
-        table "a rate of $rate" "$third" "D0,D1\n$samples" --rate "$rate"
+# dump UNIT NAMES CHANGES..: a dump of signals with these names, which commas part.
+dump() {
+    local names name code=33
+    echo "\$timescale 1 $1 \$end"
+    echo '$scope module csv $end'
+    IFS=, read -ra names <<<"$2"
+    for name in "${names[@]}"; do
+        printf '$var wire 1 %b %s $end\n' "\\x$(printf %x $code)" "$name"
+        code=$((code + 1))
     done
-    table "another rate than the file's" "$(dump ms 'D0,D1' '#0 1! 1"' '#2 0"')" "; Samplerate: 1 MHz\nD0,D1\n$samples" --rate 1kHz
-    # 2 samples of 24 MHz take 83333.3 ps, and 3 take 125 ns.
-    table "24 MHz" "$(dump ps 'D0' '#0 1!' '#83333 0!' '#125000 1!')" '; Samplerate: 24 MHz\nD0\n1\n1\n0\n1\n'
+    printf '%s\n' '$upscope $end' '$enddefinitions $end' "${@:3}"
+}
+# shown FILE SCL SDA ARG..: what a capture shows: its signals, and two of them as a bus, with all times and levels as waves.
+shown() {
+    local lines=(--scl "$2" --sda "$3")
+    answer signals "$1" "${@:4}"
+    answer decode "$1" "${lines[@]}" --times si --wave waves "${@:4}"
+    cat waves
+    rm waves
+}
+# table NAME WANTED TEXT ARG..: a table shows what a dump does.
+table() {
+    local names
+    printf '%s\n' "$2" >wanted.vcd
+    printf '%b' "$3" >table.csv
+    mapfile -t names < <(sed -n 's/^$var wire 1 [^ ]* \(.*\) $end$/\1/p' wanted.vcd)
+    same "$1" "$(shown wanted.vcd "${names[0]}" "${names[-1]}")" "$(shown table.csv "${names[0]}" "${names[-1]}" "${@:4}")"
+}
 
-    # The 95th signal has a code of two characters.
-    { printf 'Time [s]'; printf ',c%s' {1..95}; echo; printf 0; printf ',0%.0s' {1..95}; echo; } >table.csv
-    same "95 columns" '$var wire 1 ~ c94 $end
-$var wire 1 !! c95 $end' "$("$convert" table.csv | grep 'c9[45] ')"
+both=$(dump us 'scl,sda' '#0 1! 1"' '#5 0"')
+table "microseconds" "$both" 'Time [s],scl,sda\n0,1,1\n0.000005,1,0\n'
+table "no end of the last line" "$both" 'Time [s],scl,sda\n0,1,1\n0.000005,1,0'
+table "ends of lines with a return" "$both" 'Time [s],scl,sda\r\n0,1,1\r\n0.000005,1,0\r\n'
+table "a byte order mark" "$both" '\xef\xbb\xbfTime [s],scl,sda\n0,1,1\n0.000005,1,0\n'
+table "semicolons, and commas in numbers" "$both" 'Time (s);scl;sda\n0,0;1;1\n0,000005;1;0\n'
+table "tabs" "$both" 'Time\tscl\tsda\n0\t1\t1\n5e-6\t1\t0\n'
+table "powers of ten" "$both" 'time[s],scl,sda\n0.0E+0,1,1\n0.5E-5,1,0\n'
+table "quotation marks, and blanks" "$both" '"Time [s]", "scl" , sda\n0, 1, 1\n+0.000005, 1 ,0\n'
+table "its own unit" "$both" 'Time [ms],scl,sda\n0,1,1\n0.005,1,0\n'
+table "a micro sign" "$both" 'Time [\xc2\xb5s],scl,sda\n0,1,1\n5,1,0\n'
+table "rows without a change, and empty lines at the end" "$both" \
+    'Time [s],scl,sda\n0,1,1\n0.000003,1,1\n0.000005,1,0\n0.000009,1,0\n\n\n'
+table "times before 0" "$both" 'Time [s],scl,sda\n-0.000002,1,1\n0.000003,1,0\n'
+table "a first time above 0" "$(dump us 'scl,sda' '#2 1! 1"' '#3 0"')" 'Time [s],scl,sda\n0.000002,1,1\n0.000003,1,0\n'
+table "dates" "$(dump us 'scl,sda' '#0 1! 1"' '#1000005 0"')" \
+    'Time,scl,sda\n2026-11-25T23:59:59.5+00:00,1,1\n2026-11-26T00:00:00.500005000Z,1,0\n'
+table "dates with a decimal comma" "$(dump us 'scl,sda' '#0 1! 1"' '#1000005 0"')" \
+    'Time;scl;sda\n2026-11-25T23:59:59,5+00:00;1;1\n2026-11-26T00:00:00,500005;1;0\n'
+table "a decimal comma in quotation marks" "$(dump us 'scl,sda' '#0 1! 1"' '#5 0"')" \
+    'Time,scl,sda\n"2026-11-25 10:00:00,000001",1,1\n"2026-11-25 10:00:00,000006",1,0\n'
+table "dates with nanoseconds" "$(dump ns 'scl,sda' '#0 1! 1"' '#1000000001 0"')" \
+    'Time;scl;sda\n2026-11-25T23:59:59,123456789Z;1;1\n2026-11-26T00:00:00,123456790Z;1;0\n'
+table "a leap year" "$(dump s 'scl,sda' '#0 1! 1"' '#172800 0"')" \
+    'Time,scl,sda\n2028-02-28T00:00:00Z,1,1\n2028-03-01T00:00:00Z,1,0\n'
+table "columns of sigrok without a comment on channels" "$(dump us 'logic' '#0 1!' '#1 0!')" '; Samplerate: 1 MHz\nlogic\n1\n0\n'
+table "comments of WaveForms, and an empty line" "$both" \
+    '#Digilent WaveForms Logic Analyzer Export\n#Device: \xe9\n\nTime (s),scl,sda\n-5e-06,1,1\n0,1,0\n'
+table "comments of DSView" "$both" '; CSV, generated by libsigrok4DSL 0.2.0\n; Channels (2/16)\nTime(s), scl, sda\n0, 1, 1\n5e-06, 1, 0\n'
+table "dates with a zone" "$(dump s 'scl,sda' '#0 1! 1"' '#1 0"')" \
+    'Time [s],scl,sda\n2026-11-25T12:00:00+01:00,1,1\n2026-11-25T11:00:01Z,1,0\n'
+table "equal times" "$(dump us 'scl,sda' '#0 1! 1"' '#5 0!' '#5 0"')" 'Time [s],scl,sda\n0,1,1\n0.000005,0,1\n0.000005,0,0\n'
+table "names with blanks" "$(dump ms 'I2C SCL,I2C SDA' '#0 1! 1"' '#1 0! 0"')" 'Time [s],I2C  SCL,I2C SDA\n0,1,1\n0.001,0,0\n'
 
-    # no_table NAME WORDS TEXT ARG..: a table that is refused, with nothing on standard output.
-    no_table() {
-        printf '%b' "$3" >table.csv
-        "$convert" table.csv "${@:4}" >out 2>err
-        same "$1" "2 csv_to_vcd: table.csv: $2" "$? $(cat out err)"
-    }
-    no_table "an empty file" "it has no line with the names of columns" ''
-    no_table "no names" "line 1: a row stands where the names of the columns are expected" '0,1,1\n5,1,0\n'
-    no_table "no names, below comments" "line 2: a row stands where the names of the columns are expected" '; Samplerate: 1 MHz\n1,1\n'
-    no_table "no time and no rate" \
-        "line 1: the first column has no times ('Time [s]'), and there is no sample rate: give --rate" 'scl,sda\n1,1\n'
-    no_table "times and a rate" "line 1: --rate is for a table without times, and this one has a column of them" \
-        'Time [s],scl\n0,1\n' --rate 1MHz
-    no_table "no rows" "line 1: there are no rows below the names of the columns" 'Time [s],scl\n'
-    no_table "times alone" "line 1: it has no column beside that of times" 'Time [s]\n0\n'
-    no_table "a column without a name" "line 1: a column has the name '', which no signal can have" 'Time [s],scl,\n0,1,\n'
-    no_table "two columns with one name" "line 1: two columns have the name 'scl'" 'Time [s],scl,scl\n0,1,1\n'
-    no_table "a name with an end" "line 1: a column has the name 'a \$end', which no signal can have" 'Time [s],a $end\n0,1\n'
-    no_table "an unknown unit" "line 1: the unit of the times is not known" 'Time [min],scl\n0,1\n'
-    no_table "times of sigrok without a unit" "line 3: the times have no unit: have sigrok-cli write them without 'time=true'" \
-        '; CSV generated by libsigrok 0.5.2\n; Samplerate: 1 MHz\nTime,D0\n1,1\n'
-    no_table "times that are all the same" "line 1: all times are the same" 'Time [s],scl\n0,1\n0,0\n'
-    no_table "a value that is no bit" "line 3: '1.0' in the column 'sda' is neither 0 nor 1" 'Time [s],scl,sda\n0,1,1\n1,1,1.0\n'
-    no_table "a level that is not known" "line 2: 'X' in the column 'scl' is neither 0 nor 1" 'Time [s],scl\n0,X\n'
-    no_table "a time that is none" "line 3: 'now' is no time" 'Time [s],scl\n0,1\nnow,0\n'
-    no_table "a number among dates" "line 3: a number stands in the column of times, which has dates above it" \
-        'Time,scl\n2026-11-25T00:00:00Z,1\n0.5,0\n'
-    no_table "a date among numbers" "line 4: a date stands in the column of times, which has numbers above it" \
-        'Time,scl\n0,1\n0.5,0\n2026-11-25T00:00:00Z,1\n'
-    no_table "a date that is none" "line 2: '2026-13-01T00:00:00Z' is no time" 'Time [s],scl\n2026-13-01T00:00:00Z,1\n'
-    no_table "a time that goes back" "line 4: this time is below the one before it" 'Time [s],scl\n0,1\n2,0\n1,1\n'
-    no_table "a part of a femtosecond" "line 3: a time has parts of a femtosecond" 'Time [s],scl\n0,1\n0.0000000000000005,0\n'
-    no_table "a number of very many digits" "line 2: '$(printf '9%.0s' {1..5000})' is no time" "Time [s],scl\n$(printf '9%.0s' {1..5000}),1\n"
-    no_table "times beyond 64 bits" "line 1: the times are too long for a dump in fs" \
-        'Time [s],scl\n0.000000000000001,1\n18446.744073709551616,0\n'
-    table "the greatest time" "$(dump fs 'scl' '#1 1!' '#18446744073709551615 0!')" \
-        'Time [s],scl\n0.000000000000001,1\n18446.744073709551615,0\n'
-    no_table "a short row" "line 3: 2 columns stand where 3 have names" 'Time [s],scl,sda\n0,1,1\n1,1\n'
-    no_table "a long row" "line 2: 4 columns stand where 3 have names" 'Time [s],scl,sda\n0,1,1,1\n'
-    no_table "an empty line among rows" "line 3: an empty line stands among the rows" 'Time [s],scl\n0,1\n\n1,0\n'
-    same "a file that is not there" "csv_to_vcd: missing.csv: No such file or directory" "$("$convert" missing.csv 2>&1)"
-    same "a rate that is none" "csv_to_vcd: --rate takes a whole number of samples a second, as 1MHz" "$("$convert" a.csv --rate fast 2>&1)"
-    same "its help" "usage: tools/csv_to_vcd FILE [--rate RATE]" "$("$convert" --help | head -n 1)"
-    same "a full disk" "csv_to_vcd: standard output: No space left on device" \
-        "$("$convert" "$examples/probe_logic.csv" 2>&1 >/dev/full)"
-    "$convert" >out 2>err
-    same "no file" "2  usage: tools/csv_to_vcd FILE [--rate RATE]" "$? $(cat out) $(head -n 1 err)"
-else
-    echo "left out: tables (no python3)"
-fi
+# The coarsest unit in which all times are whole.
+table "seconds" "$(dump s 'scl' '#0 1!' '#20 0!')" 'Time [s],scl\n0,1\n20.0,0\n'
+table "nanoseconds" "$(dump ns 'scl' '#0 1!' '#1000 0!' '#1001 1!')" 'Time [us],scl\n0,1\n1,0\n1.001,1\n'
+table "picoseconds" "$(dump ps 'scl' '#0 1!' '#41667 0!')" 'Time [s],scl\n0,1\n0.000000041667,0\n'
+table "femtoseconds" "$(dump fs 'scl' '#0 1!' '#1 0!')" 'Time [s],scl\n0,1\n0.000000000000001,0\n'
+
+# Samples: the third comes two samples after the first.
+samples='1,1\n1,1\n1,0\n'
+third=$(dump us 'D0,D1' '#0 1! 1"' '#2 0"')
+table "sigrok's sample rate" "$third" "; CSV generated by libsigrok 0.5.2\n; Channels (2/2): D0, D1\n; Samplerate: 1 MHz\nlogic,logic\n$samples"
+table "sigrok's other line of it" "$third" "; Channels (2/2): D0, D1\nMETA samplerate: 1000000\nlogic,logic\n$samples"
+table "sigrok's times" "$(dump us 'D0,D1' '#1 1! 1"' '#3 0"')" \
+    '; CSV generated by libsigrok 0.5.2\n; Channels (2/2): D0, D1\n; Samplerate: 1 MHz\nmicroseconds,logic,logic\n1,1,1\n2,1,1\n3,1,0\n'
+for rate in 1MHz '1 MHz' 1M 1000kHz 1000000 0.001G; do
+    table "a rate of $rate" "$third" "D0,D1\n$samples" --rate "$rate"
+done
+table "another rate than the file's" "$(dump ms 'D0,D1' '#0 1! 1"' '#2 0"')" "; Samplerate: 1 MHz\nD0,D1\n$samples" --rate 1kHz
+# 2 samples of 24 MHz take 83333.3 ps, and 3 take 125 ns.
+table "24 MHz" "$(dump ps 'D0' '#0 1!' '#83333 0!' '#125000 1!')" '; Samplerate: 24 MHz\nD0\n1\n1\n0\n1\n'
+
+# The 95th signal has a code of two characters.
+{ printf 'Time [s]'; printf ',c%s' {1..95}; echo; printf 0; printf ',0%.0s' {1..95}; echo; } >table.csv
+same "95 columns" $'signal ~ csv c94\nsignal !! csv c95' "$("$twire" signals table.csv | sed -n '/c9[45]$/s/ [0-9]* csv / csv /p')"
+
+# no_table NAME LINE WORDS TEXT ARG..: a table that is refused, in this line and with this reason.
+no_table() {
+    printf '%b' "$4" >table.csv
+    same "$1" "refused table line $2, status 2" "$(answer decode table.csv "${@:5}")"
+    same "why: $1" "{\"kind\":\"refusal\",\"code\":\"table\",\"line\":$2,\"reason\":\"$3\"}, status 2" \
+        "$(answer decode table.csv --format json "${@:5}")"
+}
+no_table "an empty file" 1 "it has no line with the names of columns" ''
+no_table "no names" 1 "a row stands where the names of the columns are expected" '0,1,1\n5,1,0\n'
+no_table "no names, below comments" 2 "a row stands where the names of the columns are expected" '; Samplerate: 1 MHz\n1,1\n'
+no_table "no time and no rate" \
+    1 "the first column has no times ('Time [s]'), and there is no sample rate: give --rate" 'scl,sda\n1,1\n'
+no_table "times and a rate" 1 "--rate is for a table without times, and this one has a column of them" \
+    'Time [s],scl\n0,1\n' --rate 1MHz
+no_table "no rows" 1 "there are no rows below the names of the columns" 'Time [s],scl\n'
+no_table "times alone" 1 "it has no column beside that of times" 'Time [s]\n0\n'
+no_table "a column without a name" 1 "a column has the name '', which no signal can have" 'Time [s],scl,\n0,1,\n'
+no_table "two columns with one name" 1 "two columns have the name 'scl'" 'Time [s],scl,scl\n0,1,1\n'
+no_table "a name with an end" 1 "a column has the name 'a \$end', which no signal can have" 'Time [s],a $end\n0,1\n'
+no_table "an unknown unit" 2 "the unit of the times is not known" 'Time [min],scl\n0,1\n'
+no_table "times of sigrok without a unit" 3 "the times have no unit: have sigrok-cli write them without 'time=true'" \
+    '; CSV generated by libsigrok 0.5.2\n; Samplerate: 1 MHz\nTime,D0\n1,1\n'
+no_table "times that are all the same" 1 "all times are the same" 'Time [s],scl\n0,1\n0,0\n'
+no_table "a value that is no bit" 3 "'1.0' is neither 0 nor 1" 'Time [s],scl,sda\n0,1,1\n1,1,1.0\n'
+no_table "a level that is not known" 2 "'X' is neither 0 nor 1" 'Time [s],scl\n0,X\n'
+no_table "a time that is none" 3 "'now' is no time" 'Time [s],scl\n0,1\nnow,0\n'
+no_table "a number among dates" 3 "dates and numbers stand in one column of times" \
+    'Time,scl\n2026-11-25T00:00:00Z,1\n0.5,0\n'
+no_table "a date among numbers" 4 "dates and numbers stand in one column of times" \
+    'Time,scl\n0,1\n0.5,0\n2026-11-25T00:00:00Z,1\n'
+no_table "a date that is none" 2 "'2026-13-01T00:00:00Z' is no time" 'Time [s],scl\n2026-13-01T00:00:00Z,1\n'
+no_table "a time that goes back" 4 "this time is below the one before it" 'Time [s],scl\n0,1\n2,0\n1,1\n'
+no_table "a part of a femtosecond" 3 "'0.0000000000000005' has parts of a femtosecond, or is too long" \
+    'Time [s],scl\n0,1\n0.0000000000000005,0\n'
+no_table "a date with picoseconds" 2 "'2026-11-25T23:59:59.123456789012Z' is no time" 'Time,scl\n2026-11-25T23:59:59.123456789012Z,1\n'
+no_table "a number of very many digits" 2 "'$(printf '9%.0s' {1..40})..' is no time" "Time [s],scl\n$(printf '9%.0s' {1..5000}),1\n"
+no_table "times beyond 64 bits" 1 "the times are too long for a dump in their unit" \
+    'Time [s],scl\n0.000000000000001,1\n18446.744073709551616,0\n'
+table "the greatest time" "$(dump fs 'scl' '#1 1!' '#18446744073709551615 0!')" \
+    'Time [s],scl\n0.000000000000001,1\n18446.744073709551615,0\n'
+no_table "a short row" 3 "2 columns stand where 3 have names" 'Time [s],scl,sda\n0,1,1\n1,1\n'
+no_table "a long row" 2 "4 columns stand where 3 have names" 'Time [s],scl,sda\n0,1,1,1\n'
+no_table "an empty line among rows" 4 "an empty line stands above this row" 'Time [s],scl\n0,1\n\n1,0\n'
+no_table "an empty line below the names" 3 "an empty line stands above this row" 'Time [s],scl\n\n0,1\n'
+no_table "a quotation mark that is not closed" 2 "it cannot be taken apart into columns" 'Time [s],scl\n"0,1\n'
+no_table "something after a quotation mark" 2 "it cannot be taken apart into columns" 'Time [s],scl\n"0"0,1\n'
+no_table "bytes that are no text" 2 "it has bytes that are no UTF-8" 'Time [s],scl\n0,\xff\n'
+no_table "a cell that a terminal would take" 2 "'\\\\x1b[31m' is neither 0 nor 1" 'Time [s],scl\n0,\x1b[31m\n'
+no_table "40 digits, of seconds" 2 "'$(printf '9%.0s' {1..40})' has parts of a femtosecond, or is too long" \
+    "Time [s],scl\n$(printf '9%.0s' {1..40}),1\n"
+
+# What is a table, and what the commands make of one: a sample for each microsecond of the example, and its dump.
+while IFS=, read -r time scl sda; do
+    [[ $time == 0.* ]] || continue
+    now=$((10#${time:2:6}))
+    if [[ ! -s bus.vcd ]]; then
+        dump us scl,sda "#0 $scl! $sda\"" >bus.vcd
+        printf '; Samplerate: 1 MHz\nscl,sda\n' >bus.csv
+    else
+        for ((; at < now; at++)); do echo "$before"; done >>bus.csv
+        echo "#$now $scl! $sda\"" >>bus.vcd
+    fi
+    at=$now
+    before=$scl,$sda
+done <"$examples/probe_logic.csv"
+echo "$before" >>bus.csv
+cp bus.csv bus.CSV
+cp bus.csv bus.tsv
+cp bus.csv bus
+reads() {
+    same "$1" "$(answer "${@:2}" bus.vcd)" "$(answer "${@:2}" bus.csv)"
+}
+reads "capture" capture "$plan"
+reads "capture, explained" capture "$plan" --explain
+reads "capture as objects" capture "$plan" --format json
+reads "decode" decode
+reads "decode, in part" decode --from 10us --summary
+reads "learn" learn
+printf 'brief 1 message probe write 0x10 ; controller service probe ;\n' >names.brief
+reads "learn beside a brief" learn --names names.brief
+reads "signals" signals
+for file in bus.CSV bus.tsv; do
+    same "a table by its name: $file" "$(answer decode bus.csv)" "$(answer decode "$file")"
+done
+same "a table by --table" "$(answer decode bus.csv)" "$(answer decode bus --table)"
+same "standard input" "$(answer decode bus.csv)" "$(answer decode - --table <bus)"
+same "a pipe" "$(answer capture "$plan" bus.csv)" "$(answer capture "$plan" - --table < <(cat bus))"
+same "a page" "$(answer page "$plan" --capture bus.vcd | sed 's/bus\.vcd/bus.csv/g')" "$(answer page "$plan" --capture bus.csv)"
+refuses "--live" "'--live' reads a dump as it comes, and a table is read whole" decode bus.csv --live
+refuses "--live with --table" "'--live' reads a dump as it comes, and a table is read whole" capture "$plan" - --table --live
+refuses "a rate for a dump" "'--rate' is for a table: a file .csv or .tsv, or any with '--table'" decode bus --rate 1MHz
+for rate in fast 0 0.5 1Mz 1e-3 -1 ''; do
+    refuses "no rate: $rate" "the value for '--rate <RATE>' is no whole number of samples a second, as 24MHz" \
+        decode bus.csv "--rate=$rate"
+done
+
+# Refusals, and what is said of a dump that is not there as a file.
+printf 'Time [s],scl\n0,2\n' >wrong.csv
+same "hints of a refusal" "refused table line 2
+hint: '2' is neither 0 nor 1, status 2" "$(answer decode wrong.csv --hints always)"
+same "a message of a refusal" "wrong.csv:2: error: '2' is neither 0 nor 1, status 2" "$(answer capture "$plan" wrong.csv --format gcc)"
+for command in "capture $plan" learn signals "learn --names names.brief" "page $plan --capture"; do
+    read -ra words <<<"$command"
+    same "refused by $command" "refused table line 2, status 2" "$(answer "${words[@]}" wrong.csv)"
+done
+echo "plan 9" >wrong.plan
+same "a plan is refused first" "refused P2 line 1, status 2" "$(answer capture wrong.plan wrong.csv)"
+same "a table that is not there" "refused read, status 2" "$(answer decode missing.csv)"
+mkdir folder.csv folder.vcd
+same "a table that cannot be read" "$(answer capture "$plan" folder.vcd --hints always | sed 's/folder\.vcd/folder.csv/')" \
+    "$(answer capture "$plan" folder.csv --hints always)"
+same "a signal that is not there" "twire decode bus --table --scl scl --sda sda" \
+    "$("$twire" decode bus --table --scl clock --hints always 2>&1 | grep -o 'twire decode bus.*')"
+same "a bus that shows nothing" "" "$("$twire" decode bus --table --scl sda --sda scl --hints always 2>&1 | grep 'cannot be read')"
 
 # ---- files in other formats
 
 # The first bytes of an FST file, and those of a session of sigrok.
 printf '\0\0\0\0\0\0\0\1\111\0\0\0\0\0\0\0\0\n' >bus.fst
 printf 'PK\3\4\24\0\0\0\0\0' >bus.sr
-printf 'Time [s],Channel 0,Channel 1\n0.000000000,1,1\n' >bus.csv
+printf 'Time [s],Channel 0,Channel 1\n0.000000000,1,1\n' >bus.txt
 fst='hint: this is an FST file, as GTKWave has it; a dump of it is written by'
 session='hint: this is a ZIP archive, as a session of sigrok is (.sr); a dump of one is
 hint: written by'
-rows='hint: this looks like a table (CSV), as loggers export it; a dump of it is
-hint: written by'
+rows="hint: this looks like a table (CSV), as loggers export it: with '--table' it is
+hint: read as one"
 v2=$'refused V2 line 1\n'
 for command in "capture $plan" decode learn signals "page $plan --capture"; do
     read -ra words <<<"$command"
@@ -163,9 +235,8 @@ for command in "capture $plan" decode learn signals "page $plan --capture"; do
 hint:   fst2vcd bus.fst > bus.vcd, status 2" "$(answer "${words[@]}" bus.fst --hints always)"
     same "a session: ${words[0]}" "$v2$session
 hint:   sigrok-cli -i bus.sr -O vcd > bus.vcd, status 2" "$(answer "${words[@]}" bus.sr --hints always)"
-    same "a table: ${words[0]}" "$v2$rows
-hint:   tools/csv_to_vcd bus.csv > bus.vcd, status 2" "$(answer "${words[@]}" bus.csv --hints always)"
-    same "no hint: ${words[0]}" "${v2%$'\n'}, status 2" "$(answer "${words[@]}" bus.csv)"
+    same "a table: ${words[0]}" "$v2$rows, status 2" "$(answer "${words[@]}" bus.txt --hints always)"
+    same "no hint: ${words[0]}" "${v2%$'\n'}, status 2" "$(answer "${words[@]}" bus.txt)"
 done
 same "FST in the place of a plan" "refused P3 line 1
 hint: this is an FST file, as GTKWave has it: 'fst2vcd FILE' writes the dump
@@ -181,10 +252,10 @@ command_for() {
 }
 cp bus.fst odd.vcd
 same "FST under another name" "fst2vcd odd.vcd > odd.vcd.vcd" "$(command_for odd.vcd)"
-cp bus.csv "my bus.csv"
-same "a name with a blank" 'tools/csv_to_vcd "my bus.csv" > "my bus.vcd"' "$(command_for "my bus.csv")"
-cp bus.csv '$a.csv'
-same "a name with a dollar sign" "tools/csv_to_vcd '\$a.csv' > '\$a.vcd'" "$(command_for '$a.csv')"
+cp bus.fst "my bus.fst"
+same "a name with a blank" 'fst2vcd "my bus.fst" > "my bus.vcd"' "$(command_for "my bus.fst")"
+cp bus.fst '$a.fst'
+same "a name with a dollar sign" "fst2vcd '\$a.fst' > '\$a.vcd'" "$(command_for '$a.fst')"
 cp bus.sr ./-x.sr
 same "a name that looks like an option" "sigrok-cli -i ./-x.sr -O vcd > ./-x.vcd" "$("$twire" decode --hints always -- -x.sr 2>&1 | sed -n 's/^hint:   //p')"
 
@@ -194,15 +265,14 @@ hint:   fst2vcd FILE.fst > FILE.vcd, status 2" "$(answer decode - --hints always
 same "a session from a pipe" "$v2$session
 hint:   sigrok-cli -i FILE.sr -O vcd > FILE.vcd, status 2" "$(answer decode /dev/stdin --hints always < <(cat bus.sr))"
 mkfifo bus.fifo
-cat bus.csv >bus.fifo &
-same "a table from a FIFO" "$v2$rows
-hint:   tools/csv_to_vcd FILE.csv > FILE.vcd, status 2" "$(answer capture "$plan" bus.fifo --hints always)"
+cat bus.txt >bus.fifo &
+same "a table from a FIFO" "$v2$rows, status 2" "$(answer capture "$plan" bus.fifo --hints always)"
 wait
 
 # What a table begins with, and what is none.
 is_table() {
     printf '%b' "$2" >given
-    same "a table: $1" "tools/csv_to_vcd given > given.vcd" "$(command_for given)"
+    same "a table: $1" "$rows" "$("$twire" decode given --hints always 2>&1 | sed 1d)"
 }
 is_table "Kingst" 'Time[s], Channel 0, Channel 1\n'
 is_table "sigrok" '; CSV generated by libsigrok 0.5.2\n; Channels (2/2): D0, D1\n'
@@ -213,7 +283,7 @@ is_table "tabs" 'Time\tscl\tsda\n'
 is_table "empty lines above it" '\n\r\n Time,scl\n'
 for text in 'hello world\n' 'a\tb\n' '#1,2\n' '$date, 1\n' 'a,\x01b\n' '{"a": 1}\n' ''; do
     printf '%b' "$text" >given
-    same "no table: $text" "" "$(command_for given | grep csv_to_vcd)"
+    same "no table: $text" "" "$("$twire" decode given --hints always 2>&1 | grep "'--table'")"
 done
 
 # ---- samples that are too far apart

@@ -5,7 +5,6 @@
 source "$(dirname -- "$(readlink -f -- "${BASH_SOURCE[0]}")")/suite.bash" || exit 1
 
 plan=$examples/stop_meets_data.plan
-convert=$top/tools/csv_to_vcd
 
 # has PROGRAM..: whether all of these are there. The first that is not is named.
 has() {
@@ -89,23 +88,16 @@ hint:   sigrok-cli -i probe_sigrok.sr -O vcd > probe_sigrok.vcd, status 2' "$(an
     sigrok-cli -i "$examples/probe_pulseview.vcd" -I vcd -C 'I2CSCL=I2C SCL,I2CSDA=I2C SDA' -o probe_pulseview.sr >log 2>&1
     sigrok-cli -i probe_pulseview.sr -O vcd >probe_pulseview.vcd
     made probe_pulseview.vcd "$probe" --scl "I2C SCL" --sda "I2C SDA"
-    if has python3; then
-        # The table of a session, with and without times (its first sample has the time 1), and that of a dump.
-        sigrok-cli -i probe_sigrok.sr -O csv >rows.csv
-        "$convert" rows.csv >rows.vcd
-        same "a table of samples" "$sigrok" "$(answer capture "$plan" rows.vcd "${names[@]}")"
-        sigrok-cli -i probe_sigrok.sr -O csv:time=true:dedup=true >times.csv
-        "$convert" times.csv >times.vcd
-        same "a table with times" $'11-116 service/probe_10\n1 transactions, 0 unexplained, status 0' \
-            "$(answer capture "$plan" times.vcd "${names[@]}")"
-        sigrok-cli -i "$examples/probe_sigrok.vcd" -I vcd -O csv >straight.csv
-        "$convert" straight.csv >straight.vcd
-        same "a table of a dump" "$sigrok" "$(answer capture "$plan" straight.vcd "${names[@]}")"
-        same "a table of sigrok" 'tools/csv_to_vcd rows.csv > rows.vcd' \
-            "$("$twire" decode rows.csv --hints always 2>&1 | sed -n 's/^hint:   //p')"
-        sigrok-cli -i probe_pulseview.sr -O csv >probe_pulseview.csv
-        same "probe_pulseview.csv: all but the date" "$(sed 2d "$examples/probe_pulseview.csv")" "$(sed 2d probe_pulseview.csv)"
-    fi
+    # The table of a session, with and without times (its first sample has the time 1), and that of a dump.
+    sigrok-cli -i probe_sigrok.sr -O csv >rows.csv
+    same "a table of samples" "$sigrok" "$(answer capture "$plan" rows.csv "${names[@]}")"
+    sigrok-cli -i probe_sigrok.sr -O csv:time=true:dedup=true >times.csv
+    same "a table with times" $'11-116 service/probe_10\n1 transactions, 0 unexplained, status 0' \
+        "$(answer capture "$plan" times.csv "${names[@]}")"
+    sigrok-cli -i "$examples/probe_sigrok.vcd" -I vcd -O csv >straight.csv
+    same "a table of a dump" "$sigrok" "$(answer capture "$plan" straight.csv "${names[@]}")"
+    sigrok-cli -i probe_pulseview.sr -O csv >probe_pulseview.csv
+    same "probe_pulseview.csv: all but the date" "$(sed 2d "$examples/probe_pulseview.csv")" "$(sed 2d probe_pulseview.csv)"
 fi
 
 finish

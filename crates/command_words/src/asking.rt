@@ -4,7 +4,7 @@ use crate::building::program;
 use crate::capturing::{Options, drive_of};
 use crate::requests::{
     Capture, Decoding, Format, Layout, Lesson, Look, Mend, OfferNumber, Play, Request, Rewriting,
-    Taking,
+    Tabled, Taking,
 };
 use crate::table::COMMANDS;
 use clap::error::ErrorKind;
@@ -23,6 +23,7 @@ pub enum Asked<'a> {
         drives: Vec<Drive<'a>>,
         /// The numbers of the offers that are taken.
         taken: Vec<OfferNumber>,
+        tabled: Tabled<'a>,
         manner: Manner,
     },
     /// The server of an editor, and the further files of its briefs.
@@ -86,6 +87,13 @@ const NOTHING_TAKEN: Fault =
     "'--in-place' and '--output' write what '--take' or '--all' takes: give one of these";
 
 const NOT_TWO_OUTPUTS: Fault = "the argument '--in-place' cannot be used with '--output <FILE>'";
+
+const NO_RATE: Fault =
+    "the value for '--rate <RATE>' is no whole number of samples a second, as 24MHz";
+
+const NO_TABLE: Fault = "'--rate' is for a table: a file .csv or .tsv, or any with '--table'";
+
+const NOT_LIVE: Fault = "'--live' reads a dump as it comes, and a table is read whole";
 
 const NOT_SEVERAL: Fault = "several files go with '--check' alone";
 
@@ -163,8 +171,9 @@ fn found_in<'a>(alloc: Global, matches: &ArgMatches<'a>) -> Result<Asked<'a>, Er
         return serve_of(alloc, matches);
     }
     match asked_of(matches) {
-        Ok((request, manner)) => Ok(Asked::Run {
+        Ok((request, tabled, manner)) => Ok(Asked::Run {
             request,
+            tabled,
             further: further_of(alloc, matches)?,
             drives: drives_of(alloc, matches)?,
             taken: taken_of(alloc, matches)?,
@@ -195,14 +204,30 @@ fn error_of(alloc: Global, fault: &str) -> Result<Error, AllocError> {
     program(alloc)?.error(ErrorKind::ValueValidation, fault)
 }
 
-fn asked_of<'a>(matches: &ArgMatches<'a>) -> Result<(Request<'a>, Manner), Fault> {
+fn asked_of<'a>(matches: &ArgMatches<'a>) -> Result<(Request<'a>, Tabled<'a>, Manner), Fault> {
     let Some((name, matches)) = matches.subcommand() else {
         return Err(TOO_MANY_WORDS);
     };
     let request = request_of(name, matches)?;
     refuse_rows(name, matches)?;
     refuse_input_twice(matches)?;
-    Ok((request, manner_of(matches)))
+    Ok((request, tabled_of(matches)?, manner_of(matches)))
+}
+
+// Whether the capture is a table, where that goes with the other options.
+fn tabled_of<'a>(matches: &ArgMatches<'a>) -> Result<Tabled<'a>, Fault> {
+    let tabled = Tabled {
+        is_table: matches.get_flag("table"),
+        rate: matches.get_str("rate"),
+    };
+    let path = matches.get_str("VCD").or(matches.get_str("capture"));
+    let is_table = tabled.has(path.unwrap_or(""));
+    match (tabled.rate, tabled.samples()) {
+        (Some(_), None) => Err(NO_RATE),
+        (Some(_), _) if !is_table => Err(NO_TABLE),
+        _ if is_table && matches.get_flag("live") => Err(NOT_LIVE),
+        _ => Ok(tabled),
+    }
 }
 
 // The further files of the brief, or of those that are laid out: words after the first one, or those of an option.

@@ -194,6 +194,10 @@ names are those of other signals, or that the levels are 'x' all the time:
 blanks in the capture has them here too, as --scl 'I2C SCL'. It may also be a
 path, as --scl top.m3.scl, or one bit of a vector, as --scl 'bus[2]'.
 
+A table (CSV), as logic analysers export it, is read in the place of a dump: one
+whose name ends in .csv or .tsv, or any with '--table'. Each of its columns is a
+signal. Where it has no times '--rate 24MHz' says how many rows a second has.
+
 With '--drives' a dump of RTL says who started, who lost and in which slot, and
 whether the rules of the plan give that. Each is what a controller pulls itself:
 
@@ -221,6 +225,7 @@ A refused capture is named on standard error with a code, as 'refused V1 scl' or
   V2  something that cannot stand there
   V3  a time below the last one
   V4  the capture ends inside of something
+  table line N  what stands there is in no table of levels and their times
   timescale  a time has a unit, and the capture does not say what it counts
   drives NAME  the line of this controller is not there, or is SDA itself
 

@@ -15,5 +15,5 @@ mod table;
 pub use asking::{Asked, Manner, When, read_words};
 pub use requests::{
     Capture, Decoding, Format, Layout, Lesson, Look, Mend, OfferNumber, Play, Request, Rewriting,
-    Taking,
+    Tabled, Taking,
 };

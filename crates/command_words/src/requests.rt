@@ -1,5 +1,6 @@
 // What a command line asks for.
 
+use dump_tables::{Rate, is_table_name};
 use dump_tokens::{Bus, Drive, Drives, Limits};
 
 /// A run of the program, with lines for people in its report where `explain` says so. `output` is the file to write, where it
@@ -145,6 +146,25 @@ impl Decoding<'_> {
     /// Whether all transactions are told as they are, and no more is.
     pub fn is_plain(self) -> bool {
         self.bus.is_whole() && !self.explain && !self.pec && !self.rows
+    }
+}
+
+/// Whether a capture is said to be a table, and with how many samples a second.
+#[derive(Clone, Copy)]
+pub struct Tabled<'a> {
+    pub is_table: bool,
+    pub rate: Option<&'a str>,
+}
+
+impl Tabled<'_> {
+    /// Whether the capture of this name is one.
+    pub fn has(self, path: &str) -> bool {
+        self.is_table || is_table_name(path)
+    }
+
+    /// The samples a second, where they were given.
+    pub fn samples(self) -> Option<Rate> {
+        Rate::read(self.rate?)
     }
 }
 

@@ -210,8 +210,9 @@ const CAPTURE: Entry = Entry {
     usage: None,
     after_help: AFTER_CAPTURE_HELP,
     arguments: &[
-        PLAN, VCD, WITH, SCL, SDA, SCOPE, SCL_CODE, SDA_CODE, DRIVES, PULLS, MIN_PULSE, FROM, TO,
-        ADDRESS, DEVICE, NACKED, PATTERN, AT_LEAST, TIMES, SUMMARY, EXPLAIN, LIVE, STOPS,
+        PLAN, VCD, WITH, SCL, SDA, SCOPE, SCL_CODE, SDA_CODE, TABLE, RATE, DRIVES, PULLS,
+        MIN_PULSE, FROM, TO, ADDRESS, DEVICE, NACKED, PATTERN, AT_LEAST, TIMES, SUMMARY, EXPLAIN,
+        LIVE, STOPS,
     ],
 };
 
@@ -221,8 +222,8 @@ const DECODE: Entry = Entry {
     usage: None,
     after_help: AFTER_DECODE_HELP,
     arguments: &[
-        VCD, SCL, SDA, SCOPE, SCL_CODE, SDA_CODE, MIN_PULSE, FROM, TO, ADDRESS, DEVICE, NACKED,
-        PATTERN, TIMES, ADDRESSES, CALLED, PEC, DEVICES, TIMING, MODE, LIVE, WAVE,
+        VCD, SCL, SDA, SCOPE, SCL_CODE, SDA_CODE, TABLE, RATE, MIN_PULSE, FROM, TO, ADDRESS, DEVICE,
+        NACKED, PATTERN, TIMES, ADDRESSES, CALLED, PEC, DEVICES, TIMING, MODE, LIVE, WAVE,
     ],
 };
 
@@ -231,7 +232,7 @@ const SIGNALS: Entry = Entry {
     about: "List the signals of a capture, and those that look like a bus",
     usage: None,
     after_help: AFTER_SIGNALS_HELP,
-    arguments: &[VCD, MIN_PULSE, SINCE, UNTIL],
+    arguments: &[VCD, TABLE, RATE, MIN_PULSE, SINCE, UNTIL],
 };
 
 const LEARN: Entry = Entry {
@@ -240,8 +241,8 @@ const LEARN: Entry = Entry {
     usage: None,
     after_help: AFTER_LEARN_HELP,
     arguments: &[
-        VCD, SCL, SDA, SCOPE, SCL_CODE, SDA_CODE, DRIVES, PULLS, MIN_PULSE, FROM, TO, TIMES, MERGE,
-        WIDEN, NAMES, OUTPUT,
+        VCD, SCL, SDA, SCOPE, SCL_CODE, SDA_CODE, TABLE, RATE, DRIVES, PULLS, MIN_PULSE, FROM, TO,
+        TIMES, MERGE, WIDEN, NAMES, OUTPUT,
     ],
 };
 
@@ -266,8 +267,8 @@ const PAGE: Entry = Entry {
     usage: None,
     after_help: AFTER_PAGE_HELP,
     arguments: &[
-        PLAN, WITH, RECORDED, SCL, SDA, SCOPE, SCL_CODE, SDA_CODE, MIN_PULSE, FROM, TO, ADDRESS,
-        DEVICE, NACKED, PATTERN, TIMES, OUTPUT,
+        PLAN, WITH, RECORDED, SCL, SDA, SCOPE, SCL_CODE, SDA_CODE, TABLE, RATE, MIN_PULSE, FROM, TO,
+        ADDRESS, DEVICE, NACKED, PATTERN, TIMES, OUTPUT,
     ],
 };
 
@@ -370,7 +371,7 @@ const CERT: Argument = Argument::Word {
 
 const VCD: Argument = Argument::Word {
     id: "VCD",
-    help: "The capture, a value change dump; - is standard input",
+    help: "The capture, a VCD dump or a .csv table; - is standard input",
 };
 
 // With `--certify` there is no certificate, and the starters stand in its place.
@@ -456,7 +457,7 @@ const PAIR: Argument = Argument::CountWith {
 const RECORDED: Argument = Argument::Option {
     id: "capture",
     value_name: "VCD",
-    help: "A capture, a value change dump, to show with it",
+    help: "A capture, a VCD dump or a table, to show with it",
 };
 
 const SCL: Argument = Argument::Name {
@@ -487,6 +488,17 @@ const SDA_CODE: Argument = Argument::Name {
     id: "sda-code",
     value_name: "CODE",
     help: "The identifier code of SDA, in place of a name",
+};
+
+const TABLE: Argument = Argument::Flag {
+    id: "table",
+    help: "The capture is a table (CSV), whatever its name",
+};
+
+const RATE: Argument = Argument::Option {
+    id: "rate",
+    value_name: "RATE",
+    help: "Samples a second of one without times, as 24MHz",
 };
 
 const MERGE: Argument = Argument::Flag {

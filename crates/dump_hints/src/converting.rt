@@ -1,6 +1,8 @@
 // Captures in other formats, each with the command that makes a dump of it.
 
-use hints::{Kind, Lines, first_line};
+use dump_tables::TableError;
+use hints::{Hints, Kind, Lines, first_line};
+use std::alloc::{AllocError, Global};
 
 /// A format of captures that is no dump.
 #[derive(Clone, Copy, PartialEq, Eq)]
@@ -18,28 +20,27 @@ impl Format {
                 "this is a ZIP archive, as a session of sigrok is (.sr); a dump of one is written by"
             }
             Format::Table => {
-                "this looks like a table (CSV), as loggers export it; a dump of it is written by"
+                "this looks like a table (CSV), as loggers export it: with '--table' it is read as one"
             }
         }
     }
 
-    // What stands before the file in the command, and what between it and the dump.
-    fn command(self) -> (&'static str, &'static str) {
+    // The command that makes a dump of it: what stands before the file, how the names of such files end, and what stands between
+    // the file and the dump.
+    fn command(self) -> Option<(&'static str, &'static str, &'static str)> {
         match self {
-            Format::Fst => ("fst2vcd", ">"),
-            Format::Session => ("sigrok-cli -i", "-O vcd >"),
-            Format::Table => ("tools/csv_to_vcd", ">"),
+            Format::Fst => Some(("fst2vcd", ".fst", ">")),
+            Format::Session => Some(("sigrok-cli -i", ".sr", "-O vcd >")),
+            Format::Table => None,
         }
     }
+}
 
-    // How the names of such files end.
-    fn ending(self) -> &'static str {
-        match self {
-            Format::Fst => ".fst",
-            Format::Session => ".sr",
-            Format::Table => ".csv",
-        }
-    }
+/// What to say of a table that is refused.
+pub fn on_table(alloc: Global, error: &TableError) -> Result<Hints, AllocError> {
+    let (mut lines, why) = (Lines::new(alloc), &error.why);
+    lines.say(format_args!("{why}"));
+    lines.finish()
 }
 
 /// The format of a file that is refused as a dump at its first line, where its first bytes tell.
@@ -85,11 +86,12 @@ fn is_shown(line: &[u8]) -> bool {
     true
 }
 
-/// Says what the file is, and which command makes a dump of it. The file is a word of a shell, where it has a name.
+/// Says what the file is, and which command makes a dump of it, if one is needed. The file is a word of a shell, where it has a name.
 pub(crate) fn push_format(lines: &mut Lines, format: Format, file: Option<&str>) {
     lines.say(format.words());
-    let (before, between) = format.command();
-    let ending = format.ending();
+    let Some((before, ending, between)) = format.command() else {
+        return;
+    };
     match file {
         Some(file) if !is_standard_input(file) => {
             let (stem, quote) = stem_of(file, ending);

@@ -27,5 +27,5 @@ pub use parts::{Part, Parts};
 pub use quiet::Quiet;
 pub use scales::Scale;
 pub use times::Time;
-pub use units::Unit;
+pub use units::{UNITS, Unit};
 pub use windows::{Limits, View, Window, has_unit, steps};

@@ -12,7 +12,7 @@ pub enum Unit {
 }
 
 /// The units, the greatest first.
-pub(crate) const UNITS: [Unit; 6] = [
+pub const UNITS: [Unit; 6] = [
     Unit::Second,
     Unit::Millisecond,
     Unit::Microsecond,

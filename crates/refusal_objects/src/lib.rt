@@ -29,6 +29,8 @@ pub enum Detail<'a> {
 #[derive(Clone, Copy)]
 pub enum Subject<'a> {
     Nothing,
+    /// This line of a table.
+    Line(u64),
     /// The controller of this name.
     Controller(&'a str),
     /// The device of this name.
@@ -236,6 +238,7 @@ pub fn word_object(
         reason,
         match subject {
             Subject::Nothing => refusal,
+            Subject::Line(line) => placed(code, line),
             Subject::Controller(name) => Refusal {
                 controller: Some(name),
                 ..refusal

@@ -2,7 +2,7 @@
 
 use crate::errands::Errand;
 use crate::inputs::Inputs;
-use crate::messages::{dump_message, file_message, text_message};
+use crate::messages::{dump_message, file_message, table_message, text_message};
 use crate::voices::{refused, refused_by_word, say, say_message, say_objects, say_these};
 use cert_check::{Answer, Answered};
 use command_words::Format;
@@ -10,8 +10,8 @@ use diagnostics::reason_of;
 use dump_findings::Seen;
 use dump_hints::{
     Names, on_bytes, on_choice, on_denied_line, on_dump, on_like_line, on_no_controller,
-    on_no_device, on_no_line, on_no_name, on_none_passes, on_only, on_recording, on_same_line,
-    on_signals, on_signs, on_silence, on_unexplained,
+    on_no_device, on_no_line, on_no_name, on_none_passes, on_only, on_recording, on_rises,
+    on_same_line, on_signals, on_signs, on_silence, on_table, on_unexplained,
 };
 use dump_tokens::Drive;
 use given_plans::Provenance;
@@ -294,6 +294,12 @@ fn tell<'x, R: Eprint + AllocGlobal>(
         Halt::NoDevice(_) => {
             let device = Subject::Device(errand.device());
             return refused_by_word(rt, "device", device, reason, format);
+        Halt::Table(error) if format == Format::Messages => {
+            let message = table_message(alloc, errand.last_path(), error.line, reason);
+            return say_message(rt, message);
+        }
+        Halt::Table(error) => {
+            return refused_by_word(rt, "table", Subject::Line(error.line), reason, format);
         }
         Halt::NoDrive(number, _) => {
             let controller = Subject::Controller(drive_of(errand, *number).controller);
@@ -418,6 +424,7 @@ fn hints_on<F: Read + Seek + Drop>(
             let names = errand.names(command.as_str(), vcd.as_str());
             on_dump(alloc, read.again, names, *error, wrong.as_ref())
         }
+        Halt::Table(error) => on_table(alloc, error),
         Halt::Starters(_, refused, given) => {
             let files = errand.named().files();
             on_starters(

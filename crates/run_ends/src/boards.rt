@@ -3,6 +3,7 @@
 ghost use Rattle.board_files.specs.Files.{any_files};
 
 use crate::errands::Errand;
+use crate::made_dumps::read_dump;
 use board_files::{FileId, GivenText, Listed, Opener, Unlisted, Why, folder_of, list_texts};
 use brief_tokens::{begin, record};
 use files::{OpenSource, Source, Watcher, closed, is_standard_input, open_path, rewound};
@@ -22,13 +23,10 @@ use std::{mem, str};
 /// What gives a text of a run: its bytes, which were read, what failed as they were read, or its source, of which nothing was read.
 pub type TextReader<S> = Opened<Watched<Cursor<Vec<u8>>>, Opened<Watched<Failing>, S>>;
 
-/// A reader that fails.
-pub struct Failing;
-
-impl Drop for Failing {
-    fn drop(self) {
-        let Self = self;
-    }
+/// A reader that fails, with the error of the system, where that is known.
+#[derive(Drop)]
+pub struct Failing {
+    pub(crate) error: Option<io::Error>,
 }
 
 impl Read for Failing {
@@ -37,15 +35,7 @@ impl Read for Failing {
     }
 }
 
-/// The source of a text, where nothing was read of it.
-pub(crate) fn unread_source<S: Drop>(text: TextReader<S>) -> Option<S> {
-    match text {
-        Opened::Standard(Opened::Standard(source)) => Some(source),
-        _ => None,
-    }
-}
-
-/// Goes back to the beginning of the first text, of which no bytes are kept, where its source can be read once more.
+/// Goes back to the beginning of the first text, where it is a dump that was made of a table, or its source can be read once more.
 pub fn rewind_first<R, F: Seek + Drop, S: Drop>(
     alloc: Global,
     texts: &mut [TextReader<Source<'_, R, F, S>>],
@@ -59,6 +49,10 @@ pub fn rewind_first<R, F: Seek + Drop, S: Drop>(
             let (source, is_there) = rewound(source);
             *first = Opened::Standard(Opened::Standard(source));
             is_there
+        }
+        Opened::File(bytes) => {
+            *first = reader_of(bytes.into_inner().into_inner());
+            true
         }
         text => {
             *first = text;
@@ -119,7 +113,7 @@ pub fn read_texts<'a, R: Files + Input + Eprint + Clock + AllocGlobal>(
     let texts = if errand.takes_board() {
         board_of(rt, errand, sources, ids)
     } else {
-        unread_all(alloc, sources)
+        unread_all(alloc, errand, sources)
     };
     match texts {
         Ok(texts) => texts,
@@ -127,17 +121,20 @@ pub fn read_texts<'a, R: Files + Input + Eprint + Clock + AllocGlobal>(
     }
 }
 
-// As they are: a run that takes no board reads them itself.
-fn unread_all<R, F: Drop, S: Drop>(
+// As they are: a run that takes no board reads them itself. One may be a table.
+fn unread_all<'a, R: Files + Input + Eprint + Clock + AllocGlobal>(
     alloc: Global,
-    sources: Vec<OpenSource<'_, R, F, S>>,
-) -> Result<Texts<Source<'_, R, F, S>>, AllocError> {
-    let mut readers = Vec::new(alloc);
+    errand: Errand<'_>,
+    sources: Vec<OpenSource<'a, R, R::File, R::Reader>>,
+) -> Result<Texts<Source<'a, R, R::File, R::Reader>>, AllocError> {
+    let mut texts = Texts::given(Vec::new(alloc), None);
     for open in sources {
         let OpenSource { source, .. } = open;
-        push(&mut readers, Opened::Standard(Opened::Standard(source)))?;
+        let (reader, halt) = read_dump(alloc, errand, source);
+        push(&mut texts.readers, reader)?;
+        texts.halt = halt;
     }
-    Ok(Texts::given(readers, None))
+    Ok(texts)
 }
 
 fn push<T: Drop>(all: &mut Vec<T>, one: T) -> Result<(), AllocError> {
@@ -215,8 +212,8 @@ fn read_given<'a, R: Files + Input + Eprint + Clock + AllocGlobal>(
     Ok(given)
 }
 
-// All bytes of a source, or the error of the system where it has no more.
-fn read_source<R: Files + Input + Eprint + Clock + AllocGlobal>(
+/// All bytes of a source, or the error of the system where it has no more.
+pub(crate) fn read_source<R: Files + Input + Eprint + Clock + AllocGlobal>(
     alloc: Global,
     mut source: Source<'_, R, R::File, R::Reader>,
 ) -> Result<Result<Vec<u8>, Option<io::Error>>, AllocError> {
@@ -284,7 +281,7 @@ fn as_given<S: Drop>(
     if failed.is_some() {
         push(
             &mut readers,
-            Opened::Standard(Opened::File(Watched::new(Failing))),
+            Opened::Standard(Opened::File(Watched::new(Failing { error: None }))),
         )?;
     }
     for source in unread {
@@ -293,7 +290,8 @@ fn as_given<S: Drop>(
     Ok(Texts::given(readers, failed))
 }
 
-fn reader_of<S>(text: Vec<u8>) -> TextReader<S> {
+/// What gives a text that was read.
+pub(crate) fn reader_of<S>(text: Vec<u8>) -> TextReader<S> {
     Opened::File(Watched::new(Cursor::new(text)))
 }
 

@@ -1,6 +1,6 @@
 // What a run was asked for: which files it is over, where its report goes, and how it can be asked for once more.
 
-use command_words::{Layout, Mend, Request, Rewriting};
+use command_words::{Layout, Mend, Request, Rewriting, Tabled};
 use dump_hints::Names;
 use dump_tokens::BusLines;
 use files::Form;
@@ -17,6 +17,7 @@ use verdicts::MOST_WORKERS;
 pub struct Errand<'a> {
     pub request: Request<'a>,
     pub further: &'a [&'a str],
+    pub tabled: Tabled<'a>,
     pub extras: Extras,
     /// The texts of its board, where heads name some.
     pub board: Option<BoardNames<'a>>,
@@ -188,6 +189,12 @@ impl<'a> Errand<'a> {
         self.second().unwrap_or(self.given().first).path
     }
 
+    /// Whether its dump is given as a table.
+    pub(crate) fn is_table(self) -> bool {
+        let last = self.second().unwrap_or(self.given().first);
+        last.what == "capture" && self.tabled.has(last.path)
+    }
+
     /// How the lines of its dump were to be found. The command, and the file of the dump, are these words.
     pub(crate) fn names<'w>(self, command: &'w str, vcd: &'w str) -> Names<'w>
     where
@@ -237,7 +244,10 @@ impl<'a> Errand<'a> {
 
     /// The file of its dump, as a command takes it.
     pub(crate) fn vcd(self, alloc: Global) -> Result<String, AllocError> {
-        file_word(alloc, self.last_path())
+        let mut text = Text::new(alloc);
+        push(alloc, &mut text, "", self.last_path());
+        self.push_tabled(alloc, &mut text);
+        text.finish()
     }
 
     /// The command and its files, as they can be given once more with other options. It is empty where it looks for no lines.
@@ -264,9 +274,19 @@ impl<'a> Errand<'a> {
                 self.push_plan(alloc, &mut text, "twire page ", plan);
                 push(alloc, &mut text, " --capture ", vcd);
             }
-            _ => {}
+            _ => return text.finish(),
         }
+        self.push_tabled(alloc, &mut text);
         text.finish()
+    }
+
+    fn push_tabled(self, alloc: Global, text: &mut Text) {
+        if self.tabled.is_table {
+            text.push(" --table");
+        }
+        if let Some(rate) = self.tabled.rate {
+            push(alloc, text, " --rate ", rate);
+        }
     }
 
     fn push_plan(self, alloc: Global, text: &mut Text, words: &str, plan: &str) {

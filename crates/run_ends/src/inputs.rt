@@ -1,13 +1,13 @@
 // What is read: files that the command line names, or standard input.
 
 use crate::advice::reading_reason;
-use crate::boards::{FailedText, TextReader, unread_source};
+use crate::boards::{FailedText, TextReader};
 use crate::errands::Errand;
 use crate::voices::{refused, say};
 use files::{FileId, OpenSource, Reread, Source, closed, is_standard_input, missing, open_file};
 use hints::{Named, on_closed_input, on_opening};
 use refusal_objects::Detail;
-use run_parts::RunError;
+use run_parts::{Opened, RunError};
 use run_refusals::NamedSources;
 use run_values::Extras;
 use std::io;
@@ -127,7 +127,7 @@ impl<'a, F: Drop> Inputs<'a, Reread<F>> {
         errand: Errand<'a>,
         texts: Vec<TextReader<Source<'_, R, F, S>>>,
         failed: Option<FailedText>,
-        second: Option<Source<'_, R, F, S>>,
+        second: Option<TextReader<Source<'_, R, F, S>>>,
     ) -> Inputs<'a, Reread<F>> {
         let named = errand.named();
         let mut inputs = Inputs {
@@ -137,9 +137,7 @@ impl<'a, F: Drop> Inputs<'a, Reread<F>> {
         };
         let mut number = 0usize;
         for text in texts {
-            if let Some(source) = unread_source(text) {
-                inputs.add(named.at(number), source);
-            }
+            inputs.add(named.at(number), text);
             number = number.saturating_add(1);
         }
         if let (Some(file), Some(reader)) = (errand.second(), second) {
@@ -152,8 +150,12 @@ impl<'a, F: Drop> Inputs<'a, Reread<F>> {
         inputs
     }
 
-    fn add<R, S: Drop>(&mut self, file: Named<'a>, source: Source<'_, R, F, S>) {
-        let (error, again) = closed(source);
+    fn add<R, S: Drop>(&mut self, file: Named<'a>, text: TextReader<Source<'_, R, F, S>>) {
+        let (error, again) = match text {
+            Opened::File(bytes) => (None, Some(Reread::Kept(bytes.into_inner()))),
+            Opened::Standard(Opened::File(failing)) => (failing.into_inner().error, None),
+            Opened::Standard(Opened::Standard(source)) => closed(source),
+        };
         if error.is_some() {
             self.last = file;
             self.error = error;

@@ -64,6 +64,27 @@ pub(crate) fn dump_message(
     text.finish()
 }
 
+/// The same of a table that was to give the dump.
+///
+/// # Errors
+///
+/// Where an allocation fails.
+pub(crate) fn table_message(
+    alloc: Global,
+    file: &str,
+    line: u64,
+    reason: &str,
+) -> Result<String, AllocError> {
+    let mut text = Text::new(alloc);
+    push_shown(&mut text, called(file));
+    text.push(":");
+    text.push_number(line);
+    text.push(": error: ");
+    text.push(reason);
+    text.push("\n");
+    text.finish()
+}
+
 /// The same of a file that a brief names and that cannot be read, where it is named.
 ///
 /// # Errors

@@ -136,6 +136,7 @@ fn say_refused_word<R: Eprint + AllocGlobal>(rt: &R, word: &'static str, subject
         Subject::Offers(numbers) => String::from_str(rt.alloc(), numbers),
         Subject::Files(files) => listed(rt.alloc(), files),
         Subject::Edited(error, file) => edited_words(rt.alloc(), error, file),
+        Subject::Line(line) => format!(in rt.alloc(); "line {line}"),
         Subject::Nothing => Ok(String::new(rt.alloc())),
     };
     let _ = match said {

@@ -5,6 +5,7 @@ ghost use Rattle.std.specs.Prelude.{◌≡◌};
 use capture_check::Signs;
 use cert_check::Answered;
 use dump_findings::Seen;
+use dump_tables::{TableError, Why};
 use dump_tokens::Window;
 use given_plans::{GivenPlan, Halted, Provenance, RefusedText};
 use hints::{Found, NoWaves, Then, Untaken};
@@ -92,6 +93,8 @@ pub enum Halt {
     Run(RunError),
     /// A dump is refused, with what is wrong, where that is known.
     Dump(VcdError, Option<Wrong>),
+    /// A table, of which a dump was to be made, is refused.
+    Table(TableError),
     /// The text of a plan or of a brief is refused.
     Text(PlanError, RefusedSource),
     /// A file that a head names cannot be opened or read.
@@ -151,6 +154,7 @@ impl Halt {
             Halt::Text(error, _) => RunError::Plan(*error),
             Halt::NoBrief(_) => RunError::Brief(NoBrief::Name),
             Halt::File(_)
+            | Halt::Table(_)
             | Halt::NoTimescale
             | Halt::NoDevice(_)
             | Halt::NoDrive(..)
@@ -164,6 +168,15 @@ impl From<RunError> for Halt {
         match error {
             RunError::Vcd(error) => Halt::Dump(error, None),
             _ => Halt::Run(error),
+        }
+    }
+}
+
+impl From<TableError> for Halt {
+    fn from(error: TableError) -> Halt {
+        match error.why {
+            Why::NoMemory => Halt::Run(RunError::NoMemory),
+            _ => Halt::Table(error),
         }
     }
 }

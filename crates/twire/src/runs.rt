@@ -8,8 +8,8 @@ use growing_text::visible;
 use language_server::serve;
 use refusal_objects::Detail;
 use run_ends::{
-    BoardNames, Errand, FailedText, Inputs, OpenFiles, TextReader, Texts, finish, open_files,
-    read_texts, refused, rewind_first,
+    BoardNames, Errand, FailedText, Inputs, OpenFiles, SecondText, TextReader, Texts, finish,
+    open_files, read_second, read_texts, refused, rewind_first,
 };
 use run_parts::{RunError, Watched};
 use run_values::{Extras, Halt, Sources};
@@ -60,6 +60,7 @@ fn run_words<R: Files + Env + Input + Print + Eprint + AllocGlobal + Threads + W
                 further,
                 drives,
                 taken,
+                tabled,
                 manner,
             },
         ) => {
@@ -68,6 +69,7 @@ fn run_words<R: Files + Env + Input + Print + Eprint + AllocGlobal + Threads + W
                     .with_drives(drives.as_slice())
                     .with_taken(taken.as_slice()),
                 further: further.as_slice(),
+                tabled,
                 extras: extras_of(rt, manner, terminals),
                 board: None,
             };
@@ -150,6 +152,7 @@ fn do_errand<R: Files + Input + Print + Eprint + AllocGlobal + Threads + Wait + 
         return 2;
     };
     let texts = read_texts(rt, errand, texts, &mut ids);
+    let second = read_second(rt, errand, second);
     let Texts {
         readers,
         paths,
@@ -214,7 +217,7 @@ fn do_over<'a, R: Files + Input + Print + Eprint + AllocGlobal + Threads + Wait 
     rt: &'a R,
     errand: Errand<'_>,
     texts: RunTexts<Source<'a, R, R::File, R::Reader>>,
-    second: Option<Source<'a, R, R::File, R::Reader>>,
+    second: SecondText<Source<'a, R, R::File, R::Reader>>,
     files: FilesRead<'_>,
 ) -> u8 {
     let RunTexts {
@@ -222,7 +225,10 @@ fn do_over<'a, R: Files + Input + Print + Eprint + AllocGlobal + Threads + Wait 
         failed,
         halt,
     } = texts;
-    let mut second = second;
+    let SecondText {
+        reader: mut second,
+        halt: no_dump,
+    } = second;
     let mut sources = Sources {
         readers,
         files: errand.named().files(),
@@ -238,6 +244,11 @@ fn do_over<'a, R: Files + Input + Print + Eprint + AllocGlobal + Threads + Wait 
         && rewind_first(rt.alloc(), sources.readers.as_mut_slice())
     {
         ended = run_once_more(rt.alloc(), decoding, &mut sources, &mut out);
+    }
+    // (a run that has come to a table without a dump)
+    let has_stopped = failed.is_none() && matches!(ended, Err(Halt::Run(RunError::Read)));
+    if let (true, Some(halt)) = (has_stopped, no_dump) {
+        ended = Err(halt);
     }
     if let (Err(halt), true) = (&mut ended, errand.extras.says_why()) {
         sources.read_on(rt.alloc(), halt);
