@@ -1,12 +1,16 @@
 #!/usr/bin/env bash
-# Editors: Neovim over `twire lsp`, and what tools/editors has for vim and for TextMate, over the examples and a brief of the
-# second version. What is not installed is passed over.
+# Editors: Neovim and the extension for VS Code over `twire lsp`, and what tools/editors has for vim and for TextMate, over the
+# examples and a brief of the second version. What is not installed is passed over.
 source "$(dirname -- "$(readlink -f -- "${BASH_SOURCE[0]}")")/suite.bash" || exit 1
 
 export PYTHONDONTWRITEBYTECODE=1
 
 python3 "$tests/editors/grammar.py" "$top" >grammar 2>&1
 count grammar
+
+# Completion and other names over boards that are made up.
+python3 "$tests/editors/models.py" "$twire" >models 2>&1
+count models
 
 for editor in vim nvim; do
     if program=$(type -P "$editor"); then
@@ -64,5 +68,34 @@ END
 else
     echo "there is no nvim: twire lsp is not tried in it"
 fi
+
+if program=$(type -P node); then
+    for file in "$top"/tools/editors/vscode/*.js "$tests"/editors/vscode*.js; do
+        "$program" --check "$file" 2>checked
+        held "${file##*/} is JavaScript" checked
+    done
+    mkdir vscode
+    (cd vscode && timeout 600 "$program" "$tests/editors/vscode.js" "$top" "$twire") >told 2>&1 </dev/null
+    count told
+else
+    echo "there is no node: the extension for VS Code is not tried"
+fi
+
+pack=$top/tools/editors/vscode/pack
+if type -P zip >/dev/null; then
+    "$pack" twire.vsix >packed 2>&1
+    held "a .vsix" packed
+    python3 "$tests/editors/vsix.py" twire.vsix "$top" >told 2>&1
+    count told
+    "$pack" again.vsix
+    same_file "the same .vsix once more" twire.vsix again.vsix
+    same "no place for a .vsix" "$(printf '%s\n' "pack: cannot write none/twire.vsix" "status 2")" \
+        "$("$pack" none/twire.vsix 2>&1; echo "status $?")"
+else
+    echo "there is no zip: the .vsix is not made"
+fi
+same "two files to pack" "$(printf '%s\n' "pack: it takes one argument, the file to write: see pack --help" "status 2")" \
+    "$("$pack" one two 2>&1; echo "status $?")"
+same "the help of pack" "usage: tools/editors/vscode/pack FILE" "$("$pack" --help | head -n 1)"
 
 finish

@@ -6,7 +6,9 @@ if ! type -P python3 >found; then
     echo "there is no python3: twire lsp is not tried"
     finish
 fi
-python3 -B "$tests/editors/client.py" "$twire" "$tests" >said 2>&1
-count said
+for cases in client names states hovers; do
+    python3 -B "$tests/editors/$cases.py" "$twire" "$tests" >said 2>&1
+    count said
+done
 
 finish

@@ -2,141 +2,11 @@
 # docs/COMMAND_LINE.md say. The last line is 'N passed, M failed'.
 import json
 import os
-import select
 import subprocess
 import sys
 import time
 
-TWIRE = sys.argv[1]
-SECONDS = 60
-passed = failed = 0
-
-
-def want(name, wanted, found):
-    global passed, failed
-    if wanted == found:
-        passed += 1
-        return
-    failed += 1
-    print(f'FAILED: {name}: wanted\n{shown(wanted)}\nfound\n{shown(found)}')
-
-
-def shown(value):
-    return json.dumps(value, indent=1, default=str)
-
-
-def frame(body):
-    body = body if isinstance(body, bytes) else json.dumps(body).encode()
-    return b'Content-Length: %d\r\n\r\n' % len(body) + body
-
-
-class Server:
-    def __init__(self, *arguments, folder=None):
-        self.process = subprocess.Popen([TWIRE, 'lsp', *arguments], stdin=subprocess.PIPE, stdout=subprocess.PIPE,
-                                        stderr=subprocess.PIPE, bufsize=0, cwd=folder)
-        self.ids = 0
-        self.rest = b''
-
-    # ---- bytes
-
-    def write(self, data):
-        self.process.stdin.write(data)
-
-    # One message of the server, or None where it has ended.
-    def read(self):
-        head = self.read_until(b'\r\n\r\n')
-        if head is None:
-            return None
-        fields = dict(line.split(b': ', 1) for line in head.split(b'\r\n') if line)
-        size = int(fields[b'Content-Length'])
-        while len(self.rest) < size:
-            if not self.more():
-                return 'half a frame'
-        body, self.rest = self.rest[:size], self.rest[size:]
-        return json.loads(body)
-
-    def read_until(self, mark):
-        while mark not in self.rest:
-            if not self.more():
-                return None
-        head, self.rest = self.rest.split(mark, 1)
-        return head
-
-    def more(self):
-        ready, _, _ = select.select([self.process.stdout], [], [], SECONDS)
-        data = os.read(self.process.stdout.fileno(), 65536) if ready else b''
-        self.rest += data
-        return bool(data)
-
-    # Nothing more is written. The status, and what is left to be read.
-    def end(self):
-        self.process.stdin.close()
-        rest = []
-        while (message := self.read()) is not None:
-            rest.append(message)
-        status = self.process.wait(SECONDS)
-        self.process.stdout.close()
-        self.process.stderr.close()
-        return [status, rest]
-
-    # ---- messages
-
-    def request(self, method, params=None):
-        self.ids += 1
-        message = {'jsonrpc': '2.0', 'id': self.ids, 'method': method}
-        if params is not None:
-            message['params'] = params
-        self.write(frame(message))
-        return self.read()
-
-    def result(self, method, params=None):
-        answer = self.request(method, params)
-        return answer['result'] if isinstance(answer, dict) and 'result' in answer else answer
-
-    def code(self, method, params=None):
-        return self.request(method, params)['error']['code']
-
-    def notify(self, method, params=None):
-        self.write(frame({'jsonrpc': '2.0', 'method': method, 'params': params or {}}))
-
-    def begin(self):
-        self.request('initialize', {'processId': None, 'rootUri': None, 'capabilities': {}})
-        self.notify('initialized')
-        return self
-
-    # What is told of the document after that.
-    def open(self, uri, text):
-        self.notify('textDocument/didOpen', {'textDocument': {'uri': uri, 'languageId': 'brief', 'version': 1, 'text': text}})
-        return self.told(uri)
-
-    def change(self, uri, text):
-        self.notify('textDocument/didChange', {'textDocument': {'uri': uri, 'version': 2}, 'contentChanges': [{'text': text}]})
-        return self.told(uri)
-
-    def told(self, uri):
-        message = self.read()
-        if message and message.get('method') == 'textDocument/publishDiagnostics' and message['params']['uri'] == uri:
-            return message['params']['diagnostics']
-        return message
-
-    def at(self, method, uri, line, character):
-        return self.result(f'textDocument/{method}',
-                           {'textDocument': {'uri': uri}, 'position': {'line': line, 'character': character}})
-
-    def stop(self):
-        self.request('shutdown')
-        self.notify('exit')
-        return self.end()
-
-
-def places(told):
-    return [[one['code'], one['severity'], *spot(one['range'])] for one in told]
-
-
-def spot(range):
-    start, end = range['start'], range['end']
-    return [start['line'], start['character'], end['line'], end['character']]
-
+from protocol import TWIRE, Server, finish, frame, places, spot, want
 
 # ---- begin and end
 
@@ -145,9 +15,10 @@ answer = server.request('initialize', {'processId': None, 'rootUri': None, 'capa
 want('the version of JSON-RPC', '2.0', answer['jsonrpc'])
 want('the number of the request', 1, answer['id'])
 capabilities = answer['result']['capabilities']
-want('whole texts at each change', 1, capabilities['textDocumentSync'])
-want('what is offered', [True] * 3,
-     [capabilities[name] for name in ('hoverProvider', 'definitionProvider', 'documentFormattingProvider')])
+want('changes in ranges', {'openClose': True, 'change': 2, 'save': True}, capabilities['textDocumentSync'])
+want('what is offered', [True] * 7,
+     [capabilities[f'{name}Provider'] for name in ('hover', 'definition', 'references', 'documentHighlight', 'documentSymbol',
+                                                   'foldingRange', 'documentFormatting')])
 want('units of UTF-16', 'utf-16', capabilities['positionEncoding'])
 want('a second initialize', -32600, server.code('initialize', {'capabilities': {}}))
 want('shutdown', None, server.result('shutdown'))
@@ -214,9 +85,11 @@ want('a head of 4096 bytes and more without an end', [2, [None, -32700]], heard(
 want('a body of no bytes', [1, [None, -32700], ['a', 'ok']], heard(frame(b'') + hello))
 want('a body of 10 MB', [1, ['a', 'ok'], ['b', -32601]],
      heard(hello + frame({**UNKNOWN, 'params': {'text': 'x' * 10_000_000}})))
-want('a body that is too long', [1, [None, -32600], ['a', 'ok']],
+# (people are told too: by window/showMessage)
+want('a body that is too long', [1, [None, -32600], [None, 'ok'], ['a', 'ok']],
      heard(frame(b'"' + b'x' * (16 * 1024 * 1024 - 1) + b'"') + hello))
-want('the end in a body that is too long', [2, [None, -32600]], heard(b'Content-Length: 999999999999\r\n\r\n' + b'x' * 1000))
+want('the end in a body that is too long', [2, [None, -32600], [None, 'ok']],
+     heard(b'Content-Length: 999999999999\r\n\r\n' + b'x' * 1000))
 
 # ---- messages
 
@@ -431,7 +304,7 @@ def said(line, character):
 
 want('a device', 'device `eeprom`: address `0x50`', said(3, 20))
 want('a byte', 'byte `page`: bits `0x10`', said(4, 27))
-want('a controller', None, said(5, 12))
+want('a controller', True, said(5, 12).startswith('controller `bmc`: sends 3 messages: '))
 want('the frames of a message', True, '```text\nS 50 Wr A 10 A Sr 50 Rd A (2 read) NA P\n```\n' in said(3, 9))
 family = said(4, 9)
 want('a family', True, 'S 50 Wr A 10*2 A any A P\n' in family and 'S 50 Wr A 10*2 A any*2 A P\n' in family)
@@ -672,8 +545,11 @@ want('it is closed', [], server.told(ON_SHELF['none']))
 want('and is not there again', [['read', 1, 3, 0, 3, 19]], each_told(server, *ALL)['board'])
 server.notify('textDocument/didClose', {'textDocument': {'uri': ON_SHELF['board']}})
 want('the board is closed', [], server.told(ON_SHELF['board']))
+want('its files are told of with the one on disk', {name: [] for name in ALL}, each_told(server, *ALL))
+os.rename('shelf/board.brief', 'shelf/away.brief')
+server.notify('textDocument/didSave', {'textDocument': {'uri': ON_SHELF['pch']}})
 want('its file is alone', {'pch': [['P8', 1, 1, 18, 1, 24]]}, each_told(server, 'pch'))
-want('nothing is wrong with the others', {'devices': [], 'bmc': []}, each_told(server, 'devices', 'bmc'))
+want('nothing is wrong with the others', {'devices': [], 'bmc': [], 'board': []}, each_told(server, 'devices', 'bmc', 'board'))
 want('the end of a board', [0, []], server.stop())
 
 # two that name each other are told of with the one that was opened first
@@ -715,5 +591,4 @@ with subprocess.Popen([TWIRE, 'lsp', '--with', '-'], stdin=subprocess.DEVNULL, s
 with open(sys.argv[2] + '/../docs/help/lsp.txt', encoding='ascii') as file:
     want('the help', file.read(), subprocess.run([TWIRE, 'lsp', '--help'], capture_output=True, text=True, check=True).stdout)
 
-print(f'{passed} passed, {failed} failed')
-sys.exit(1 if failed else 0)
+finish()

@@ -10,13 +10,14 @@ local function lines()
   return vim.api.nvim_buf_get_lines(0, 0, -1, false)
 end
 
--- What is shown: its code, its line from 0 on, and its columns.
+-- What is shown: its code, its line from 0 on, and its columns; and its severity, where that is not an error.
 local function shown()
   local found = {}
   for _, one in ipairs(vim.diagnostic.get(0)) do
-    table.insert(found, { one.code or one.user_data.lsp.code, one.lnum, one.col, one.end_col })
+    local severity = one.severity ~= vim.diagnostic.severity.ERROR and one.severity or nil
+    table.insert(found, { one.code or one.user_data.lsp.code, one.lnum, one.col, one.end_col, severity })
   end
-  table.sort(found, function(a, b) return a[2] < b[2] end)
+  table.sort(found, function(a, b) return a[2] < b[2] or a[2] == b[2] and a[3] < b[3] end)
   return found
 end
 
@@ -43,7 +44,9 @@ local function run()
   want('an unsafe pair, at both messages', { { 'unsafe', 2, 8, 19 }, { 'unsafe', 3, 8, 18 } }, shown_when(2))
 
   vim.api.nvim_buf_set_lines(0, 5, 6, false, { 'controller guard read_limt ;' })
-  want('a brief that is broken', { { 'P8', 5, 17, 26 } }, shown_when(1))
+  local before = vim.diagnostic.severity.INFO
+  want('a brief that is broken, and what was unsafe before',
+    { { 'unsafe', 2, 8, 19, before }, { 'unsafe', 3, 8, 18, before }, { 'P8', 5, 17, 26 } }, shown_when(3))
 
   vim.api.nvim_buf_set_lines(0, 5, 6, false, { 'controller guard    read_limit ;', 'never main   guard;' })
   want('a brief that is mended', {}, shown_when(0))
@@ -86,8 +89,9 @@ local function board()
   vim.lsp.buf_attach_client(0, client)
   vim.api.nvim_buf_set_lines(0, 1, 2, false, { 'device eprom 0x50 ;' })
   vim.cmd('buffer ' .. files[2])
-  vim.wait(20000, function() return #shown() == 1 and shown()[1][1] == 'P8' end, 20)
-  want('a name that the first file has no more', { { 'P8', 1, 18, 24 } }, shown())
+  vim.wait(20000, function() return #shown() == 2 and shown()[2][1] == 'P8' end, 20)
+  want('a name that the first file has no more, and what was unsafe before',
+    { { 'unsafe', 1, 8, 11, vim.diagnostic.severity.INFO }, { 'P8', 1, 18, 24 } }, shown())
 
   vim.lsp.stop_client(client)
   vim.wait(20000, function() return status ~= nil end, 20)

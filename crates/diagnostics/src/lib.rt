@@ -1,7 +1,7 @@
 //! What is wrong in the texts that give a plan, as values with places: for compilers' messages, and for editors.
 //!
 //! `refusals` has that of a text which is refused, `meetings` those of unsafe pairs, `lints` those of what is likely a mistake,
-//! `unchecked` those of what a strict check fails for; `items` knows where names stand. `gcc` writes them as compilers do. Nothing here decides anything.
+//! `mends` what mends that, `unchecked` those of what a strict check fails for; `items` knows where items and names stand. `gcc` writes them as compilers do. Nothing here decides anything.
 #![tactic(auto)]
 
 mod checks;
@@ -9,6 +9,7 @@ mod gcc;
 mod items;
 mod lints;
 mod meetings;
+mod mends;
 mod refusals;
 mod unchecked;
 mod values;
@@ -16,4 +17,4 @@ mod values;
 pub use checks::{Wanted, diagnose_check};
 pub use gcc::Messages;
 pub use refusals::diagnose_refusal;
-pub use values::{Diagnostic, Related, Severity, Span, reason_of};
+pub use values::{About, Diagnostic, Edit, Fix, Related, Severity, Span, reason_of};

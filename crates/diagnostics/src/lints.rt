@@ -1,7 +1,8 @@
 // What is likely a mistake in briefs.
 
 use crate::items::Items;
-use crate::values::{Diagnostic, Related, Severity, Span, one_line};
+use crate::mends::mends_of;
+use crate::values::{About, Diagnostic, Related, Severity, Span, one_line};
 use hints::on_oddity;
 use lint::Oddity;
 use origins::{Kind, Spot};
@@ -26,6 +27,8 @@ pub(crate) fn push_odd(
             span: span_of(words, *oddity, items, texts),
             message: one_line(alloc, &said)?,
             related: related_of(alloc, *oddity, items)?,
+            fixes: mends_of(alloc, *oddity, items)?,
+            about: about_of(*oddity),
         })?;
     }
     Ok(())
@@ -35,6 +38,23 @@ fn severity_of(oddity: Oddity<'_>, strict: bool) -> Severity {
     match oddity {
         Oddity::Unsent { .. } if strict => Severity::Error,
         _ => Severity::Warning,
+    }
+}
+
+fn about_of(oddity: Oddity<'_>) -> About {
+    match oddity {
+        Oddity::UnusedDevice(_)
+        | Oddity::UnusedGroup { .. }
+        | Oddity::UnusedByte(_)
+        | Oddity::Unsent { .. }
+        | Oddity::Idle { .. }
+        | Oddity::IdleNever { .. } => About::Unused,
+        Oddity::EmptyBrief(_)
+        | Oddity::CarriageReturn(_)
+        | Oddity::SameAddress(..)
+        | Oddity::ReservedAddress(_)
+        | Oddity::AddressByte { .. }
+        | Oddity::BareHeader { .. } => About::Other,
     }
 }
 

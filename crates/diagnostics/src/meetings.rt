@@ -1,7 +1,7 @@
 // Unsafe pairs, those that are alike together.
 
 use crate::items::Items;
-use crate::values::{Diagnostic, Related, Severity};
+use crate::values::{About, Diagnostic, Related, Severity};
 use bus_rows::{Meeting, meeting_of};
 use certificate::Fault;
 use growing_text::Text;
@@ -25,7 +25,7 @@ pub(crate) fn push_unsafe(
     for g in 0..groups.len() {
         for i in 0..groups.meets(g) {
             if let Some(alike) = groups.alike(g, i) {
-                push_alike(alloc, found, words, checked, alike, items)?;
+                push_alike(alloc, found, words, checked, (g, alike), items)?;
             }
         }
     }
@@ -37,10 +37,11 @@ fn push_alike(
     found: &mut Vec<Diagnostic>,
     words: PlanWords<'_>,
     checked: &Checked,
-    alike: Alike<'_>,
+    of_group: (usize, Alike<'_>),
     items: &Items<'_>,
 ) -> Result<(), AllocError> {
     let Checked { plan, faults } = checked;
+    let (_, alike) = of_group;
     if faults.len() <= alike.example {
         return Ok(());
     }
@@ -48,7 +49,7 @@ fn push_alike(
     if plan.pair_count() <= pair {
         return Ok(());
     }
-    found.push(unsafe_at(alloc, words, plan.pair(pair), fault, alike, items)?)?;
+    found.push(unsafe_at(alloc, words, plan.pair(pair), fault, of_group, items)?)?;
     Ok(())
 }
 
@@ -57,9 +58,10 @@ fn unsafe_at(
     words: PlanWords<'_>,
     both: (u32, u32),
     fault: &Fault,
-    alike: Alike<'_>,
+    of_group: (usize, Alike<'_>),
     items: &Items<'_>,
 ) -> Result<Diagnostic, AllocError> {
+    let (group, alike) = of_group;
     let meeting = meeting_of(alloc, words.plan(), both, fault.wire.as_slice())?;
     let message = unsafe_words(alloc, &meeting, fault, alike)?;
     let mut related = Vec::new(alloc);
@@ -73,6 +75,8 @@ fn unsafe_at(
         span: items.sender(words, both.0),
         message,
         related,
+        fixes: Vec::new(alloc),
+        about: About::Group(group),
     })
 }
 

@@ -1,6 +1,6 @@
 // What is wrong with a text that is refused.
 
-use crate::values::{Diagnostic, Related, Severity, Span, one_line};
+use crate::values::{About, Diagnostic, Fix, Related, Severity, Span, one_line};
 use growing_text::Text;
 use hints::{Cause, RefusedIn, cause_of, first_stand};
 use plan_text::PlanError;
@@ -28,7 +28,31 @@ pub fn diagnose_refusal(
         },
         message: words_of(alloc, refused, &cause)?,
         related: earlier_of(alloc, refused)?,
+        fixes: fixes_of(alloc, &cause, file)?,
+        about: About::Other,
     })
+}
+
+// What mends the text of this number, of what is said of it.
+fn fixes_of(alloc: Global, cause: &Cause, file: u32) -> Result<Vec<Fix>, AllocError> {
+    let mut fixes = Vec::new(alloc);
+    for fix in cause.said.fixes() {
+        let puts = fix.puts.as_str();
+        let does = if fix.start < fix.end { "write" } else { "put" };
+        let place = if fix.end < cause.start {
+            "above"
+        } else {
+            "here"
+        };
+        let span = Span {
+            file,
+            start: fix.start,
+            end: fix.end,
+        };
+        let title = format!(in alloc; "{does} '{puts}' {place}")?;
+        fixes.push(Fix::of(alloc, title, span, String::from_str(alloc, puts)?)?)?;
+    }
+    Ok(fixes)
 }
 
 // What is said of it: of a name that is unknown, or stands already, after the name.

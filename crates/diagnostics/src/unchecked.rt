@@ -1,7 +1,7 @@
 // What a strict check fails for, beside what is unsafe.
 
 use crate::items::Items;
-use crate::values::{BEGINNING, Diagnostic, Severity, Span};
+use crate::values::{About, BEGINNING, Diagnostic, Severity, Span};
 use origins::Kind;
 use plan_findings::unsent_in;
 use plan_words::PlanWords;
@@ -20,7 +20,7 @@ pub(crate) fn push_unchecked(
         let said = format!(in alloc;
             "no two participants may start together, so nothing was checked"
         )?;
-        push_error(alloc, found, "no pair", BEGINNING, said)?;
+        push_error(alloc, found, "no pair", BEGINNING, said, About::Other)?;
     }
     if words.has_briefs() {
         return Ok(());
@@ -31,7 +31,7 @@ pub(crate) fn push_unchecked(
         let said = format!(in alloc;
             "no controller lists message '{name}', which was not looked at"
         )?;
-        push_error(alloc, found, "unsent message", span, said)?;
+        push_error(alloc, found, "unsent message", span, said, About::Unused)?;
     }
     Ok(())
 }
@@ -50,7 +50,7 @@ pub(crate) fn push_left_out(
             let said = format!(in alloc;
                 "'never' leaves {apart} of {pairs} pairs unchecked, where {most} are allowed"
             )?;
-            push_error(alloc, found, "left out", BEGINNING, said)
+            push_error(alloc, found, "left out", BEGINNING, said, About::Other)
         }
         _ => Ok(()),
     }
@@ -62,6 +62,7 @@ fn push_error(
     code: &'static str,
     span: Span,
     message: String,
+    about: About,
 ) -> Result<(), AllocError> {
     found.push(Diagnostic {
         severity: Severity::Error,
@@ -69,6 +70,8 @@ fn push_error(
         span,
         message,
         related: Vec::new(alloc),
+        fixes: Vec::new(alloc),
+        about,
     })?;
     Ok(())
 }

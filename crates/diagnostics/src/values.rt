@@ -30,6 +30,47 @@ pub struct Diagnostic {
     pub message: String,
     /// Further places, which have to do with it.
     pub related: Vec<Related>,
+    /// What mends it: each of these does.
+    pub fixes: Vec<Fix>,
+    pub about: About,
+}
+
+/// What it is about, for whoever has more to say of that.
+#[derive(Clone, Copy, PartialEq, Eq)]
+pub enum About {
+    /// The group of unsafe pairs with this number.
+    Group(usize),
+    /// What nobody uses or lists.
+    Unused,
+    Other,
+}
+
+/// A way to mend it: what it does in a few words, and the edits of the texts.
+#[derive(Drop)]
+pub struct Fix {
+    pub title: String,
+    pub edits: Vec<Edit>,
+}
+
+/// What is put in the place of these bytes of a text, or between two where there are none.
+#[derive(Drop)]
+pub struct Edit {
+    pub span: Span,
+    pub puts: String,
+}
+
+impl Fix {
+    /// One that is one edit.
+    pub(crate) fn of(
+        alloc: Global,
+        title: String,
+        span: Span,
+        puts: String,
+    ) -> Result<Fix, AllocError> {
+        let mut edits = Vec::new(alloc);
+        edits.push(Edit { span, puts })?;
+        Ok(Fix { title, edits })
+    }
 }
 
 /// Another place, and what stands there.

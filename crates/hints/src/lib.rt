@@ -10,9 +10,9 @@
 //! `devices` which file failed. What
 //! is said of dumps is a crate of its own, `dump_hints`, which puts its hints together by the parts below.
 //!
-//! `values` has the hints, and writes them as lines: it puts the word `hint:` before each, and breaks sentences for 80
-//! columns. `lines` puts hints together from parts, `marking` shows a place in its line, and `paths` writes names of
-//! files as a shell takes them. `kinds` tells by its first bytes what a file is that stands in the place of another,
+//! `values` has the hints, and the edits that mend what they speak of. It writes the hints as lines: it puts the word `hint:`
+//! before each, and breaks sentences for 80 columns. `lines` puts hints together from parts, `marking` shows a place in its
+//! line, and `paths` writes names of files as a shell takes them. `kinds` tells by its first bytes what a file is that stands in the place of another,
 //! and `likeness` which names are nearest to one that is not there.
 #![tactic(auto)]
 
@@ -48,7 +48,7 @@ pub use likeness::Nearest;
 pub use lines::Lines;
 pub use marking::{first_line, push_marked, push_name, push_quoted};
 pub use names::{Stand, first_stand};
-pub use odd::on_oddity;
+pub use odd::{made_byte, on_oddity};
 pub use paths::file_word;
 pub use plans::on_no_brief;
 pub use safety::{Found, on_checked, on_safe};
@@ -58,4 +58,4 @@ pub use texts::{
     on_text,
 };
 pub use untaken::{OfferAt, Then, Untaken, on_mended, on_untaken};
-pub use values::{Hint, Hints};
+pub use values::{Fix, Hint, Hints};

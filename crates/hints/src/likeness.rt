@@ -10,6 +10,9 @@ const MOST: usize = 10;
 
 const COMPARED: usize = 64;
 
+// How many names mend a text, each in its own way.
+const MENDING: usize = 3;
+
 // Names that have the wanted one in them come before all others.
 const OTHERS: usize = 1_000;
 
@@ -109,6 +112,33 @@ impl<'a> Nearest<'a> {
             lines.detail("..");
         }
     }
+
+    /// Those of the told names that are near.
+    pub(crate) fn near_ones(&self, alloc: Global) -> Result<Nearest<'a>, AllocError> {
+        let mut near = Nearest::new(alloc, self.wanted);
+        for told in self.found.iter() {
+            let name = told.name.as_slice();
+            if let Some(far) = self.nearness(alloc, name)? {
+                near.add_at(alloc, name, far)?;
+            }
+        }
+        Ok(near)
+    }
+
+    /// Notes that each of the first names mends the refused text: between these words, in the place of these bytes.
+    pub(crate) fn mend(&self, lines: &mut Lines, place: (usize, usize), around: (&[u8], &[u8])) {
+        let (start, end) = place;
+        let (before, after) = (shown(around.0), shown(around.1));
+        for near in self.found.iter().take(MENDING) {
+            let name = shown(near.name.as_slice());
+            lines.fix(start, end, format_args!("{before}{name}{after}"));
+        }
+    }
+}
+
+// The letters of a name.
+fn shown(name: &[u8]) -> &str {
+    str::from_utf8(name).unwrap_or("")
 }
 
 // By how many edits a name parts from the wanted one, where it is near. Case and `_` do not count. It is near where the edits

@@ -1,6 +1,6 @@
 // Hints as they are put together, from parts.
 
-use crate::values::{Hint, Hints};
+use crate::values::{Fix, Hint, Hints};
 use growing_text::Sentence;
 use std::alloc::{AllocError, Global};
 use std::fmt::Display;
@@ -78,10 +78,18 @@ impl Lines {
         }
     }
 
+    /// One more edit that mends the refused text, as the last hint says: what is put in the place of these bytes.
+    pub fn fix<W: Display + Drop>(&mut self, start: usize, end: usize, puts: W) {
+        match format!(in self.alloc; "{puts}") {
+            Ok(puts) => self.add_fix(Fix { start, end, puts }),
+            Err(_) => self.fail(),
+        }
+    }
+
     /// The first of these hints, with what belongs to it.
     pub(crate) fn first_of(&mut self, hints: Hints) {
-        for hint in hints.into_first() {
-            self.add(hint);
+        if self.hints.append(hints.into_first()).is_err() {
+            self.fail();
         }
     }
 
@@ -102,6 +110,12 @@ impl Lines {
     // One more hint.
     fn add(&mut self, hint: Hint) {
         if self.hints.push(hint).is_err() {
+            self.fail();
+        }
+    }
+
+    fn add_fix(&mut self, fix: Fix) {
+        if self.hints.push_fix(fix).is_err() {
             self.fail();
         }
     }

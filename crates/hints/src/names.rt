@@ -464,7 +464,7 @@ fn push_absent(alloc: Global, lines: &mut Lines, refused: &RefusedIn<'_>, known:
             push_nearest(alloc, lines, refused, known, Kind::Device, word)
         }
         Some(expected @ Expected::Further(_)) => {
-            push_keyword(alloc, lines, expected, word);
+            push_keyword(alloc, lines, refused, expected);
             push_nearest(alloc, lines, refused, known, Kind::Byte, word);
         }
         _ => push_absent_side(alloc, lines, refused, known, word),
@@ -472,11 +472,11 @@ fn push_absent(alloc: Global, lines: &mut Lines, refused: &RefusedIn<'_>, known:
 }
 
 // Says which word of the language is meant, where it may be that no byte is.
-fn push_keyword(alloc: Global, lines: &mut Lines, expected: Expected, word: &[u8]) {
+fn push_keyword(alloc: Global, lines: &mut Lines, refused: &RefusedIn<'_>, expected: Expected) {
     match words_of(alloc, expected, false) {
         Ok(words) => {
-            let word = str::from_utf8(word).unwrap_or("");
-            let _ = push_meant(alloc, lines, words.as_slice(), word);
+            let word = str::from_utf8(refused.token()).unwrap_or("");
+            let _ = push_meant(alloc, lines, refused, words.as_slice(), word);
         }
         Err(_) => lines.fail(),
     }
@@ -497,7 +497,7 @@ fn push_absent_side(
                 push_star(lines, known, controller, label);
             }
             lines.say("the controller of this label lists no such message; it lists:");
-            push_listed(alloc, lines, known, label, controller);
+            push_listed(alloc, lines, refused, known, (controller, label));
         }
         _ => push_nearest(alloc, lines, refused, known, Kind::Controller, controller),
     }
@@ -554,11 +554,19 @@ fn push_near(
             "no {what} before this place has this name; the nearest names of {what}s:"
         ));
         near.tell(lines);
+        mend_name(lines, refused, &near, word);
     } else if has_any(known, kind) {
         lines.say(format_args!("no {what} before this place has this name"));
     } else {
         lines.say(format_args!("no {what} stands before this place"));
     }
+}
+
+// Notes the near names, each in the place of this one, with which the refused token begins: what the label of a controller sends
+// stays.
+fn mend_name(lines: &mut Lines, refused: &RefusedIn<'_>, near: &Nearest<'_>, word: &[u8]) {
+    let rest = refused.token().get(word.len()..).unwrap_or(&[]);
+    near.mend(lines, (refused.place.start, refused.place.end), (&[], rest));
 }
 
 fn near_names<'a>(
@@ -653,8 +661,15 @@ fn has_any(known: &[Known<'_>], kind: Kind) -> bool {
     known.iter().any(|one| one.gives(kind))
 }
 
-// Shows the names of what this controller lists, the nearest to the word first.
-fn push_listed(alloc: Global, lines: &mut Lines, known: &[Known<'_>], word: &[u8], wanted: &[u8]) {
+// Shows the names of what the controller of a label lists, the nearest to what the label names first.
+fn push_listed(
+    alloc: Global,
+    lines: &mut Lines,
+    refused: &RefusedIn<'_>,
+    known: &[Known<'_>],
+    label: (&[u8], &[u8]),
+) {
+    let (wanted, word) = label;
     let mut nearest = Nearest::new(alloc, word);
     let mut controller: &[u8] = &[];
     for one in known {
@@ -666,4 +681,22 @@ fn push_listed(alloc: Global, lines: &mut Lines, known: &[Known<'_>], word: &[u8
         }
     }
     nearest.tell(lines);
+    match nearest.near_ones(alloc) {
+        Ok(near) => mend_label(lines, refused, &near, word),
+        Err(_) => lines.fail(),
+    }
+}
+
+// Notes the near names, each in the place of this one, with which a label ends. A `*` after it goes.
+fn mend_label(lines: &mut Lines, refused: &RefusedIn<'_>, near: &Nearest<'_>, word: &[u8]) {
+    let token = refused.token();
+    let front = token
+        .get(..token.len().saturating_sub(word.len()))
+        .unwrap_or(&[]);
+    let end = if refused.is_before(b'*') {
+        refused.place.end.saturating_add(1)
+    } else {
+        refused.place.end
+    };
+    near.mend(lines, (refused.place.start, end), (front, &[]));
 }

@@ -1,6 +1,8 @@
 // Numbers that stand in the place of an address or of a data byte of a brief, and are none, with what would be right there.
 
 use crate::lines::Lines;
+use crate::texts::RefusedIn;
+use plan_text::Expected;
 
 /// A number that is no address, or no data byte, of a brief.
 #[derive(Clone, Copy)]
@@ -102,6 +104,21 @@ impl<'a> Number<'a> {
             }
         }
     }
+
+    /// Notes what would be right in the place of the refused word, where this was expected.
+    pub(crate) fn mend(self, lines: &mut Lines, refused: &RefusedIn<'_>, expected: Expected) {
+        match self {
+            Number::TenBits { value, .. } => mend_ten_bits(lines, refused, expected, value),
+            Number::TwoBytes(value) => mend_two_bytes(lines, refused, expected, value),
+            Number::Decimal(_, value, hex) => {
+                refused.mend(lines, format_args!("0x{value:02X}"));
+                if let Some(hex) = hex {
+                    refused.mend(lines, format_args!("0x{hex:02X}"));
+                }
+            }
+            Number::ByteSpan | Number::AddressSpan | Number::Beyond => {}
+        }
+    }
 }
 
 const MOST_OF_TEN_BITS: u16 = 0x3FF;
@@ -123,6 +140,26 @@ fn push_ten_bits(lines: &mut Lines, word: &str, value: u16) {
     lines.say(format_args!(
         "0x{low:02X}', the header 0b{header:07b} and the byte 0x{low:02X} after it, as in the recipes of the guide"
     ));
+}
+
+// Notes the address of seven bits, and what sends one of ten bits where a message writes to it.
+fn mend_ten_bits(lines: &mut Lines, refused: &RefusedIn<'_>, expected: Expected, value: u16) {
+    let [high, low] = value.to_be_bytes();
+    let header = 0x78 | high;
+    if value <= 0x7F {
+        refused.mend(lines, format_args!("0x{low:02X}"));
+    }
+    if expected == Expected::Target && refused.before().trim_ascii_end().ends_with(b"write") {
+        refused.mend(lines, format_args!("0x{header:02X} 0x{low:02X}"));
+    }
+}
+
+// Notes the two bytes, where several can stand, and none of them is repeated.
+fn mend_two_bytes(lines: &mut Lines, refused: &RefusedIn<'_>, expected: Expected, value: u16) {
+    let [high, low] = value.to_be_bytes();
+    if matches!(expected, Expected::Further(_)) && !refused.is_repeated() {
+        refused.mend(lines, format_args!("0x{high:02X} 0x{low:02X}"));
+    }
 }
 
 fn has_digit_first(word: &str) -> bool {

@@ -2,6 +2,7 @@
 
 use crate::lines::Lines;
 use crate::values::Hints;
+use brief_tokens::is_board_word;
 use lint::Oddity;
 use origins::Device;
 use plan_core::Plan;
@@ -111,13 +112,33 @@ fn push_oddity(
     Ok(())
 }
 
+/// How a `brief 2` writes the byte with which a transaction with this device begins. Nothing where the name of the device is a word
+/// there.
+///
+/// # Errors
+///
+/// Where an allocation fails.
+pub fn made_byte(
+    alloc: Global,
+    device: &Device,
+    is_read: bool,
+) -> Result<Option<String>, AllocError> {
+    let name = device.name.as_str();
+    if is_board_word(name) {
+        return Ok(None);
+    }
+    let made = made_by(is_read);
+    Ok(Some(format!(in alloc; "{made}({name})")?))
+}
+
+fn made_by(is_read: bool) -> &'static str {
+    if is_read { "rd" } else { "wr" }
+}
+
 fn push_address_byte(lines: &mut Lines, device: &Device, is_read: bool) {
     let name = device.name.as_str();
-    let (made, what) = if is_read {
-        ("rd", "read of")
-    } else {
-        ("wr", "write to")
-    };
+    let made = made_by(is_read);
+    let what = if is_read { "read of" } else { "write to" };
     lines.say(format_args!(
         "this byte is the header of a {what} device '{name}': is {made}({name}) meant?"
     ));

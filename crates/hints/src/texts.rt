@@ -8,13 +8,14 @@ use crate::marking::{first_line, last_line, push_marked};
 use crate::names::{push_twice, push_unknown};
 use crate::paths::push_path;
 use crate::values::Hints;
-use crate::wording::{bad_count, foreign, push_limit, push_over, push_version};
+use crate::wording::{bad_count, foreign, mend_version, push_limit, push_over, push_version};
 use crate::words::{RANGES, is_like_brief, push_reason, reason_of_characters};
 use brief_tokens::after_head;
 use origins::Spans;
 use plan_text::places::Further;
 use plan_text::{Expected, Language, Place, PlanError, Refused, is_plan};
 use std::alloc::{AllocError, Global};
+use std::fmt::Display;
 
 /// Why and where a plan or a brief was refused.
 #[derive(Clone, Copy)]
@@ -64,9 +65,20 @@ impl<'a> RefusedIn<'a> {
         }
     }
 
+    /// Notes that it is mended by this in the place of the refused token.
+    pub(crate) fn mend<W: Display + Drop>(&self, lines: &mut Lines, puts: W) {
+        lines.fix(self.place.start, self.place.end, puts);
+    }
+
     /// Whether this stands right after it.
     pub(crate) fn is_before(&self, sign: u8) -> bool {
         self.text.get(self.place.end).copied() == Some(sign)
+    }
+
+    /// Whether it is repeated, by `*`.
+    pub(crate) fn is_repeated(&self) -> bool {
+        let after = self.text.get(self.place.end..).unwrap_or(&[]);
+        after.trim_ascii_start().starts_with(b"*")
     }
 
     fn part(&self, start: usize, end: usize) -> &'a [u8] {
@@ -416,6 +428,7 @@ fn push_fault(alloc: Global, lines: &mut Lines, refused: &RefusedIn<'_>, fault: 
         }
         (Fault::Range(_), _) => {
             lines.say(RANGES);
+            mend_version(lines, refused);
             push_all(alloc, lines, refused, Expected::Count { ranges: false });
         }
         (_, Some(Expected::Version)) => push_version(lines, refused),
@@ -451,6 +464,7 @@ fn push_semicolon(lines: &mut Lines, refused: &RefusedIn<'_>, span: Span) {
         lines.part(format_args!(" on line {line}"));
     }
     lines.end();
+    lines.fix(span.start, span.start, ";");
 }
 
 // What stands at the end of these bytes, up to white space.
@@ -469,12 +483,23 @@ fn push_token(alloc: Global, lines: &mut Lines, refused: &RefusedIn<'_>, expecte
                 reason => reason,
             };
             match reason {
-                Some(reason) => lines.say(reason),
-                None => push_reason(alloc, lines, refused.language, expected, words, word),
+                Some(reason) => {
+                    lines.say(reason);
+                    push_comment_fix(lines, refused);
+                }
+                None => push_reason(alloc, lines, refused, expected, words, word),
             }
             push_expected(lines, words);
         }
         Err(_) => lines.fail(),
+    }
+}
+
+// Notes that `#` begins the comment that begins with `//`.
+fn push_comment_fix(lines: &mut Lines, refused: &RefusedIn<'_>) {
+    let start = refused.place.start;
+    if refused.text.get(start..).unwrap_or(&[]).starts_with(b"//") {
+        lines.fix(start, start.saturating_add(2), "#");
     }
 }
 

@@ -17,10 +17,30 @@ const RED: &str = "\x1b[31m";
 
 const PLAIN: &str = "\x1b[0m";
 
-/// What is said to people.
+/// What is said to people, and the edits that mend what it is said of.
 #[derive(Drop)]
 pub struct Hints {
     hints: Vec<Hint>,
+    fixes: Vec<Fix>,
+    // how many of the fixes belong to the first hint
+    of_first: usize,
+}
+
+/// An edit of the refused text that mends it as a hint says: what is put in the place of these bytes, or between two where there are
+/// none.
+#[derive(Drop)]
+pub struct Fix {
+    pub start: usize,
+    pub end: usize,
+    pub puts: String,
+}
+
+impl Fix {
+    fn is_same(&self, other: &Fix) -> bool {
+        self.start == other.start
+            && self.end == other.end
+            && self.puts.as_str() == other.puts.as_str()
+    }
 }
 
 /// One of the things that are said.
@@ -41,6 +61,8 @@ impl Hints {
     pub fn new(alloc: Global) -> Hints {
         Hints {
             hints: Vec::new(alloc),
+            fixes: Vec::new(alloc),
+            of_first: 0,
         }
     }
 
@@ -52,35 +74,76 @@ impl Hints {
         }
     }
 
+    /// One more edit, which belongs to the last hint. One that is there already is not kept twice.
+    pub(crate) fn push_fix(&mut self, fix: Fix) -> Result<(), AllocError> {
+        if self.fixes.iter().any(|known| known.is_same(&fix)) {
+            return Ok(());
+        }
+        if self.first_length() == self.hints.len() {
+            self.of_first = self.of_first.saturating_add(1);
+        }
+        self.keep_fix(fix)
+    }
+
+    fn keep_fix(&mut self, fix: Fix) -> Result<(), AllocError> {
+        match self.fixes.push(fix) {
+            Ok(()) => Ok(()),
+            Err(_) => Err(AllocError),
+        }
+    }
+
     /// And these.
     ///
     /// # Errors
     ///
     /// Where an allocation fails.
     pub fn append(&mut self, others: Hints) -> Result<(), AllocError> {
-        for hint in others.hints {
+        let Hints {
+            hints,
+            fixes,
+            of_first,
+        } = others;
+        if self.hints.is_empty() {
+            self.of_first = of_first;
+        }
+        for hint in hints {
             self.push(hint)?;
+        }
+        for fix in fixes {
+            self.keep_fix(fix)?;
         }
         Ok(())
     }
 
     /// The first of them, with what belongs to it.
-    pub(crate) fn into_first(self) -> Vec<Hint> {
-        let mut first = self.hints;
+    pub(crate) fn into_first(self) -> Hints {
+        let length = self.first_length();
+        let mut first = self;
+        first.hints.truncate(length);
+        first.fixes.truncate(first.of_first);
+        first
+    }
+
+    // How many there are up to the second sentence: the first hint, with what belongs to it.
+    fn first_length(&self) -> usize {
         let mut length = 0usize;
-        for hint in first.iter() {
+        for hint in self.hints.iter() {
             if length != 0 && matches!(hint, Hint::Sentence(_)) {
                 break;
             }
             length = length.saturating_add(1);
         }
-        first.truncate(length);
-        first
+        length
     }
 
     /// All hints, in the order in which they are said.
     pub fn all(&self) -> &[Hint] {
         self.hints.as_slice()
+    }
+
+    /// The edits of the refused text that mend it, each in its own way, in the order in which they are named.
+    pub fn fixes(&self) -> &[Fix] {
+        self.fixes.as_slice()
     }
 
     /// The lines of all hints, each of which begins with `hint:` and fits 80 columns, unless one word or detail is longer. The

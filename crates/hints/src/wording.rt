@@ -2,10 +2,11 @@
 
 use crate::lines::Lines;
 use crate::texts::RefusedIn;
+use brief_tokens::Tokens;
 use plan_core::limits::{
     MOST_BYTES, MOST_CONTROLLERS, MOST_INTERRUPTS, MOST_MESSAGES, MOST_NODES, MOST_SENDINGS,
 };
-use plan_text::places::{Kind, Over};
+use plan_text::places::{Kind, Over, token_at};
 use plan_text::{Expected, Language, is_plan};
 
 /// Of P1.
@@ -30,6 +31,18 @@ pub(crate) fn push_version(lines: &mut Lines, refused: &RefusedIn<'_>) {
             lines.say(PLAN_VERSION);
             lines.say(BRIEF_VERSION);
         }
+    }
+}
+
+/// Notes that a plan of the first version is mended where it begins as one of the second.
+pub(crate) fn mend_version(lines: &mut Lines, refused: &RefusedIn<'_>) {
+    let mut tokens = Tokens::new(refused.text);
+    let word = tokens.next();
+    let start = token_at(refused.text, tokens.spot(), word.line).start;
+    let version = tokens.next();
+    let end = token_at(refused.text, tokens.spot(), version.line).end;
+    if refused.text.get(start..end) == Some(b"plan 1".as_slice()) {
+        lines.fix(start, end, "plan 2");
     }
 }
 

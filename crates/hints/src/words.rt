@@ -4,6 +4,7 @@ use crate::kinds::LOOKED_AT;
 use crate::lines::Lines;
 use crate::numbers::Number;
 use crate::texts::{RefusedIn, called};
+use crate::wording::mend_version;
 use brief_tokens::is_board_word;
 use plan_core::Name;
 use plan_text::words::count_ends;
@@ -91,22 +92,29 @@ fn is_brief_word(word: &[u8]) -> bool {
 pub(crate) fn push_reason(
     alloc: Global,
     lines: &mut Lines,
-    language: Language,
+    refused: &RefusedIn<'_>,
     expected: Expected,
     words: &[&'static str],
     word: &str,
 ) {
+    let language = refused.language;
     if let Some(reason) = reason_of(expected, word) {
         lines.say(reason);
+        if expected == (Expected::Item { never: false }) && word == "never" {
+            mend_version(lines, refused);
+        }
     } else if let Some(number) = number_of(language, expected, word) {
         number.tell(lines);
+        number.mend(lines, refused, expected);
     } else if let Some(reason) = reason_of_bits(language, expected, word) {
         lines.say(reason);
+        push_spelled(alloc, lines, refused, expected, word);
     } else if let Some(address) = without_direction(language, expected, word) {
-        push_address(lines, word, address);
+        push_address(lines, refused, expected, word, address);
     } else if let Some(known) = in_small_letters(words, word) {
         lines.say(format_args!("words have small letters: {known}"));
-    } else if push_meant(alloc, lines, words, word) {
+        refused.mend(lines, unquoted(known));
+    } else if push_meant(alloc, lines, refused, words, word) {
         // (then it was no name)
     } else if expected == Expected::KnownTarget && is_free_name(alloc, word) {
         lines.say("an interrupt has an address without open bits, and this device has some");
@@ -131,6 +139,7 @@ fn push_keyword(lines: &mut Lines, language: Language, word: &str) {
 pub(crate) fn push_meant(
     alloc: Global,
     lines: &mut Lines,
+    refused: &RefusedIn<'_>,
     words: &[&'static str],
     word: &str,
 ) -> bool {
@@ -143,8 +152,14 @@ pub(crate) fn push_meant(
     };
     if let Some(known) = meant {
         lines.say(format_args!("did you mean {known}?"));
+        refused.mend(lines, unquoted(known));
     }
     meant.is_some()
+}
+
+// A word of the language, as it stands in texts.
+fn unquoted(known: &str) -> &str {
+    known.trim_matches('\'')
 }
 
 // The nearest of these words that stand there as they are, where the edits that part the two are a third of the letters of the
@@ -160,7 +175,7 @@ fn meant(
         return Ok(None);
     }
     for known in words {
-        let letters = known.trim_matches('\'');
+        let letters = unquoted(known);
         let far = osa_distance(alloc, word, letters)?;
         let shorter = word.len().min(letters.len());
         if is_name(letters) && far < least && far <= shorter / 3 {
@@ -265,6 +280,104 @@ fn reason_of_brief_bits(word: &str) -> Option<&'static str> {
     is_bits.then_some("bits in a brief begin with '0b'")
 }
 
+// Notes how these bits or digits are written, where they can stand there then.
+fn push_spelled(
+    alloc: Global,
+    lines: &mut Lines,
+    refused: &RefusedIn<'_>,
+    expected: Expected,
+    word: &str,
+) {
+    let spelled = match refused.language {
+        Language::Plan => spelled_bits(alloc, expected, "", word),
+        // (of two slips a reason names one)
+        Language::Brief if has_two_slips(word) => Ok(None),
+        Language::Brief => spelled_in_brief(alloc, expected, word),
+    };
+    match spelled {
+        Ok(Some(spelled)) => refused.mend(lines, spelled.as_str()),
+        Ok(None) => {}
+        Err(_) => lines.fail(),
+    }
+}
+
+// Whether both what stands before digits or bits and an open one are of the other size.
+fn has_two_slips(word: &str) -> bool {
+    match word.strip_prefix("0X") {
+        Some(digits) => digits.contains('x'),
+        None => word.starts_with("0B") && word.contains('X'),
+    }
+}
+
+fn spelled_in_brief(
+    alloc: Global,
+    expected: Expected,
+    word: &str,
+) -> Result<Option<String>, AllocError> {
+    match after_base(word, "0x", "0X") {
+        Some(digits) => spelled_digits(alloc, expected, digits),
+        None => {
+            let bits = after_base(word, "0b", "0B").unwrap_or(word);
+            spelled_bits(alloc, expected, "0b", bits)
+        }
+    }
+}
+
+// What stands after one of the two.
+fn after_base<'a>(word: &'a str, base: &'static str, other: &'static str) -> Option<&'a str> {
+    match word.strip_prefix(base) {
+        None => word.strip_prefix(other),
+        rest => rest,
+    }
+}
+
+// The bits of an address or of a data byte with small `x`, after this.
+fn spelled_bits(
+    alloc: Global,
+    expected: Expected,
+    before: &'static str,
+    bits: &str,
+) -> Result<Option<String>, AllocError> {
+    let width = if takes_address(expected) { 7 } else { 8 };
+    if bits.len() != width || !has_only(bits, "01xX") || is_too_open(expected, bits) {
+        return Ok(None);
+    }
+    let bits = bits.replace(alloc, 'X', "x")?;
+    Ok(Some(format!(in alloc; "{before}{bits}")?))
+}
+
+// The two digits of an address or of a data byte with capital `X`, after `0x`.
+fn spelled_digits(
+    alloc: Global,
+    expected: Expected,
+    digits: &str,
+) -> Result<Option<String>, AllocError> {
+    let fits = !takes_address(expected) || has_seven_bits(digits);
+    if digits.len() != 2
+        || !fits
+        || !digits.chars().all(is_digit)
+        || is_too_open(expected, digits)
+    {
+        return Ok(None);
+    }
+    let digits = digits.replace(alloc, 'x', "X")?;
+    Ok(Some(format!(in alloc; "0x{digits}")?))
+}
+
+// Whether bits are open that have to be known there.
+fn is_too_open(expected: Expected, digits: &str) -> bool {
+    is_known(expected) && (digits.contains('x') || digits.contains('X'))
+}
+
+// Whether the first of two hex digits has the first three bits of an address, which are not open.
+fn has_seven_bits(digits: &str) -> bool {
+    matches!(digits.as_bytes().first(), Some(b'0'..=b'7'))
+}
+
+fn is_digit(c: char) -> bool {
+    c.is_ascii_hexdigit() || c == 'x' || c == 'X'
+}
+
 // Whether the word would be an address, were open bits allowed.
 fn is_open(word: &str) -> bool {
     if let Some(digits) = word.strip_prefix("0x") {
@@ -329,7 +442,7 @@ fn is_free_name(alloc: Global, word: &str) -> bool {
 fn in_small_letters(words: &[&'static str], word: &str) -> Option<&'static str> {
     words
         .iter()
-        .find(|known| known.trim_matches('\'').eq_ignore_ascii_case(word))
+        .find(|known| unquoted(known).eq_ignore_ascii_case(word))
         .copied()
 }
 
@@ -342,13 +455,25 @@ enum Address<'a> {
 }
 
 // Says which address it is that this word has with its direction bit.
-fn push_address(lines: &mut Lines, word: &str, address: Address<'_>) {
+fn push_address(
+    lines: &mut Lines,
+    refused: &RefusedIn<'_>,
+    expected: Expected,
+    word: &str,
+    address: Address<'_>,
+) {
     lines.part(format_args!("an address has seven bits: {word} is "));
     match address {
         Address::Bits(before, bits) => lines.part(format_args!("{before}{bits}")),
         Address::Number(number) => lines.part(format_args!("0x{number:02X}")),
     }
     lines.say(" with its direction bit");
+    match address {
+        // (no open bits can stand in an interrupt)
+        Address::Bits(_, bits) if is_known(expected) && bits.contains('x') => {}
+        Address::Bits(before, bits) => refused.mend(lines, format_args!("{before}{bits}")),
+        Address::Number(number) => refused.mend(lines, format_args!("0x{number:02X}")),
+    }
 }
 
 // The address whose header this word writes, with the direction bit at the end (UM10204, 3.1.10).

@@ -1,6 +1,7 @@
 // What is said to a client: frames, which are gathered and then written at once.
 
 use crate::rpc::Fault;
+use editor_texts::json;
 use growing_text::Text;
 use serde::Serialize;
 use serde_json::Value;
@@ -14,9 +15,9 @@ pub(crate) struct Answers {
 }
 
 #[derive(Clone, Copy, Serialize)]
-struct Wrong {
+struct Wrong<'a> {
     code: i64,
-    message: &'static str,
+    message: &'a str,
 }
 
 impl Answers {
@@ -57,6 +58,17 @@ impl Answers {
         self.frame(body.finish());
     }
 
+    /// An error in answer to a request, by its number and in these words.
+    pub(crate) fn refusal(&mut self, id: &Value, code: i64, message: &str) {
+        let mut body = Text::new(self.alloc);
+        body.push("{\"jsonrpc\":\"2.0\",\"id\":");
+        body.push_made(id.to_string(self.alloc));
+        body.push(",\"error\":");
+        body.push_made(json(self.alloc, &Wrong { code, message }));
+        body.push("}");
+        self.frame(body.finish());
+    }
+
     /// Something of which no answer is wanted.
     pub(crate) fn notify(&mut self, method: &'static str, params: Result<String, AllocError>) {
         let mut body = Text::new(self.alloc);
@@ -64,6 +76,19 @@ impl Answers {
         body.push(method);
         body.push("\",\"params\":");
         body.push_made(params);
+        body.push("}");
+        self.frame(body.finish());
+    }
+
+    /// Something that the client is asked for. Its answer is not waited for.
+    pub(crate) fn request(&mut self, method: &'static str, params: &'static str) {
+        let mut body = Text::new(self.alloc);
+        body.push("{\"jsonrpc\":\"2.0\",\"id\":\"");
+        body.push(method);
+        body.push("\",\"method\":\"");
+        body.push(method);
+        body.push("\",\"params\":");
+        body.push(params);
         body.push("}");
         self.frame(body.finish());
     }
@@ -89,17 +114,5 @@ impl Answers {
     /// All frames, and none are left.
     pub(crate) fn finish(self) -> Result<String, AllocError> {
         self.text.finish()
-    }
-}
-
-/// A value as JSON.
-///
-/// # Errors
-///
-/// Where an allocation fails. (These values have no text that JSON refuses.)
-pub(crate) fn json<T: Serialize>(alloc: Global, value: &T) -> Result<String, AllocError> {
-    match serde_json::to_string(alloc, value) {
-        Ok(text) => Ok(text),
-        Err(_) => Err(AllocError),
     }
 }

@@ -1,18 +1,9 @@
 // The layout of a text.
 
-use crate::positions::{Lines, Range};
+use editor_texts::{Edit, Lines, Units};
 use layout::formatted;
 use plan_text::PlanError;
-use serde::Serialize;
 use std::alloc::{AllocError, Global};
-
-/// What is to stand in the place of a part of a document.
-#[derive(Clone, Copy, Serialize)]
-#[serde(rename_all = "camelCase")]
-pub(crate) struct Edit<'a> {
-    pub(crate) range: Range,
-    pub(crate) new_text: &'a str,
-}
 
 /// The whole text, as it is laid out. None where it is so already, or is refused.
 ///
@@ -33,9 +24,14 @@ pub(crate) fn laid_out(alloc: Global, text: &[u8]) -> Result<Option<Vec<u8>>, Al
 /// # Errors
 ///
 /// Where an allocation fails.
-pub(crate) fn edit_of<'a>(alloc: Global, old: &[u8], new: &'a str) -> Result<Edit<'a>, AllocError> {
+pub(crate) fn edit_of<'a>(
+    alloc: Global,
+    old: &[u8],
+    new: &'a str,
+    units: Units,
+) -> Result<Edit<'a>, AllocError> {
     Ok(Edit {
-        range: Lines::of(alloc, old)?.whole(),
+        range: Lines::of(alloc, old, units)?.whole(),
         new_text: new,
     })
 }

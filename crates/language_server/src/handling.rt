@@ -1,49 +1,28 @@
 // What is done for each message of a client.
 
-use crate::answers::{Answers, json};
-use crate::boards::is_second_version;
-use crate::checking::{names_after_first, texts_of, wrong_with};
-use crate::documents::{Document, Documents};
-use crate::formatting::{edit_of, laid_out};
-use crate::hovers::hover_of;
-use crate::plans::{Further, Given, given_by, heads_of, is_further, stands_for};
-use crate::positions::{Lines, Position};
-use crate::publishing::{location_of, marks_of, publish, publish_nothing};
-use crate::readings::{Reading, Word};
+use crate::answers::Answers;
+use crate::changes::{position_in, range_in};
+use crate::questions::{Question, Told};
 use crate::rpc::{
-    BAD_PARAMS, BEGUN, Call, Fault, Message, NO_JSON, NO_REQUEST, NOT_BEGUN, SHUT_DOWN, UNKNOWN,
-    message_of, number_in, text_in,
+    BAD_PARAMS, BEGUN, Call, Fault, Message, NO_JSON, NO_REQUEST, NOT_BEGUN, REFUSED, SHUT_DOWN,
+    UNKNOWN, message_of, text_in,
 };
-use growing_text::Text;
-use plan_text::is_plan;
+use crate::workspace::Workspace;
+use editor_texts::{Further, Position, Units};
 use run_parts::Status;
 use serde_json::Value;
 use std::alloc::{AllocError, Global};
-use std::mem;
 use std::rt::Files;
 use std::thread::Threads;
 
 /// A server: what is open, and how far it is.
 #[derive(Drop)]
 pub(crate) struct Server<'a, R> {
-    rt: &'a R,
-    further: Vec<Further>,
-    documents: Documents,
-    before: Before,
-    // the files that heads name, of which something was told
-    told: Vec<String>,
+    alloc: Global,
+    workspace: Workspace<'a, R>,
     phase: Phase,
-}
-
-// What stands before the further files, where what is wrong with them is told.
-#[derive(Drop)]
-enum Before {
-    // nothing that they were told of with
-    Unknown,
-    // nothing: they give a plan
-    Nothing,
-    // the document with this URI
-    Document(String),
+    // whether files can be watched where the client is asked for that
+    watches: bool,
 }
 
 #[derive(Clone, Copy, PartialEq, Eq)]
@@ -53,37 +32,38 @@ enum Phase {
     Shut,
 }
 
+// What the client may ask for, after what it counts in a line.
 const CAPABILITIES: &str =
-    "{\"capabilities\":{\"positionEncoding\":\"utf-16\",\"textDocumentSync\":1,\
-\"hoverProvider\":true,\"definitionProvider\":true,\"documentFormattingProvider\":true},\
-\"serverInfo\":{\"name\":\"twire\"}}";
+    "\",\"textDocumentSync\":{\"openClose\":true,\"change\":2,\"save\":true},\
+\"hoverProvider\":true,\"definitionProvider\":true,\"referencesProvider\":true,\
+\"documentHighlightProvider\":true,\"renameProvider\":{\"prepareProvider\":true},\
+\"completionProvider\":{\"triggerCharacters\":[\"/\",\"\\\"\"]},\"documentSymbolProvider\":true,\
+\"codeActionProvider\":{\"codeActionKinds\":[\"quickfix\"]},\
+\"foldingRangeProvider\":true,\"codeLensProvider\":{},\"inlayHintProvider\":true,\
+\"documentFormattingProvider\":true";
+
+const ASKED: &str =
+    ",\"diagnosticProvider\":{\"interFileDependencies\":true,\"workspaceDiagnostics\":false}";
+
+const SERVER: &str = "},\"serverInfo\":{\"name\":\"twire\"}}";
+
+// What the client is asked for: to say when a brief or a plan changes.
+const WATCH: &str = "client/registerCapability";
+
+const WATCHED: &str =
+    "{\"registrations\":[{\"id\":\"files\",\"method\":\"workspace/didChangeWatchedFiles\",\
+\"registerOptions\":{\"watchers\":[{\"globPattern\":\"**/*.brief\"},{\"globPattern\":\"**/*.plan\"}]}}]}";
 
 const NULL: &str = "null";
-
-// What is asked of a name.
-#[derive(Clone, Copy)]
-enum Question {
-    Hover,
-    Definition,
-}
-
-// A place of a document.
-#[derive(Clone, Copy)]
-struct Asked<'a> {
-    uri: &'a str,
-    position: Position,
-}
 
 impl<'a, R: Files + AllocGlobal + Threads + Sync> Server<'a, R> {
     /// Nothing is open, and plans have these further files.
     pub(crate) fn new(rt: &'a R, further: Vec<Further>) -> Server<'a, R> {
         Server {
-            rt,
-            further,
-            documents: Documents::new(rt.alloc()),
-            before: Before::Unknown,
-            told: Vec::new(rt.alloc()),
+            alloc: rt.alloc(),
+            workspace: Workspace::new(rt, further),
             phase: Phase::New,
+            watches: false,
         }
     }
 
@@ -97,7 +77,7 @@ impl<'a, R: Files + AllocGlobal + Threads + Sync> Server<'a, R> {
         body: &[u8],
         answers: &mut Answers,
     ) -> Result<Option<Status>, AllocError> {
-        match Value::from_slice(self.rt.alloc(), body) {
+        match Value::from_slice(self.alloc, body) {
             Ok(body) => self.take_value(&body, answers),
             Err(error) if error.is_memory() => Err(AllocError),
             Err(_) => {
@@ -137,8 +117,7 @@ impl<'a, R: Files + AllocGlobal + Threads + Sync> Server<'a, R> {
     ) -> Result<Option<Fault>, AllocError> {
         match (self.phase, call.method) {
             (Phase::New, "initialize") => {
-                self.phase = Phase::Ready;
-                answers.made(id, String::from_str(self.rt.alloc(), CAPABILITIES));
+                self.begin(id, call.params, answers)?;
                 Ok(None)
             }
             (Phase::New, _) => Ok(Some(NOT_BEGUN)),
@@ -146,18 +125,39 @@ impl<'a, R: Files + AllocGlobal + Threads + Sync> Server<'a, R> {
             (Phase::Ready, "initialize") => Ok(Some(BEGUN)),
             (Phase::Ready, "shutdown") => {
                 self.phase = Phase::Shut;
-                answers.made(id, String::from_str(self.rt.alloc(), NULL));
+                answers.made(id, String::from_str(self.alloc, NULL));
                 Ok(None)
             }
             (Phase::Ready, "textDocument/formatting") => self.format(id, call, answers),
-            (Phase::Ready, "textDocument/hover") => {
-                self.tell_name(Question::Hover, id, call, answers)
-            }
-            (Phase::Ready, "textDocument/definition") => {
-                self.tell_name(Question::Definition, id, call, answers)
-            }
-            (Phase::Ready, _) => Ok(Some(UNKNOWN)),
+            (Phase::Ready, method) => match question_of(method, call.params) {
+                Some(Some(question)) => self.tell(question, id, call, answers),
+                Some(None) => Ok(Some(BAD_PARAMS)),
+                None => Ok(Some(UNKNOWN)),
+            },
         }
+    }
+
+    // Begins, with what the client says of itself.
+    fn begin(
+        &mut self,
+        id: &Value,
+        params: Option<&Value>,
+        answers: &mut Answers,
+    ) -> Result<(), AllocError> {
+        self.phase = Phase::Ready;
+        let units = units_in(params);
+        self.workspace.count_in(units);
+        for root in roots_in(params) {
+            if let Some(uri) = text_in(root, "uri") {
+                self.workspace.add_root(uri)?;
+            }
+        }
+        if let (true, Some(uri)) = (roots_in(params).is_empty(), root_in(params)) {
+            self.workspace.add_root(uri)?;
+        }
+        self.watches = may_watch(params);
+        answers.made(id, capabilities(self.alloc, units, is_told(params)));
+        Ok(())
     }
 
     // Takes notice of something. What is not known is left out.
@@ -169,232 +169,29 @@ impl<'a, R: Files + AllocGlobal + Threads + Sync> Server<'a, R> {
         match (self.phase, call.method) {
             (Phase::Shut, "exit") => return Ok(Some(Status::Good)),
             (_, "exit") => return Ok(Some(Status::Bad)),
-            (Phase::Ready, "textDocument/didOpen") => self.opened(call.params, answers)?,
-            (Phase::Ready, "textDocument/didChange") => self.changed(call.params, answers)?,
-            (Phase::Ready, "textDocument/didClose") => self.closed(call.params, answers)?,
+            (Phase::Ready, "initialized") if self.watches => answers.request(WATCH, WATCHED),
+            (Phase::Ready, "textDocument/didOpen") => {
+                if let Some((uri, text)) = opened_in(call.params) {
+                    self.workspace.open(uri, text, answers)?;
+                }
+            }
+            (Phase::Ready, "textDocument/didChange") => {
+                if let Some((uri, changes)) = changes_in(call.params) {
+                    self.workspace.change(uri, changes, answers)?;
+                }
+            }
+            (Phase::Ready, "textDocument/didClose") => {
+                if let Some(uri) = document_in(call.params) {
+                    self.workspace.close(uri, answers)?;
+                }
+            }
+            (Phase::Ready, "textDocument/didSave" | "workspace/didChangeWatchedFiles") => {
+                self.workspace.look_again(answers)?;
+            }
             _ => {}
         }
         Ok(None)
     }
-
-    // ---- texts
-
-    fn opened(&mut self, params: Option<&Value>, answers: &mut Answers) -> Result<(), AllocError> {
-        let Some((uri, text)) = opened_in(params) else {
-            return Ok(());
-        };
-        self.documents.open(uri, text)?;
-        self.untell_other_uris(uri, answers);
-        self.tell_all(uri, answers)
-    }
-
-    // What is wrong with a further file is told by the URI with which it was opened, and by its own no more.
-    fn untell_other_uris(&self, uri: &str, answers: &mut Answers) {
-        let Some(document) = self.documents.find(uri) else {
-            return;
-        };
-        for one in self.further.iter() {
-            if stands_for(self.rt, document, one, &self.documents) {
-                publish_nothing(self.rt.alloc(), answers, one.uri.as_str());
-            }
-        }
-    }
-
-    fn changed(&mut self, params: Option<&Value>, answers: &mut Answers) -> Result<(), AllocError> {
-        let Some((uri, text)) = changed_in(params) else {
-            return Ok(());
-        };
-        if self.documents.change(uri, text)? {
-            self.tell_all(uri, answers)?;
-        }
-        Ok(())
-    }
-
-    fn closed(&mut self, params: Option<&Value>, answers: &mut Answers) -> Result<(), AllocError> {
-        let Some(uri) = document_in(params) else {
-            return Ok(());
-        };
-        if !self.documents.close(uri) {
-            return Ok(());
-        }
-        publish_nothing(self.rt.alloc(), answers, uri);
-        if self.further.is_empty() && self.told.is_empty() && !self.has_boards() {
-            return Ok(());
-        }
-        self.forget(uri);
-        self.tell_each(answers)
-    }
-
-    // Nothing is told of this file now.
-    fn forget(&mut self, uri: &str) {
-        match self.told.iter().position(|one| one.as_str() == uri) {
-            Some(at) if at < self.told.len() => {
-                let _forgotten = self.told.remove(at);
-            }
-            _ => {}
-        }
-    }
-
-    // Tells what is wrong after this document has another text: with all plans that it is a part of.
-    fn tell_all(&mut self, uri: &str, answers: &mut Answers) -> Result<(), AllocError> {
-        let Some(number) = self.documents.number_of(uri) else {
-            return Ok(());
-        };
-        let is_file = self.is_file(number);
-        if !is_file && self.has_plan(number) {
-            self.tell(Some(number), &[], false, answers)?;
-            if !self.was_before_files(uri) && !self.has_boards() {
-                return Ok(());
-            }
-            return self.tell_each(answers);
-        }
-        if is_file || self.has_boards() {
-            return self.tell_each(answers);
-        }
-        let heads = heads_of(self.rt, &self.documents, self.further.as_slice())?;
-        let is_first = self.before_files(heads.as_slice()) == Some(number);
-        self.tell(Some(number), heads.as_slice(), is_first, answers)
-    }
-
-    fn has_plan(&self, number: usize) -> bool {
-        match self.documents.all().get(number) {
-            Some(document) => is_plan(document.text.as_bytes()),
-            None => false,
-        }
-    }
-
-    // Whether an open document may name others.
-    fn has_boards(&self) -> bool {
-        for document in self.documents.all() {
-            if is_second_version(document.text.as_bytes()) {
-                return true;
-            }
-        }
-        false
-    }
-
-    fn is_file(&self, number: usize) -> bool {
-        match self.documents.all().get(number) {
-            Some(document) => is_further(self.rt, document, self.further.as_slice()),
-            None => false,
-        }
-    }
-
-    fn was_before_files(&self, uri: &str) -> bool {
-        match &self.before {
-            Before::Document(before) => before.as_str() == uri,
-            Before::Unknown | Before::Nothing => false,
-        }
-    }
-
-    // Tells what is wrong with all plans that briefs give. Of files that are none of theirs any more nothing is wrong.
-    fn tell_each(&mut self, answers: &mut Answers) -> Result<(), AllocError> {
-        let before = mem::replace(&mut self.told, Vec::new(self.rt.alloc()));
-        let heads = heads_of(self.rt, &self.documents, self.further.as_slice())?;
-        let first = self.before_files(heads.as_slice());
-        for head in heads.iter() {
-            self.tell_next(Some(*head), heads.as_slice(), first == Some(*head), answers)?;
-        }
-        if first.is_none() {
-            self.tell_next(None, heads.as_slice(), true, answers)?;
-        }
-        for uri in before {
-            let uri = uri.as_str();
-            if !has(self.told.as_slice(), uri) && self.documents.find(uri).is_none() {
-                publish_nothing(self.rt.alloc(), answers, uri);
-            }
-        }
-        Ok(())
-    }
-
-    // The document with which the further files are told of, of those that may be the first: the one of before, as long as it may,
-    // else the one that was opened last. None where they give a plan without one, or there is none.
-    fn before_files(&self, heads: &[usize]) -> Option<usize> {
-        let last = heads.last().copied();
-        match &self.before {
-            Before::Nothing => None,
-            Before::Unknown => last,
-            Before::Document(uri) => match self.documents.number_of(uri.as_str()) {
-                Some(number) if heads.contains(&number) => Some(number),
-                _ => last,
-            },
-        }
-    }
-
-    // Tells what is wrong with the plan that begins with this document, or with that of the further files alone. Of these it is
-    // told where that is wanted.
-    fn tell(
-        &mut self,
-        head: Option<usize>,
-        heads: &[usize],
-        tells_further: bool,
-        answers: &mut Answers,
-    ) -> Result<(), AllocError> {
-        let given = self.given_by(heads, head, tells_further)?;
-        self.tell_given(given, head, tells_further, answers)
-    }
-
-    // The same, after what was told before it of other plans. A file is told of once.
-    fn tell_next(
-        &mut self,
-        head: Option<usize>,
-        heads: &[usize],
-        tells_further: bool,
-        answers: &mut Answers,
-    ) -> Result<(), AllocError> {
-        let mut given = self.given_by(heads, head, tells_further)?;
-        for part in given.parts.iter_mut() {
-            if part.is_named && has(self.told.as_slice(), part.uri.as_str()) {
-                part.is_told = false;
-            }
-        }
-        for part in given.parts.iter() {
-            if part.is_named && part.is_told {
-                let uri = String::from_str(self.rt.alloc(), part.uri.as_str())?;
-                if self.told.push(uri).is_err() {
-                    return Err(AllocError);
-                }
-            }
-        }
-        self.tell_given(given, head, tells_further, answers)
-    }
-
-    fn tell_given(
-        &mut self,
-        given: Given,
-        head: Option<usize>,
-        tells_further: bool,
-        answers: &mut Answers,
-    ) -> Result<(), AllocError> {
-        let alloc = self.rt.alloc();
-        let found = wrong_with(self.rt, alloc, &given)?;
-        if tells_further {
-            self.before = self.before_of(head, found.is_plan)?;
-        }
-        publish(
-            alloc,
-            answers,
-            &given,
-            head_uri(&self.documents, head),
-            &found,
-        )
-    }
-
-    fn before_of(&self, head: Option<usize>, is_plan: bool) -> Result<Before, AllocError> {
-        match head {
-            None if is_plan => Ok(Before::Nothing),
-            None => Ok(Before::Unknown),
-            Some(number) => match self.documents.all().get(number) {
-                Some(document) => {
-                    let uri = String::from_str(self.rt.alloc(), document.uri.as_str())?;
-                    Ok(Before::Document(uri))
-                }
-                None => Ok(Before::Unknown),
-            },
-        }
-    }
-
-    // ---- questions
 
     fn format(
         &self,
@@ -405,151 +202,40 @@ impl<'a, R: Files + AllocGlobal + Threads + Sync> Server<'a, R> {
         let Some(uri) = document_in(call.params) else {
             return Ok(Some(BAD_PARAMS));
         };
-        let alloc = self.rt.alloc();
-        match self.documents.find(uri) {
-            Some(document) => answers.made(id, edits_of(alloc, document)),
-            None => answers.made(id, String::from_str(alloc, NULL)),
-        }
+        answers.made(id, self.workspace.layout_of(uri));
         Ok(None)
     }
 
-    // Answers what is asked of the name at a place of a document.
-    fn tell_name(
-        &self,
-        question: Question,
+    // Answers what is asked of a document, or of a place of it.
+    fn tell(
+        &mut self,
+        question: Question<'_>,
         id: &Value,
         call: Call<'_>,
         answers: &mut Answers,
     ) -> Result<Option<Fault>, AllocError> {
-        let Some(asked) = asked_in(call.params) else {
+        let Some((uri, position)) = asked_in(question, call.params) else {
             return Ok(Some(BAD_PARAMS));
         };
-        answers.made(id, self.told_at(question, asked));
+        match self.workspace.answer_to(question, uri, position)? {
+            Told::Answer(answer) => answers.made(id, Ok(answer)),
+            Told::Refusal(why) => answers.refusal(id, REFUSED, why.as_str()),
+        }
         Ok(None)
     }
-
-    fn told_at(&self, question: Question, asked: Asked<'_>) -> Result<String, AllocError> {
-        let alloc = self.rt.alloc();
-        let Some(document) = self.documents.find(asked.uri) else {
-            return String::from_str(alloc, NULL);
-        };
-        let offset = Lines::of(alloc, document.text.as_bytes())?.offset(asked.position);
-        let given = self.plan_of(asked.uri)?;
-        told_in(self.rt, question, &given, document, offset)
-    }
-
-    // The texts of the plan that a document belongs to: it is the first of them, what the head of one of them names, or one of the
-    // further files. Then that is the plan with which it is told of.
-    fn plan_of(&self, uri: &str) -> Result<Given, AllocError> {
-        let further = self.further.as_slice();
-        let heads = heads_of(self.rt, &self.documents, further)?;
-        let heads = heads.as_slice();
-        let head = match self.documents.number_of(uri) {
-            Some(number) if heads.contains(&number) || self.has_plan(number) => Some(number),
-            _ => {
-                for head in heads {
-                    let given = self.given_by(heads, Some(*head), true)?;
-                    if given.number_of(uri).is_some() {
-                        return Ok(given);
-                    }
-                }
-                self.before_files(heads)
-            }
-        };
-        self.given_by(heads, head, true)
-    }
-
-    fn given_by(
-        &self,
-        heads: &[usize],
-        head: Option<usize>,
-        tells_further: bool,
-    ) -> Result<Given, AllocError> {
-        let further = self.further.as_slice();
-        given_by(
-            self.rt,
-            &self.documents,
-            heads,
-            head,
-            further,
-            tells_further,
-        )
-    }
 }
 
-fn has(uris: &[String], uri: &str) -> bool {
-    uris.iter().any(|one| one.as_str() == uri)
-}
-
-// The URI of the document of this number.
-fn head_uri(documents: &Documents, head: Option<usize>) -> Option<&str> {
-    let document = documents.all().get(head?)?;
-    Some(document.uri.as_str())
-}
-
-// The edits that lay a document out.
-fn edits_of(alloc: Global, document: &Document) -> Result<String, AllocError> {
-    let old = document.text.as_bytes();
-    match laid_out(alloc, old)? {
-        Some(new) => edits_to(alloc, old, new.as_slice()),
-        None => String::from_str(alloc, "[]"),
-    }
-}
-
-fn edits_to(alloc: Global, old: &[u8], new: &[u8]) -> Result<String, AllocError> {
-    match str::from_utf8(new) {
-        Ok(new) => json(alloc, &[edit_of(alloc, old, new)?]),
-        Err(_) => String::from_str(alloc, "[]"),
-    }
-}
-
-// Tells what is asked of the name at a place of a document, which belongs to this plan.
-fn told_in<R: AllocGlobal + Threads + Sync>(
-    rt: &R,
-    question: Question,
-    given: &Given,
-    document: &Document,
-    offset: usize,
-) -> Result<String, AllocError> {
-    let alloc = rt.alloc();
-    let files = names_after_first(alloc, given.parts.as_slice())?;
-    let mut texts = texts_of(alloc, given.parts.as_slice(), files.as_slice())?;
-    let reading = Reading::of(alloc, &mut texts, given.parts.as_slice())?;
-    let Some(word) = reading.word_at(alloc, given, document, offset)? else {
-        return String::from_str(alloc, NULL);
-    };
-    match question {
-        Question::Hover => hover_on(alloc, hover_of(rt, alloc, given, &texts, reading, word)?),
-        Question::Definition => definition_on(alloc, given, &reading, word),
-    }
-}
-
-// What is said of a name, as the protocol has it.
-fn hover_on(alloc: Global, said: Option<String>) -> Result<String, AllocError> {
-    let Some(words) = said else {
-        return String::from_str(alloc, NULL);
-    };
-    let words = words.as_str();
-    let mut text = Text::new(alloc);
-    text.push("{\"contents\":{\"kind\":\"markdown\",\"value\":");
-    text.push_made(json(alloc, &words));
-    text.push("}}");
-    text.finish()
-}
-
-// Where a name is given, as the protocol has it.
-fn definition_on(
-    alloc: Global,
-    given: &Given,
-    reading: &Reading,
-    name: Word<'_>,
-) -> Result<String, AllocError> {
-    let names = reading.names(alloc, given.parts.as_slice())?;
-    let Some(definition) = names.definition(name.kind, name.bytes) else {
-        return String::from_str(alloc, NULL);
-    };
-    let marks = marks_of(alloc, given)?;
-    json(alloc, &location_of(marks.as_slice(), definition.span))
+// A client that cannot be told what is wrong may ask for it.
+fn capabilities(alloc: Global, units: Units, is_told: bool) -> Result<String, AllocError> {
+    let mut text = String::from_str(alloc, "{\"capabilities\":{\"positionEncoding\":\"")?;
+    text.push_str(match units {
+        Units::Utf8 => "utf-8",
+        Units::Utf16 => "utf-16",
+    })?;
+    text.push_str(CAPABILITIES)?;
+    text.push_str(if is_told { "" } else { ASKED })?;
+    text.push_str(SERVER)?;
+    Ok(text)
 }
 
 // ---- what messages have in them
@@ -564,22 +250,116 @@ fn opened_in(params: Option<&Value>) -> Option<(&str, &str)> {
     Some((document_in(params)?, text))
 }
 
-// The whole text that a document has now: that of the last change.
-fn changed_in(params: Option<&Value>) -> Option<(&str, &str)> {
-    let last = params?.get("contentChanges")?.as_array()?.last()?;
-    if last.get("range").is_some() {
-        return None;
-    }
-    Some((document_in(params)?, text_in(last, "text")?))
+// The changes of a document.
+fn changes_in(params: Option<&Value>) -> Option<(&str, &[Value])> {
+    let changes = params?.get("contentChanges")?.as_array()?;
+    Some((document_in(params)?, changes))
 }
 
-fn asked_in(params: Option<&Value>) -> Option<Asked<'_>> {
-    let position = params?.get("position")?;
-    Some(Asked {
-        uri: document_in(params)?,
-        position: Position {
-            line: number_in(position, "line")?,
-            character: number_in(position, "character")?,
-        },
+// What the client counts in a line: bytes, where it can.
+fn units_in(params: Option<&Value>) -> Units {
+    match encodings_in(params) {
+        Some(encodings) if encodings.iter().any(|one| one.as_str() == Some("utf-8")) => Units::Utf8,
+        _ => Units::Utf16,
+    }
+}
+
+fn encodings_in(params: Option<&Value>) -> Option<&[Value]> {
+    let general = params?.get("capabilities")?.get("general")?;
+    Some(general.get("positionEncodings")?.as_array()?)
+}
+
+// The folders in which the client works.
+fn roots_in(params: Option<&Value>) -> &[Value] {
+    folders_in(params).unwrap_or(&[])
+}
+
+fn folders_in(params: Option<&Value>) -> Option<&[Value]> {
+    Some(params?.get("workspaceFolders")?.as_array()?)
+}
+
+// The one folder of a client that has no list of them.
+fn root_in(params: Option<&Value>) -> Option<&str> {
+    text_in(params?, "rootUri")
+}
+
+// Whether a client can be asked to watch files.
+fn may_watch(params: Option<&Value>) -> bool {
+    registered_in(params, "workspace", "didChangeWatchedFiles") == Some(true)
+}
+
+fn registered_in(params: Option<&Value>, of: &str, what: &str) -> Option<bool> {
+    let capabilities = params?.get("capabilities")?;
+    capabilities
+        .get(of)?
+        .get(what)?
+        .get("dynamicRegistration")?
+        .as_bool()
+}
+
+// Whether a client can be told what is wrong: one that says nothing of that, and cannot ask for it, is taken to.
+fn is_told(params: Option<&Value>) -> bool {
+    match documents_in(params) {
+        Some(documents) => {
+            documents.get("publishDiagnostics").is_some() || documents.get("diagnostic").is_none()
+        }
+        None => true,
+    }
+}
+
+fn documents_in(params: Option<&Value>) -> Option<&Value> {
+    params?.get("capabilities")?.get("textDocument")
+}
+
+// What a request asks for: nothing that is known, or something without what it needs.
+fn question_of<'a>(method: &str, params: Option<&'a Value>) -> Option<Option<Question<'a>>> {
+    Some(match method {
+        "textDocument/hover" => Some(Question::Hover),
+        "textDocument/definition" => Some(Question::Definition),
+        "textDocument/references" => references_in(params),
+        "textDocument/documentHighlight" => Some(Question::Highlights),
+        "textDocument/prepareRename" => Some(Question::Renaming),
+        "textDocument/rename" => rename_in(params),
+        "textDocument/completion" => Some(Question::Completions),
+        "textDocument/documentSymbol" => Some(Question::Symbols),
+        "textDocument/foldingRange" => Some(Question::Folds),
+        "textDocument/codeLens" => Some(Question::Lenses),
+        "textDocument/codeAction" => actions_asked(params),
+        "textDocument/diagnostic" => Some(Question::Wrong),
+        "textDocument/inlayHint" => inlays_asked(params),
+        _ => return None,
     })
+}
+
+fn references_in(params: Option<&Value>) -> Option<Question<'_>> {
+    let context = params?.get("context")?;
+    let with_given = context.get("includeDeclaration")?.as_bool()?;
+    Some(Question::References { with_given })
+}
+
+fn rename_in(params: Option<&Value>) -> Option<Question<'_>> {
+    Some(Question::Rename(text_in(params?, "newName")?))
+}
+
+fn inlays_asked(params: Option<&Value>) -> Option<Question<'_>> {
+    let (_, until) = range_in(params?.get("range")?)?;
+    Some(Question::Inlays { until })
+}
+
+fn actions_asked(params: Option<&Value>) -> Option<Question<'_>> {
+    let (_, until) = range_in(params?.get("range")?)?;
+    Some(Question::Actions { until })
+}
+
+// The document, and the place of it, that is asked of. A question of a whole document has none.
+fn asked_in<'a>(question: Question<'_>, params: Option<&'a Value>) -> Option<(&'a str, Position)> {
+    let position = match question {
+        Question::Symbols | Question::Folds | Question::Lenses | Question::Wrong => Position {
+            line: 0,
+            character: 0,
+        },
+        Question::Inlays { .. } | Question::Actions { .. } => range_in(params?.get("range")?)?.0,
+        _ => position_in(params?.get("position")?)?,
+    };
+    Some((document_in(params)?, position))
 }

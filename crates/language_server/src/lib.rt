@@ -4,28 +4,20 @@
 //! `diagnostics` has it.
 //!
 //! `frames` cuts the input into frames, `rpc` says what one of them asks, and `answers` writes what is said. `serving` is the
-//! loop, and `handling` does what is asked. `documents` has the texts that are open, `uris` their files, and `plans` says
-//! which texts give a plan, `boards` with the files that heads name. `checking` finds what is wrong with them, and `publishing` writes it. `readings` has the names of
-//! texts as they were read, and `hovers` what is said of them; `frame_rows` has the frames of a message in bytes, `winners` who
-//! wins. `positions` counts as the protocol does.
+//! loop, and `handling` does what is asked. `workspace` has what is open, and what is known and told of it: `changes` what an editor
+//! changes in texts, `formatting` their layout, and `telling` says what is wrong without being asked. `questions` answers what is asked
+//! of a place.
 #![tactic(auto)]
 
 mod answers;
-mod boards;
-mod checking;
-mod documents;
+mod changes;
 mod formatting;
-mod frame_rows;
 mod frames;
 mod handling;
-mod hovers;
-mod plans;
-mod positions;
-mod publishing;
-mod readings;
+mod questions;
 mod rpc;
 mod serving;
-mod uris;
-mod winners;
+mod telling;
+mod workspace;
 
 pub use serving::serve;

@@ -57,6 +57,9 @@ pub(crate) const BAD_PARAMS: Fault = Fault {
     words: "these are not the parameters of the method",
 };
 
+/// What was asked for cannot be done, for a reason that is told.
+pub(crate) const REFUSED: i64 = -32803;
+
 /// Something was asked for before the begin.
 pub(crate) const NOT_BEGUN: Fault = Fault {
     code: -32002,

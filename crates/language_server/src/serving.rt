@@ -3,13 +3,19 @@
 use crate::answers::Answers;
 use crate::frames::{Frames, Ready};
 use crate::handling::Server;
-use crate::plans::further_of;
 use crate::rpc::{NO_LENGTH, TOO_LONG};
+use editor_texts::further_of;
 use run_parts::devices::reading::{BLOCK, READS};
 use run_parts::{Input, Output, RunError, Status, write_report};
 use std::alloc::Global;
 use std::rt::{Env, Files};
 use std::thread::Threads;
+
+// What people are told where a client sends a text that is not taken.
+const SHOW: &str = "window/showMessage";
+
+const TOO_LARGE: &str =
+    "{\"type\":1,\"message\":\"twire: this text was not taken: no message may have more than 16777216 bytes\"}";
 
 /// Serves the client that writes what the reader gives, until it asks for the end, or gives no more. Plans have these further
 /// files. It ends well where the client has asked for the end in the order of the protocol, and badly where it has not.
@@ -103,6 +109,7 @@ fn take_frame<R: Files + AllocGlobal + Threads + Sync, O: Output>(
         Ready::Body => server.take(body, &mut answers)?,
         Ready::TooLong => {
             answers.error(None, TOO_LONG);
+            answers.notify(SHOW, String::from_str(alloc, TOO_LARGE));
             None
         }
         Ready::NoLength => {

@@ -1,6 +1,6 @@
 // Which texts give the plan that a document belongs to.
 
-use crate::boards::{is_second_version, with_named};
+use crate::boards::with_named;
 use crate::documents::{Document, Documents};
 use crate::uris::uri_of;
 use files::{FileId, identity_of};
@@ -13,48 +13,67 @@ use std::{env, fs, io};
 
 /// A further file of a brief, as the command line names it, and its path from the root on, also as a URI.
 #[derive(Drop)]
-pub(crate) struct Further {
-    pub(crate) name: String,
-    pub(crate) path: String,
-    pub(crate) uri: String,
+pub struct Further {
+    pub name: String,
+    pub path: String,
+    pub uri: String,
 }
 
 /// One of the texts that give a plan.
 #[derive(Drop)]
-pub(crate) struct Part {
-    pub(crate) uri: String,
+pub struct Part {
+    pub uri: String,
     /// What people call it.
-    pub(crate) name: String,
-    pub(crate) text: Vec<u8>,
+    pub name: String,
+    pub text: Vec<u8>,
     /// Whether what is wrong with it is told by this plan, and by no other.
-    pub(crate) is_told: bool,
+    pub is_told: bool,
     /// Whether a head names it, and nobody gave it.
-    pub(crate) is_named: bool,
+    pub is_named: bool,
+}
+
+impl Part {
+    /// The same with another text.
+    ///
+    /// # Errors
+    ///
+    /// Where an allocation fails.
+    pub fn with_text(&self, alloc: Global, text: Vec<u8>) -> Result<Part, AllocError> {
+        Ok(Part {
+            uri: String::from_str(alloc, self.uri.as_str())?,
+            name: String::from_str(alloc, self.name.as_str())?,
+            text,
+            is_told: self.is_told,
+            is_named: self.is_named,
+        })
+    }
 }
 
 /// The texts that give a plan, in their order.
 #[derive(Drop)]
-pub(crate) struct Given {
-    pub(crate) parts: Vec<Part>,
+pub struct Given {
+    pub parts: Vec<Part>,
     /// The files that cannot be read, which are left out.
-    pub(crate) unread: Vec<Unread>,
+    pub unread: Vec<Unread>,
+    /// Whether a head could not be followed, so that further texts may be missing.
+    pub ends_early: bool,
     // how many parts stand before the first of these
     before: usize,
 }
 
 /// A file that cannot be read: its name, why, and where a head names it. (Nowhere, where the command line does.)
 #[derive(Drop)]
-pub(crate) struct Unread {
-    pub(crate) name: String,
-    pub(crate) reason: String,
-    pub(crate) at: Option<UnreadAt>,
+pub struct Unread {
+    pub name: String,
+    pub reason: String,
+    pub at: Option<UnreadAt>,
 }
 
 /// A line of the text with this URI, from 1 on.
 #[derive(Drop)]
-pub(crate) struct UnreadAt {
-    pub(crate) uri: String,
-    pub(crate) line: u64,
+pub struct UnreadAt {
+    pub uri: String,
+    pub line: u64,
 }
 
 /// The further files of these names.
@@ -62,7 +81,7 @@ pub(crate) struct UnreadAt {
 /// # Errors
 ///
 /// Where an allocation fails.
-pub(crate) fn further_of<R: Env + AllocGlobal>(
+pub fn further_of<R: Env + AllocGlobal>(
     rt: &R,
     names: &[&str],
 ) -> Result<Vec<Further>, AllocError> {
@@ -101,89 +120,8 @@ fn path_from_root<R: Env + AllocGlobal>(rt: &R, name: &str) -> Result<String, Al
     }
 }
 
-/// The numbers of the open documents that may be the first of several texts: none of the further files, and no plan. What the head
-/// of another one names is told of with that one. Where two name each other that is the one that was opened first.
-///
-/// # Errors
-///
-/// Where an allocation fails.
-pub(crate) fn heads_of<R: Files + AllocGlobal>(
-    rt: &R,
-    documents: &Documents,
-    further: &[Further],
-) -> Result<Vec<usize>, AllocError> {
-    let alloc = rt.alloc();
-    let mut briefs = Vec::new(alloc);
-    for (number, document) in documents.all().iter().enumerate() {
-        if !is_further(rt, document, further) && !is_plan(document.text.as_bytes()) {
-            briefs.push(number)?;
-        }
-    }
-    let naming = namings_of(rt, documents, further, briefs.as_slice())?;
-    let mut heads = Vec::new(alloc);
-    for brief in briefs.iter() {
-        if !is_named(naming.as_slice(), *brief) {
-            heads.push(*brief)?;
-        }
-    }
-    Ok(heads)
-}
-
-// That the list of an open document has another one.
-#[derive(Clone, Copy, PartialEq, Eq)]
-struct Naming {
-    by: usize,
-    named: usize,
-}
-
-// Which of these documents have which of them in their lists.
-fn namings_of<R: Files + AllocGlobal>(
-    rt: &R,
-    documents: &Documents,
-    further: &[Further],
-    briefs: &[usize],
-) -> Result<Vec<Naming>, AllocError> {
-    let mut namings = Vec::new(rt.alloc());
-    for by in briefs {
-        let Some(document) = documents.all().get(*by) else {
-            continue;
-        };
-        if !is_second_version(document.text.as_bytes()) {
-            continue;
-        }
-        let given = given_by(rt, documents, &[], Some(*by), further, false)?;
-        for part in given.parts.iter() {
-            if let Some(named) = documents.number_of(part.uri.as_str()) {
-                if named != *by {
-                    namings.push(Naming { by: *by, named })?;
-                }
-            }
-        }
-    }
-    Ok(namings)
-}
-
-// Whether a document is told of with another one.
-fn is_named(namings: &[Naming], number: usize) -> bool {
-    for naming in namings {
-        if naming.named == number && is_first(namings, *naming) {
-            return true;
-        }
-    }
-    false
-}
-
-// Whether the one that names the other is not named by that, or was opened before it.
-fn is_first(namings: &[Naming], naming: Naming) -> bool {
-    let turned = Naming {
-        by: naming.named,
-        named: naming.by,
-    };
-    naming.by < naming.named || !namings.contains(&turned)
-}
-
 /// Whether a document is one of these files.
-pub(crate) fn is_further<R: Files>(rt: &R, document: &Document, further: &[Further]) -> bool {
+pub fn is_further<R: Files>(rt: &R, document: &Document, further: &[Further]) -> bool {
     for one in further {
         if is_file(rt, document, one) {
             return true;
@@ -193,7 +131,7 @@ pub(crate) fn is_further<R: Files>(rt: &R, document: &Document, further: &[Furth
 }
 
 /// Whether a document is this file, and has another URI, as behind a link. Then it stands for the file.
-pub(crate) fn stands_for<R: Files>(
+pub fn stands_for<R: Files>(
     rt: &R,
     document: &Document,
     further: &Further,
@@ -234,7 +172,7 @@ fn is_one(one: Option<FileId>, other: Option<FileId>) -> bool {
 /// # Errors
 ///
 /// Where an allocation fails.
-pub(crate) fn given_by<R: Files + AllocGlobal>(
+pub fn given_by<R: Files + AllocGlobal>(
     rt: &R,
     documents: &Documents,
     heads: &[usize],
@@ -278,16 +216,28 @@ fn given_texts<R: Files + AllocGlobal>(
     Ok(given)
 }
 
+/// A document alone, whatever its head names.
+///
+/// # Errors
+///
+/// Where an allocation fails.
+pub fn given_alone(alloc: Global, document: &Document) -> Result<Given, AllocError> {
+    let mut given = Given::new(alloc);
+    given.add(part_of(alloc, document, file_name_of(document), true)?)?;
+    Ok(given)
+}
+
 fn head_among(documents: &Documents, head: Option<usize>) -> Option<&Document> {
     documents.all().get(head?)
 }
 
 impl Given {
     /// None.
-    pub(crate) fn new(alloc: Global) -> Given {
+    pub fn new(alloc: Global) -> Given {
         Given {
             parts: Vec::new(alloc),
             unread: Vec::new(alloc),
+            ends_early: false,
             before: 0,
         }
     }
@@ -297,7 +247,7 @@ impl Given {
     /// # Errors
     ///
     /// Where an allocation fails.
-    pub(crate) fn add(&mut self, part: Part) -> Result<(), AllocError> {
+    pub fn add(&mut self, part: Part) -> Result<(), AllocError> {
         match self.parts.push(part) {
             Ok(()) => Ok(()),
             Err(_) => Err(AllocError),
@@ -309,7 +259,7 @@ impl Given {
     /// # Errors
     ///
     /// Where an allocation fails.
-    pub(crate) fn leave_out(&mut self, file: Unread) -> Result<(), AllocError> {
+    pub fn leave_out(&mut self, file: Unread) -> Result<(), AllocError> {
         if self.unread.is_empty() {
             self.before = self.parts.len();
         }
@@ -320,13 +270,13 @@ impl Given {
     }
 
     /// The number of the part that is the document with this URI.
-    pub(crate) fn number_of(&self, uri: &str) -> Option<u32> {
+    pub fn number_of(&self, uri: &str) -> Option<u32> {
         let number = self.parts.iter().position(|part| part.uri.as_str() == uri)?;
         u32::try_from(number).ok()
     }
 
     /// The parts of which can be said what is wrong: those before a file that cannot be read.
-    pub(crate) fn known(&self) -> &[Part] {
+    pub fn known(&self) -> &[Part] {
         let parts = self.parts.as_slice();
         if self.unread.is_empty() {
             parts

@@ -1,5 +1,6 @@
 // Who wins against whom, of those who send a message.
 
+use crate::hover_words::push_against;
 use growing_text::Text;
 use order::{Score, Scores};
 use plan_words::{PlanWords, Sides};
@@ -68,44 +69,6 @@ fn push_score(
     score: Score,
 ) -> Result<(), AllocError> {
     let label = words.label(alloc, p)?;
-    text.push("- `");
-    text.push(label.as_str());
-    text.push("` against `");
-    text.push(side);
-    text.push("`: ");
-    push_ends(text, score);
-    text.push("\n");
+    push_against(text, label.as_str(), side, score);
     Ok(())
-}
-
-// How many pairs end how, where any do.
-fn push_ends(text: &mut Text, score: Score) {
-    text.push_number(u64::from(score.pairs()));
-    text.push(if score.pairs() == 1 {
-        " pair"
-    } else {
-        " pairs"
-    });
-    let next = push_part(text, "; ", "wins", score.wins);
-    let next = push_part(text, next, "loses", score.loses);
-    let next = push_part(text, next, "either may win", score.may_win);
-    let next = push_part(text, next, "both always end together", score.alike);
-    push_part(text, next, "unsafe", score.unsafe_pairs);
-}
-
-// What stands before the next part.
-fn push_part(
-    text: &mut Text,
-    before: &'static str,
-    words: &'static str,
-    pairs: u32,
-) -> &'static str {
-    if pairs == 0 {
-        return before;
-    }
-    text.push(before);
-    text.push(words);
-    text.push(" ");
-    text.push_number(u64::from(pairs));
-    ", "
 }

@@ -1,15 +1,10 @@
 // What is wrong with texts, as the protocol has it.
 
-use crate::answers::{Answers, json};
-use crate::checking::Found;
-use crate::plans::{Given, Unread};
-use crate::positions::{Lines, Position, Range};
-use diagnostics::{Diagnostic, Severity, Span};
+use diagnostics::{About, Diagnostic, Severity, Span};
+use editor_texts::{Given, Known, Lasting, Lines, Position, Range, Units, Unread, json};
 use growing_text::{Text, shown};
 use serde::Serialize;
 use std::alloc::{AllocError, Global};
-
-const METHOD: &str = "textDocument/publishDiagnostics";
 
 // So many are told of one document.
 const MOST: usize = 200;
@@ -24,9 +19,9 @@ const INFORMATION: u8 = 3;
 
 /// A part of a document.
 #[derive(Clone, Copy, Serialize)]
-pub(crate) struct Location<'a> {
-    pub(crate) uri: &'a str,
-    pub(crate) range: Range,
+pub struct Location<'a> {
+    pub uri: &'a str,
+    pub range: Range,
 }
 
 #[derive(Clone, Copy, Serialize)]
@@ -44,7 +39,12 @@ struct Told<'a, 'b> {
     source: &'static str,
     message: &'a str,
     related_information: Vec<Beside<'b>>,
+    #[serde(skip_serializing_if = "Option::is_none")]
+    tags: Option<&'static [u8]>,
 }
+
+// What nobody uses is shown faded.
+const UNNECESSARY: &[u8] = &[1];
 
 // What stands at the first place of a diagnostic that is told at its other one.
 const FIRST: &str = "the first of the two";
@@ -65,9 +65,16 @@ struct Shown<'a> {
 
 /// One of the texts that give a plan, with its lines.
 #[derive(Drop)]
-pub(crate) struct Marked<'a> {
+pub struct Marked<'a> {
     uri: &'a str,
     lines: Lines<'a>,
+}
+
+impl<'a> Marked<'a> {
+    /// Its URI.
+    pub fn uri(&self) -> &'a str {
+        self.uri
+    }
 }
 
 /// The texts that give a plan, with their lines.
@@ -75,10 +82,10 @@ pub(crate) struct Marked<'a> {
 /// # Errors
 ///
 /// Where an allocation fails.
-pub(crate) fn marks_of(alloc: Global, given: &Given) -> Result<Vec<Marked<'_>>, AllocError> {
+pub fn marks_of(alloc: Global, given: &Given, units: Units) -> Result<Vec<Marked<'_>>, AllocError> {
     let mut marks = Vec::new(alloc);
     for part in given.parts.iter() {
-        let lines = Lines::of(alloc, part.text.as_slice())?;
+        let lines = Lines::of(alloc, part.text.as_slice(), units)?;
         let marked = Marked {
             uri: part.uri.as_str(),
             lines,
@@ -90,39 +97,71 @@ pub(crate) fn marks_of(alloc: Global, given: &Given) -> Result<Vec<Marked<'_>>, 
     Ok(marks)
 }
 
-/// Says what was found wrong, document by document, of those that are told of here. The plan begins with the document of this URI, or
-/// with the first text.
+/// What is told of the text of this number of a plan, as the protocol has it: what was found wrong there.
 ///
 /// # Errors
 ///
 /// Where an allocation fails.
-pub(crate) fn publish(
+pub fn told_with(
     alloc: Global,
-    answers: &mut Answers,
-    given: &Given,
-    head: Option<&str>,
-    found: &Found,
-) -> Result<(), AllocError> {
-    let marks = marks_of(alloc, given)?;
-    let begins = match head {
-        Some(uri) => given.number_of(uri).unwrap_or(0),
-        None => 0,
+    known: &Known,
+    marks: &[Marked<'_>],
+    file: u32,
+) -> Result<String, AllocError> {
+    let uri = match marks.get(file as usize) {
+        Some(marked) => marked.uri,
+        None => "",
     };
-    let mut file = 0u32;
-    for part in given.parts.iter() {
-        if part.is_told {
-            let place = Place {
-                file,
-                begins: file == begins,
-            };
-            answers.notify(
-                METHOD,
-                params_of(alloc, given, marks.as_slice(), place, found),
-            );
-        }
-        file = file.saturating_add(1);
-    }
-    Ok(())
+    let list = list_of(alloc, known, marks, place_of(known, file));
+    params_with(alloc, uri, list)
+}
+
+/// That nothing is wrong with a document any more.
+///
+/// # Errors
+///
+/// Where an allocation fails.
+pub fn told_nothing(alloc: Global, uri: &str) -> Result<String, AllocError> {
+    params_with(alloc, uri, Text::new(alloc))
+}
+
+/// What was found wrong with the text of this number, where that is asked for.
+///
+/// # Errors
+///
+/// Where an allocation fails.
+pub fn report_on(
+    alloc: Global,
+    known: &Known,
+    file: u32,
+    units: Units,
+) -> Result<String, AllocError> {
+    let marks = marks_of(alloc, &known.given, units)?;
+    let list = list_of(alloc, known, marks.as_slice(), place_of(known, file));
+    let mut report = Text::new(alloc);
+    report.push("{\"kind\":\"full\",\"items\":[");
+    report.push_made(list.finish());
+    report.push("]}");
+    report.finish()
+}
+
+/// A diagnostic at its own place, as JSON.
+///
+/// # Errors
+///
+/// Where an allocation fails.
+pub(crate) fn own_json<'a>(
+    alloc: Global,
+    diagnostic: &'a Diagnostic,
+    marks: &'a [Marked<'a>],
+) -> Result<String, AllocError> {
+    let shown = Shown {
+        diagnostic,
+        span: diagnostic.span,
+        own: None,
+        file: None,
+    };
+    told_of(alloc, shown, marks)
 }
 
 // The number of a text, and whether its plan begins with it.
@@ -132,33 +171,35 @@ struct Place {
     begins: bool,
 }
 
-/// Says that nothing is wrong with a document any more.
-pub(crate) fn publish_nothing(alloc: Global, answers: &mut Answers, uri: &str) {
-    answers.notify(METHOD, params_with(alloc, uri, Text::new(alloc)));
+// A plan begins with the document that is its head, or with the first text.
+fn place_of(known: &Known, file: u32) -> Place {
+    let begins = match &known.head {
+        Some(uri) => known.given.number_of(uri.as_str()).unwrap_or(0),
+        None => 0,
+    };
+    Place {
+        file,
+        begins: file == begins,
+    }
 }
 
-fn params_of(
-    alloc: Global,
-    given: &Given,
-    marks: &[Marked<'_>],
-    place: Place,
-    found: &Found,
-) -> Result<String, AllocError> {
+fn list_of(alloc: Global, known: &Known, marks: &[Marked<'_>], place: Place) -> Text {
     let mut list = List::new(alloc);
-    let uri = match marks.get(place.file as usize) {
-        Some(marked) => {
-            list.add_unread_files(given, marked, place.begins);
-            if place.begins {
-                list.add_beginning(given, found, place.file, marks);
-            }
-            marked.uri
+    let given = &known.given;
+    if let Some(marked) = marks.get(place.file as usize) {
+        list.add_unread_files(given, marked, place.begins);
+        if place.begins {
+            list.add_beginning(known, place.file, marks);
         }
-        None => "",
-    };
-    for diagnostic in found.all.iter() {
-        list.add_places(diagnostic, marks, place.file, found.is_plan);
     }
-    params_with(alloc, uri, list.finish())
+    let is_plan = known.is_plan();
+    for diagnostic in known.wrong.iter() {
+        list.add_places(diagnostic, marks, place.file, is_plan);
+    }
+    if !known.lasting.is_empty() && !is_plan {
+        list.add_lasting(known, place.file, marks);
+    }
+    list.finish()
 }
 
 fn params_with(alloc: Global, uri: &str, list: Text) -> Result<String, AllocError> {
@@ -202,16 +243,16 @@ impl List {
     }
 
     // What is told on the first line of a plan: a refusal in a file that is told of with another plan.
-    fn add_beginning(&mut self, given: &Given, found: &Found, begins: u32, marks: &[Marked<'_>]) {
+    fn add_beginning(&mut self, known: &Known, begins: u32, marks: &[Marked<'_>]) {
         let Some(first) = marks.get(begins as usize) else {
             return;
         };
-        if found.is_plan {
+        if known.is_plan() {
             return;
         }
         // (what else is refused there is told with that one)
-        if let Some(diagnostic) = found.all.first() {
-            if let Some(part) = given.parts.get(diagnostic.span.file as usize) {
+        if let Some(diagnostic) = known.wrong.first() {
+            if let Some(part) = known.given.parts.get(diagnostic.span.file as usize) {
                 if !part.is_told {
                     let shown = Shown {
                         diagnostic,
@@ -237,6 +278,7 @@ impl List {
                     source: SOURCE,
                     message: message.as_str(),
                     related_information: Vec::new(alloc),
+                    tags: None,
                 };
                 self.add(json(alloc, &told));
             }
@@ -274,6 +316,21 @@ impl List {
                     },
                     marks,
                 );
+            }
+        }
+    }
+
+    // What was unsafe before a text was refused, where its names stand in this file now.
+    fn add_lasting(&mut self, known: &Known, file: u32, marks: &[Marked<'_>]) {
+        let alloc = self.alloc;
+        let Ok(names) = known.reading.names(alloc, known.given.parts.as_slice()) else {
+            return self.text.cut();
+        };
+        for lasting in known.lasting.iter() {
+            if let Some(span) = lasting.place(&names) {
+                if span.file == file && self.count < MOST {
+                    self.add(lasting_at(alloc, lasting, location_of(marks, span).range));
+                }
             }
         }
     }
@@ -330,6 +387,23 @@ fn words_of(alloc: Global, told: Shown<'_>) -> Result<String, AllocError> {
     words.finish()
 }
 
+fn lasting_at(alloc: Global, lasting: &Lasting, range: Range) -> Result<String, AllocError> {
+    let mut words = Text::new(alloc);
+    words.push("before a text was refused: ");
+    words.push(lasting.message.as_str());
+    let message = words.finish()?;
+    let told = Told {
+        range,
+        severity: INFORMATION,
+        code: "unsafe",
+        source: SOURCE,
+        message: message.as_str(),
+        related_information: Vec::new(alloc),
+        tags: None,
+    };
+    json(alloc, &told)
+}
+
 fn told_more(alloc: Global, more: usize) -> Result<String, AllocError> {
     let mut words = Text::new(alloc);
     words.push("there are ");
@@ -343,6 +417,7 @@ fn told_more(alloc: Global, more: usize) -> Result<String, AllocError> {
         source: SOURCE,
         message: message.as_str(),
         related_information: Vec::new(alloc),
+        tags: None,
     };
     json(alloc, &told)
 }
@@ -361,6 +436,10 @@ fn told_of<'a>(
         source: SOURCE,
         message: message.as_str(),
         related_information: related_of(alloc, shown, marks)?,
+        tags: match diagnostic.about {
+            About::Unused => Some(UNNECESSARY),
+            _ => None,
+        },
     };
     json(alloc, &told)
 }
@@ -408,7 +487,7 @@ const NOWHERE: Range = Range {
 };
 
 /// Where this part of one of these texts stands.
-pub(crate) fn location_of<'a>(marks: &'a [Marked<'a>], span: Span) -> Location<'a> {
+pub fn location_of<'a>(marks: &[Marked<'a>], span: Span) -> Location<'a> {
     match marks.get(span.file as usize) {
         Some(marked) => Location {
             uri: marked.uri,

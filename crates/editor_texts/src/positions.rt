@@ -1,27 +1,64 @@
-// Places of a text, as the protocol counts them: lines from 0 on, and in a line units of UTF-16.
+// Places of a text, as the protocol counts them: lines from 0 on, and in a line units of UTF-16, or bytes where the client counts
+// these.
 
 use diagnostics::Span;
 use serde::Serialize;
 use std::alloc::{AllocError, Global};
 
+/// What the characters of a line are counted in.
+#[derive(Clone, Copy, PartialEq, Eq)]
+pub enum Units {
+    Utf8,
+    Utf16,
+}
+
+impl Units {
+    // How many a character has that begins with this byte of UTF-8. A byte that begins none has none of UTF-16, and the end of a
+    // line has none at all.
+    fn of(self, byte: u8) -> u64 {
+        match (self, byte) {
+            (_, b'\n' | b'\r') | (Units::Utf16, 0x80..=0xbf) => 0,
+            (Units::Utf16, 0xf0..=0xff) => 2,
+            _ => 1,
+        }
+    }
+
+    fn of_all(self, bytes: &[u8]) -> u64 {
+        let mut units = 0u64;
+        for byte in bytes {
+            units = units.saturating_add(self.of(*byte));
+        }
+        units
+    }
+}
+
 /// A place of a text.
 #[derive(Clone, Copy, PartialEq, Eq, Serialize)]
-pub(crate) struct Position {
-    pub(crate) line: u64,
-    pub(crate) character: u64,
+pub struct Position {
+    pub line: u64,
+    pub character: u64,
 }
 
 /// Two places of a text: where something begins, and where it ends.
 #[derive(Clone, Copy, Serialize)]
-pub(crate) struct Range {
-    pub(crate) start: Position,
-    pub(crate) end: Position,
+pub struct Range {
+    pub start: Position,
+    pub end: Position,
+}
+
+/// What is to stand in the place of a part of a document.
+#[derive(Clone, Copy, Serialize)]
+#[serde(rename_all = "camelCase")]
+pub struct Edit<'a> {
+    pub range: Range,
+    pub new_text: &'a str,
 }
 
 /// A text, and where its lines begin. A line ends with a line feed, a carriage return, or both.
 #[derive(Drop)]
-pub(crate) struct Lines<'a> {
+pub struct Lines<'a> {
     text: &'a [u8],
+    units: Units,
     // how many bytes stand before each line
     starts: Vec<usize>,
 }
@@ -32,7 +69,7 @@ impl<'a> Lines<'a> {
     /// # Errors
     ///
     /// Where an allocation fails.
-    pub(crate) fn of(alloc: Global, text: &'a [u8]) -> Result<Lines<'a>, AllocError> {
+    pub fn of(alloc: Global, text: &'a [u8], units: Units) -> Result<Lines<'a>, AllocError> {
         let mut starts = Vec::new(alloc);
         starts.push(0usize)?;
         let mut count = 0usize;
@@ -51,28 +88,28 @@ impl<'a> Lines<'a> {
         if is_return {
             starts.push(count)?;
         }
-        Ok(Lines { text, starts })
+        Ok(Lines {
+            text,
+            units,
+            starts,
+        })
     }
 
     /// The place after so many bytes.
-    pub(crate) fn position(&self, offset: usize) -> Position {
-        let mut start = 0usize;
-        let mut line = 0u64;
-        for (number, begins) in self.starts.iter().enumerate() {
-            if offset < *begins {
-                break;
-            }
-            start = *begins;
-            line = number as u64;
-        }
+    pub fn position(&self, offset: usize) -> Position {
+        let begun = self.starts.partition_point(|begins| *begins <= offset);
+        let line = begun.saturating_sub(1);
+        let start = self.starts.get(line).copied().unwrap_or(0);
         Position {
-            line,
-            character: units_in(self.text.get(start..offset).unwrap_or(&[])),
+            line: line as u64,
+            character: self
+                .units
+                .of_all(self.text.get(start..offset).unwrap_or(&[])),
         }
     }
 
     /// The places after so many bytes, and after so many.
-    pub(crate) fn range(&self, start: usize, end: usize) -> Range {
+    pub fn range(&self, start: usize, end: usize) -> Range {
         Range {
             start: self.position(start),
             end: self.position(end),
@@ -80,12 +117,12 @@ impl<'a> Lines<'a> {
     }
 
     /// The whole text.
-    pub(crate) fn whole(&self) -> Range {
+    pub fn whole(&self) -> Range {
         self.range(0, self.text.len())
     }
 
     /// A line of those that line feeds end, from 1 on, up to the end of a line of the editor.
-    pub(crate) fn line(&self, number: u64) -> Range {
+    pub fn line(&self, number: u64) -> Range {
         let mut line = 1u64;
         let mut start = 0usize;
         let mut end = self.text.len();
@@ -103,7 +140,7 @@ impl<'a> Lines<'a> {
     }
 
     /// The first line, without its end, as bytes of the text of this number.
-    pub(crate) fn first_span(&self, file: u32) -> Span {
+    pub fn first_span(&self, file: u32) -> Span {
         let after = Position {
             line: 0,
             character: u64::MAX,
@@ -116,7 +153,7 @@ impl<'a> Lines<'a> {
     }
 
     /// How many bytes stand before this place. One after the end of its line is that end.
-    pub(crate) fn offset(&self, position: Position) -> usize {
+    pub fn offset(&self, position: Position) -> usize {
         let Some(start) = self.starts.get(position.line as usize) else {
             return self.text.len();
         };
@@ -127,28 +164,10 @@ impl<'a> Lines<'a> {
             if is_reached || matches!(*byte, b'\n' | b'\r') {
                 break;
             }
-            units = units.saturating_add(units_of(*byte));
+            units = units.saturating_add(self.units.of(*byte));
             offset = offset.saturating_add(1);
         }
         offset
-    }
-}
-
-// How many units of UTF-16 the characters of these bytes have. The end of a line has none.
-fn units_in(bytes: &[u8]) -> u64 {
-    let mut units = 0u64;
-    for byte in bytes {
-        units = units.saturating_add(units_of(*byte));
-    }
-    units
-}
-
-// How many units of UTF-16 a character has that begins with this byte of UTF-8. A byte that begins none has none.
-fn units_of(byte: u8) -> u64 {
-    match byte {
-        b'\n' | b'\r' | 0x80..=0xbf => 0,
-        0xf0..=0xff => 2,
-        _ => 1,
     }
 }
 

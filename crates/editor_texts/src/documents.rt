@@ -4,11 +4,11 @@ use crate::uris::path_of;
 use std::alloc::{AllocError, Global};
 
 /// A text that is open.
-pub(crate) struct Document {
-    pub(crate) uri: String,
+pub struct Document {
+    pub uri: String,
     /// The path of its file, where it has one.
-    pub(crate) path: Option<String>,
-    pub(crate) text: String,
+    pub path: Option<String>,
+    pub text: String,
 }
 
 // Written out, so that one call lets it go.
@@ -24,7 +24,7 @@ impl Drop for Document {
 
 impl Document {
     /// Whether its file has this path.
-    pub(crate) fn is_at(&self, path: &str) -> bool {
+    pub fn is_at(&self, path: &str) -> bool {
         match &self.path {
             Some(own) => own.as_str() == path,
             None => false,
@@ -34,14 +34,14 @@ impl Document {
 
 /// All of them, in the order in which they were opened.
 #[derive(Drop)]
-pub(crate) struct Documents {
+pub struct Documents {
     alloc: Global,
     open: Vec<Document>,
 }
 
 impl Documents {
     /// None.
-    pub(crate) fn new(alloc: Global) -> Documents {
+    pub fn new(alloc: Global) -> Documents {
         Documents {
             alloc,
             open: Vec::new(alloc),
@@ -49,22 +49,22 @@ impl Documents {
     }
 
     /// All of them.
-    pub(crate) fn all(&self) -> &[Document] {
+    pub fn all(&self) -> &[Document] {
         self.open.as_slice()
     }
 
     /// The one with this name.
-    pub(crate) fn find(&self, uri: &str) -> Option<&Document> {
+    pub fn find(&self, uri: &str) -> Option<&Document> {
         self.open.iter().find(|one| one.uri.as_str() == uri)
     }
 
     /// The number of the one with this name.
-    pub(crate) fn number_of(&self, uri: &str) -> Option<usize> {
+    pub fn number_of(&self, uri: &str) -> Option<usize> {
         self.open.iter().position(|one| one.uri.as_str() == uri)
     }
 
     /// The number of the one whose file has this path.
-    pub(crate) fn number_at(&self, path: &str) -> Option<usize> {
+    pub fn number_at(&self, path: &str) -> Option<usize> {
         self.open.iter().position(|one| one.is_at(path))
     }
 
@@ -73,7 +73,7 @@ impl Documents {
     /// # Errors
     ///
     /// Where an allocation fails.
-    pub(crate) fn open(&mut self, uri: &str, text: &str) -> Result<(), AllocError> {
+    pub fn open(&mut self, uri: &str, text: &str) -> Result<(), AllocError> {
         self.close(uri);
         let alloc = self.alloc;
         let document = Document {
@@ -92,10 +92,10 @@ impl Documents {
     /// # Errors
     ///
     /// Where an allocation fails.
-    pub(crate) fn change(&mut self, uri: &str, text: &str) -> Result<bool, AllocError> {
+    pub fn change(&mut self, uri: &str, text: String) -> Result<bool, AllocError> {
         for one in self.open.iter_mut() {
             if one.uri.as_str() == uri {
-                one.text = String::from_str(self.alloc, text)?;
+                one.text = text;
                 return Ok(true);
             }
         }
@@ -103,7 +103,7 @@ impl Documents {
     }
 
     /// One is not open any more. Whether it was.
-    pub(crate) fn close(&mut self, uri: &str) -> bool {
+    pub fn close(&mut self, uri: &str) -> bool {
         match self.number_of(uri) {
             Some(at) if at < self.open.len() => {
                 let _closed = self.open.remove(at);

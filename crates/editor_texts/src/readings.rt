@@ -1,50 +1,41 @@
-// The texts that give a plan, as they are read: the plan where they give one, and the names in all of them.
+// The texts that give a plan, as they were read: the plan where they give one, and the names in all of them.
 
-use crate::checking::Texts;
 use crate::documents::Document;
 use crate::plans::{Given, Part};
 use brief_tokens::record;
-use given_plans::GivenPlan;
+use given_plans::Provenance;
 use origins::{Kind, NameAt, NamedTexts, Spans};
-use run_values::{Halt, RefusedSource};
+use run_values::RefusedSource;
 use std::alloc::{AllocError, Global};
+use verdicts::Checked;
 
 /// A name, and what it is the name of.
 #[derive(Clone, Copy)]
-pub(crate) struct Word<'a> {
-    pub(crate) kind: Kind,
-    pub(crate) bytes: &'a [u8],
+pub struct Word<'a> {
+    pub kind: Kind,
+    pub bytes: &'a [u8],
 }
 
 /// What was read.
 #[derive(Drop)]
-pub(crate) enum Reading {
-    Plan(GivenPlan),
+pub enum Reading {
+    Plan(ReadPlan),
     /// A text is refused: the names in all of them.
     Refused(Spans),
 }
 
-impl Reading {
-    /// What these parts give, whose texts these are.
-    ///
-    /// # Errors
-    ///
-    /// Where an allocation fails.
-    pub(crate) fn of(
-        alloc: Global,
-        texts: &mut Texts<'_>,
-        parts: &[Part],
-    ) -> Result<Reading, AllocError> {
-        match texts.find(alloc) {
-            Ok(given) => Ok(Reading::Plan(given)),
-            Err(Halt::Text(_, source)) => Ok(Reading::Refused(names_after(source, parts))),
-            Err(_) => Err(AllocError),
-        }
-    }
+/// A plan that was checked, and what gave it.
+#[derive(Drop)]
+pub struct ReadPlan {
+    pub checked: Checked,
+    pub provenance: Provenance,
+}
 
-    fn spans(&self) -> &Spans {
+impl Reading {
+    /// The names that were read.
+    pub fn spans(&self) -> &Spans {
         match self {
-            Reading::Plan(given) => &given.provenance.spans,
+            Reading::Plan(read) => &read.provenance.spans,
             Reading::Refused(spans) => spans,
         }
     }
@@ -54,7 +45,7 @@ impl Reading {
     /// # Errors
     ///
     /// Where an allocation fails, or failed for the names.
-    pub(crate) fn word_at<'d>(
+    pub fn word_at<'d>(
         &self,
         alloc: Global,
         given: &Given,
@@ -80,21 +71,34 @@ impl Reading {
     /// # Errors
     ///
     /// Where an allocation fails, or failed for the names.
-    pub(crate) fn names<'a>(
+    pub fn names<'a>(
         &'a self,
         alloc: Global,
         parts: &'a [Part],
     ) -> Result<NamedTexts<'a>, AllocError> {
-        let mut names = NamedTexts::new(alloc, self.spans())?;
-        for part in parts {
-            names.add(part.text.as_slice())?;
-        }
-        Ok(names)
+        names_in(alloc, self.spans(), parts)
     }
 }
 
-// The names up to the text that is refused, and those of the parts after it, which no reader has come to.
-fn names_after(source: RefusedSource, parts: &[Part]) -> Spans {
+/// The names of these in these parts.
+///
+/// # Errors
+///
+/// Where an allocation fails, or failed for the names.
+pub fn names_in<'a>(
+    alloc: Global,
+    spans: &'a Spans,
+    parts: &'a [Part],
+) -> Result<NamedTexts<'a>, AllocError> {
+    let mut names = NamedTexts::new(alloc, spans)?;
+    for part in parts {
+        names.add(part.text.as_slice())?;
+    }
+    Ok(names)
+}
+
+/// The names up to the text that is refused, and those of the parts after it, which no reader has come to.
+pub(crate) fn names_after(source: RefusedSource, parts: &[Part]) -> Spans {
     let refused = source.refused;
     let read = refused.before.len().saturating_add(1);
     let mut spans = refused.spans;
@@ -113,4 +117,12 @@ fn name_alone(alloc: Global, text: &[u8], offset: usize) -> Result<Option<NameAt
     let mut spans = Spans::new(alloc);
     record(text, &mut spans);
     name_at(&spans, 0, offset)
+}
+
+/// The names in the item of this number.
+pub fn names_of_item(spans: &Spans, item: usize) -> &[NameAt] {
+    let names = spans.names();
+    let start = names.partition_point(|at| at.item < item);
+    let end = names.partition_point(|at| at.item <= item);
+    names.get(start..end).unwrap_or(&[])
 }

@@ -16,7 +16,7 @@ use std::rt::Files;
 use std::{fs, str};
 
 /// Whether a text is a brief of the second version, whose head may name files.
-pub(crate) fn is_second_version(text: &[u8]) -> bool {
+pub fn is_second_version(text: &[u8]) -> bool {
     match begin(text) {
         Ok(tokens) => tokens.letters() == Letters::Board,
         Err(_) => false,
@@ -332,6 +332,7 @@ fn not_listed(
     labels: &[Label],
 ) -> Result<Given, AllocError> {
     let mut given = of_list(alloc, before, labels)?;
+    given.ends_early = true;
     let part = part_of(alloc, text, labels)?;
     match why {
         Why::Unread {

@@ -10,7 +10,7 @@ const SCHEME: &str = "file://";
 /// # Errors
 ///
 /// Where an allocation fails.
-pub(crate) fn path_of(alloc: Global, uri: &str) -> Result<Option<String>, AllocError> {
+pub fn path_of(alloc: Global, uri: &str) -> Result<Option<String>, AllocError> {
     let Some(path) = escaped_path(uri) else {
         return Ok(None);
     };
@@ -38,7 +38,7 @@ fn escaped_path(uri: &str) -> Option<&str> {
 /// # Errors
 ///
 /// Where an allocation fails.
-pub(crate) fn uri_of(alloc: Global, path: &str) -> Result<String, AllocError> {
+pub fn uri_of(alloc: Global, path: &str) -> Result<String, AllocError> {
     let names = names_of(alloc, path)?;
     let mut uri = String::new(alloc);
     uri.push_str(SCHEME)?;
