@@ -215,6 +215,15 @@ changed(server, host, text.replace('sensor', 'timer').replace('page_2', ''))
 want('no file that stands above', [], actions(server, host, 3, 20))
 changed(server, host, text.replace('brief 2', 'brief 1'))
 want('a `brief 1` names no file', [], actions(server, host, 3, 20))
+boards = begun(workspaceFolders=[{'uri': root, 'name': 'project'}])
+opened(boards, pch, PCH)
+text = 'brief 2\nmessage probe write sensor any ;\ncontroller host probe ;\n'
+extra = file('project/extra.brief', text)
+opened(boards, extra, text)
+want('or a file of a board, which nobody has open', ['with "parts/devices.brief" ; has \'sensor\''],
+     [one['title'] for one in actions(boards, extra, 1, 22)])
+boards.stop()
+os.remove(os.path.join(HERE, 'project/extra.brief'))
 text = PLAN + 'device spare 0x20 ;\nbyte none 0x01 ;\n'
 changed(server, plan, text)
 found = actions(server, plan, 6, 8)
