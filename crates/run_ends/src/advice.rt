@@ -294,6 +294,7 @@ fn tell<'x, R: Eprint + AllocGlobal>(
         Halt::NoDevice(_) => {
             let device = Subject::Device(errand.device());
             return refused_by_word(rt, "device", device, reason, format);
+        }
         Halt::Table(error) if format == Format::Messages => {
             let message = table_message(alloc, errand.last_path(), error.line, reason);
             return say_message(rt, message);
