@@ -10,8 +10,8 @@ use diagnostics::reason_of;
 use dump_findings::Seen;
 use dump_hints::{
     Names, on_bytes, on_choice, on_denied_line, on_dump, on_like_line, on_no_controller,
-    on_no_device, on_no_line, on_no_name, on_none_passes, on_only, on_recording, on_rises,
-    on_same_line, on_signals, on_signs, on_silence, on_table, on_unexplained,
+    on_no_device, on_no_line, on_no_name, on_none_passes, on_only, on_recording, on_same_line,
+    on_signals, on_signs, on_silence, on_table, on_unexplained,
 };
 use dump_tokens::Drive;
 use given_plans::Provenance;
