@@ -104,6 +104,8 @@ const NO_ROWS: Fault =
 
 const NO_NAMES: Fault = "'--device' wants '--names <BRIEF>', which has the device";
 
+const NO_CONTROLLER: Fault = "'--controller <NAME>' is missing: whose messages the driver may send";
+
 const NOT_COUNTED: Fault = "'--summary' leaves no transactions for '--pec'";
 
 const INPUT_OF_EDITOR: Fault = "standard input is the editor's, and none of the files";
@@ -211,13 +213,14 @@ fn asked_of<'a>(matches: &ArgMatches<'a>) -> Result<(Request<'a>, Tabled<'a>, Ma
     let request = request_of(name, matches)?;
     refuse_rows(name, matches)?;
     refuse_input_twice(matches)?;
-    Ok((request, tabled_of(matches)?, manner_of(matches)))
+    Ok((request, tabled_of(name, matches)?, manner_of(matches)))
 }
 
 // Whether the capture is a table, where that goes with the other options.
-fn tabled_of<'a>(matches: &ArgMatches<'a>) -> Result<Tabled<'a>, Fault> {
+fn tabled_of<'a>(name: &str, matches: &ArgMatches<'a>) -> Result<Tabled<'a>, Fault> {
     let tabled = Tabled {
-        is_table: matches.get_flag("table"),
+        // (that of a guard is none)
+        is_table: name != "guard" && matches.get_flag("table"),
         rate: matches.get_str("rate"),
     };
     let path = matches.get_str("VCD").or(matches.get_str("capture"));
@@ -302,6 +305,7 @@ fn request_of<'a>(name: &str, matches: &ArgMatches<'a>) -> Result<Request<'a>, F
         "learn" => learn_of(matches),
         "page" => page_of(matches),
         "bench" => bench_of(matches),
+        "guard" => guard_of(matches),
         "format" => layout_of(matches),
         "certify" => Ok(rewrite_of(matches, "PLAN", Rewriting::Certify)),
         "expand" => Ok(rewrite_of(matches, "BRIEF", Rewriting::Expand)),
@@ -433,6 +437,18 @@ fn rewrite_of<'a>(matches: &ArgMatches<'a>, file: &str, rewriting: Rewriting) ->
         file: word(matches, file),
         rewriting,
         output: output_of(matches),
+    }
+}
+
+fn guard_of<'a>(matches: &ArgMatches<'a>) -> Result<Request<'a>, Fault> {
+    match matches.get_str("controller") {
+        Some(controller) => Ok(Request::Guard {
+            plan: word(matches, "PLAN"),
+            controller,
+            alone: matches.get_flag("table"),
+            output: output_of(matches),
+        }),
+        None => Err(NO_CONTROLLER),
     }
 }
 

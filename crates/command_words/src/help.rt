@@ -402,6 +402,37 @@ certificate of the one is a certificate of the other.
 
 Exit status: 0 written, 2 refused.";
 
+pub const AFTER_GUARD_HELP: &str = "\
+The header has the messages that the controller may send as an enum, a table of
+them in two constant arrays, and a function for the driver to ask before it
+sends. For a controller 'bmc' with a message 'set' that is
+
+  enum bmc_message { bmc_message_set = 0, bmc_messages = 1 };
+  int bmc_may_send(const struct twire_segment *segments, size_t count);
+
+and the function answers the message that the segments are, or -1. A segment is
+what is sent from a START or a repeated START on:
+
+  struct twire_segment {
+      uint16_t address;  uint8_t flags;  uint16_t length;  const uint8_t *data;
+  };
+
+The flags are TWIRE_READ, and TWIRE_TEN for an address of ten bits. The function
+reads each byte once, however many messages there are. It allocates nothing, and
+the header needs C99, <stddef.h> and <stdint.h> alone. Include it in one file.
+
+A driver that sends segments ends with a STOP after a byte that is not
+acknowledged. So no segments are a message that goes on after one, as by 'else
+again': the header says so beside its name.
+
+docs/GUARD.md has the rules, and docs/FIRMWARE.md how to build it into drivers of
+Linux, Zephyr and others.
+
+Exit status:
+  0  the header was written
+  2  refused, as 'refused controller NAME' for one that the plan does not have,
+     and 'refused guard NAME' for one whose table would be too large";
+
 pub const AFTER_EXPAND_HELP: &str = "\
 brief 1
 device eeprom 0x50 ;  device fan 0b0101111 ;    # addresses of seven bits

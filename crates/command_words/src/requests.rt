@@ -67,6 +67,13 @@ pub enum Request<'a> {
         cert: Option<&'a str>,
         play: Play<'a>,
     },
+    /// What this controller of a plan may send, for its driver: with the function that asks the table, or the table alone.
+    Guard {
+        plan: &'a str,
+        controller: &'a str,
+        alone: bool,
+        output: Option<&'a str>,
+    },
     /// A text in another form.
     Rewrite {
         file: &'a str,

@@ -19,7 +19,7 @@ use growing_text::Text;
 use hints::{
     Found, Hints, NoWaves, Untaken, on_certificate, on_checked, on_fault, on_memory, on_mended,
     on_named_file, on_no_answers, on_no_brief, on_no_timescale, on_no_waves, on_reading, on_safe,
-    on_starters, on_untaken, on_workers, on_writing,
+    on_starters, on_unguarded, on_untaken, on_workers, on_writing,
 };
 use lint::oddities;
 use plan_core::Plan;
@@ -307,6 +307,10 @@ fn tell<'x, R: Eprint + AllocGlobal>(
             return refused_by_word(rt, "drives", controller, reason, format);
         }
         Halt::Untaken(untaken) => return tell_untaken(rt, untaken, reason, errand),
+        Halt::Unguarded(unguarded) => {
+            let controller = Subject::Controller(errand.controller());
+            return refused_by_word(rt, unguarded.word(), controller, reason, format);
+        }
         Halt::Text(error, source) if format == Format::Messages => {
             return say_message(rt, text_message(alloc, of_text(*error, source, errand)));
         }
@@ -439,6 +443,7 @@ fn hints_on<F: Read + Seek + Drop>(
         Halt::NoDevice(names) => on_no_device(alloc, errand.device(), names.as_slice()),
         Halt::NoDrive(number, why) => on_no_drive(alloc, drive_of(errand, *number), why),
         Halt::Untaken(untaken) => on_untaken(alloc, errand.named().files(), untaken),
+        Halt::Unguarded(unguarded) => on_unguarded(alloc, errand.controller(), unguarded),
         Halt::Run(RunError::Read) => on_reading(alloc, read.last, read.error.as_ref()),
         Halt::File(file) => on_named_file(
             alloc,

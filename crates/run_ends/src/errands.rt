@@ -63,6 +63,7 @@ impl<'a> Errand<'a> {
             | Request::Page { .. }
             | Request::Order { .. }
             | Request::Capture { .. }
+            | Request::Guard { .. }
             | Request::Bench { .. } => true,
             Request::Learn { names, .. } | Request::Decode { names, .. } => names.is_some(),
             Request::Signals { .. } => false,
@@ -88,6 +89,7 @@ impl<'a> Errand<'a> {
             | Request::Page { plan, .. }
             | Request::Order { plan, .. }
             | Request::Capture { plan, .. }
+            | Request::Guard { plan, .. }
             | Request::Bench { plan, .. } => named("PLAN", "plan", plan),
             Request::Learn {
                 names: Some(names),
@@ -168,6 +170,7 @@ impl<'a> Errand<'a> {
             Request::Rewrite { output, .. }
             | Request::Mend { output, .. }
             | Request::Page { output, .. }
+            | Request::Guard { output, .. }
             | Request::Learn { output, .. } => Form::of(output),
             _ => Form::Plain,
         }
@@ -226,6 +229,14 @@ impl<'a> Errand<'a> {
             _ => None,
         };
         device.unwrap_or("")
+    }
+
+    /// The controller for whose driver a guard is written.
+    pub(crate) fn controller(self) -> &'a str {
+        match self.request {
+            Request::Guard { controller, .. } => controller,
+            _ => "",
+        }
     }
 
     fn lines(self) -> BusLines<'a> {

@@ -8,7 +8,7 @@ use dump_findings::Seen;
 use dump_tables::{TableError, Why};
 use dump_tokens::Window;
 use given_plans::{GivenPlan, Halted, Provenance, RefusedText};
-use hints::{Found, NoWaves, Then, Untaken};
+use hints::{Found, NoWaves, Then, Unguarded, Untaken};
 use plan_core::Plan;
 use plan_text::{NoBrief, PlanError};
 use plays::RefusedStarters;
@@ -111,6 +111,8 @@ pub enum Halt {
     NoDrive(usize, NoDrive),
     /// Offers are not taken.
     Untaken(Untaken),
+    /// No guard is written.
+    Unguarded(Unguarded),
 }
 
 /// Why the line of a controller cannot be followed.
@@ -158,7 +160,8 @@ impl Halt {
             | Halt::NoTimescale
             | Halt::NoDevice(_)
             | Halt::NoDrive(..)
-            | Halt::Untaken(_) => RunError::Read,
+            | Halt::Untaken(_)
+            | Halt::Unguarded(_) => RunError::Read,
         }
     }
 }

@@ -6,7 +6,7 @@ use dump_runs::{
     list_signals, may_have_others,
 };
 use page_runs::{write_page_alone, write_page_with};
-use plan_runs::{bench, bench_alone, check, list_offers, order, rewrite, take_offers, verify};
+use plan_runs::{bench, bench_alone, check, guard, list_offers, order, rewrite, take_offers, verify};
 use run_ends::Errand;
 use run_parts::{Input, Output, RunError};
 use run_values::{Ended, Halt, Sources};
@@ -81,6 +81,11 @@ pub fn run_over<
         Request::Learn { lesson, .. } => {
             learn_with_names(alloc, texts, given(second)?, out, lesson)
         }
+        Request::Guard {
+            controller,
+            alone,
+            ..
+        } => guard(alloc, texts, out, controller, alone),
         Request::Rewrite { rewriting, .. } => rewrite(alloc, texts, out, rewriting),
     }
 }
