@@ -4,7 +4,6 @@ use capture_check::{Event, Mark, Watch, What};
 use dump_findings::Passing;
 use dump_tokens::{Scale, View};
 use growing_text::Text;
-use signals::RecordedLines;
 use std::alloc::{AllocError, Global};
 use vcd_read::{Level, Sample};
 
@@ -75,43 +74,6 @@ impl Bits {
     }
 }
 
-/// The words of the transactions in these levels that are told.
-///
-/// # Errors
-///
-/// Where an allocation fails.
-pub(crate) fn said_of(
-    alloc: Global,
-    lines: &RecordedLines,
-    view: View,
-) -> Result<Vec<Said>, AllocError> {
-    let mut speaker = Speaker {
-        watch: Watch::new(),
-        view,
-        scale: lines.scale,
-        heard: Heard::Unknown,
-        is_told: false,
-        passing: Passing::new(view.filter),
-        before: 0,
-        scl: Level::Unknown,
-        fell: 0,
-        began: 0,
-        bits: NONE,
-        said: Vec::new(alloc),
-    };
-    let mut samples = lines.samples();
-    for _ in 0..lines.bound() {
-        let Some(sample) = samples.next() else {
-            break;
-        };
-        speaker.sample(sample)?;
-    }
-    speaker.end_byte(true)?;
-    speaker.end();
-    let Speaker { said, .. } = speaker;
-    Ok(said)
-}
-
 // What is known of the bus, as of transactions.
 #[derive(Clone, Copy)]
 enum Heard {
@@ -127,8 +89,9 @@ const NONE: Bits = Bits {
     is_cut: false,
 };
 
+/// What says the words of a bus, level by level.
 #[derive(Drop)]
-struct Speaker {
+pub(crate) struct Speaker {
     watch: Watch,
     view: View,
     scale: Option<Scale>,
@@ -147,7 +110,61 @@ struct Speaker {
 }
 
 impl Speaker {
-    fn sample(&mut self, sample: Sample) -> Result<(), AllocError> {
+    /// Nothing has been heard. Words are those of the transactions that are told.
+    pub(crate) fn new(alloc: Global, view: View) -> Speaker {
+        Speaker {
+            watch: Watch::new(),
+            view,
+            scale: None,
+            heard: Heard::Unknown,
+            is_told: false,
+            passing: Passing::new(view.filter),
+            before: 0,
+            scl: Level::Unknown,
+            fell: 0,
+            began: 0,
+            bits: NONE,
+            said: Vec::new(alloc),
+        }
+    }
+
+    /// What the times count.
+    pub(crate) fn count_in(&mut self, scale: Option<Scale>) {
+        self.scale = scale;
+    }
+
+    /// The words so far, in the order of their times. Those of a transaction that goes on may be taken back.
+    pub(crate) fn said(&self) -> &[Said] {
+        self.said.as_slice()
+    }
+
+    /// All words before this time have been said, and none of them is taken back, where the next level comes at `next` or later.
+    pub(crate) fn settled(&self, next: u64) -> u64 {
+        match self.heard {
+            Heard::Busy if self.is_told && !self.view.filter.is_none() => self.begun.min(next),
+            Heard::Busy if self.is_told && self.bits.count > 0 => self.began.min(next),
+            Heard::Busy if self.is_told => self.fell.min(next),
+            _ => next,
+        }
+    }
+
+    /// Forgets the first words.
+    pub(crate) fn forget(&mut self, count: usize) {
+        let left = self.said.len().saturating_sub(count);
+        self.said.copy_within(count.., 0);
+        self.said.truncate(left);
+        self.before = self.before.saturating_sub(count);
+    }
+
+    /// The levels have ended.
+    pub(crate) fn finish(&mut self) -> Result<(), AllocError> {
+        self.end_byte(true)?;
+        self.end();
+        Ok(())
+    }
+
+    /// The next level of the lines.
+    pub(crate) fn sample(&mut self, sample: Sample) -> Result<(), AllocError> {
         if let Some(event) = self.watch.next(&sample) {
             self.event(event)?;
         }
