@@ -5,6 +5,7 @@ use dump_findings::Passing;
 use dump_tokens::{Scale, View};
 use growing_text::Text;
 use std::alloc::{AllocError, Global};
+use std::collections::VecDeque;
 use vcd_read::{Level, Sample};
 
 /// A word from this time on.
@@ -96,8 +97,10 @@ pub(crate) struct Speaker {
     view: View,
     scale: Option<Scale>,
     heard: Heard,
-    // whether the transaction that goes on is told by its time, what of it is asked for, and how many words there were before it
+    // whether the transaction that goes on is told by its time, when it began, what of it is asked for, and how many words there
+    // are before it
     is_told: bool,
+    started: u64,
     passing: Passing,
     before: usize,
     // the level of SCL before, and when it fell last
@@ -106,7 +109,7 @@ pub(crate) struct Speaker {
     // the byte that goes on, and when it began
     began: u64,
     bits: Bits,
-    said: Vec<Said>,
+    said: VecDeque<Said>,
 }
 
 impl Speaker {
@@ -118,13 +121,14 @@ impl Speaker {
             scale: None,
             heard: Heard::Unknown,
             is_told: false,
+            started: 0,
             passing: Passing::new(view.filter),
             before: 0,
             scl: Level::Unknown,
             fell: 0,
             began: 0,
             bits: NONE,
-            said: Vec::new(alloc),
+            said: VecDeque::new(alloc),
         }
     }
 
@@ -133,27 +137,30 @@ impl Speaker {
         self.scale = scale;
     }
 
-    /// The words so far, in the order of their times. Those of a transaction that goes on may be taken back.
-    pub(crate) fn said(&self) -> &[Said] {
-        self.said.as_slice()
+    /// The next word, where it is before this time. It is not said once more.
+    pub(crate) fn next_before(&mut self, time: u64) -> Option<Said> {
+        match self.said.front() {
+            Some(said) if said.time < time => {}
+            _ => return None,
+        }
+        self.before = self.before.saturating_sub(1);
+        self.said.pop_front()
     }
 
-    /// All words before this time have been said, and none of them is taken back, where the next level comes at `next` or later.
+    /// How many words have been said, and not been taken.
+    pub(crate) fn count(&self) -> usize {
+        self.said.len()
+    }
+
+    /// Up to when all words have been said, and none is taken back, where the next level comes at this time or later.
     pub(crate) fn settled(&self, next: u64) -> u64 {
         match self.heard {
-            Heard::Busy if self.is_told && !self.view.filter.is_none() => self.begun.min(next),
-            Heard::Busy if self.is_told && self.bits.count > 0 => self.began.min(next),
-            Heard::Busy if self.is_told => self.fell.min(next),
-            _ => next,
+            Heard::Busy if !self.is_told => next,
+            Heard::Busy if !self.view.filter.is_none() => self.started.min(next),
+            Heard::Busy if self.bits.count > 0 => self.began.min(next),
+            Heard::Busy => self.fell.min(next),
+            Heard::Free | Heard::Unknown => next,
         }
-    }
-
-    /// Forgets the first words.
-    pub(crate) fn forget(&mut self, count: usize) {
-        let left = self.said.len().saturating_sub(count);
-        self.said.copy_within(count.., 0);
-        self.said.truncate(left);
-        self.before = self.before.saturating_sub(count);
     }
 
     /// The levels have ended.
@@ -196,6 +203,7 @@ impl Speaker {
             }
             (Heard::Free, What::Start) => {
                 self.is_told = self.view.window.has(self.scale, event.time);
+                self.started = event.time;
                 self.passing = Passing::new(self.view.filter);
                 self.before = self.said.len();
                 self.go_to(event.time, Word::Start, Heard::Busy)?;
@@ -253,7 +261,7 @@ impl Speaker {
 
     fn say(&mut self, time: u64, word: Word) -> Result<(), AllocError> {
         if self.is_told {
-            self.said.push(Said { time, word })?;
+            self.said.push_back(Said { time, word })?;
         }
         Ok(())
     }
