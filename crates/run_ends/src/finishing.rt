@@ -15,19 +15,10 @@ use std::rt::Files;
 use std::time::Clock;
 
 /// What a run writes: its report, and its waves.
+#[derive(Drop)]
 pub struct Sheets<'a, 'i, R: Files> {
     pub report: Sheet<'a, 'i, R>,
     pub waves: Watched<Sheet<'a, 'i, R>>,
-}
-
-// Written out, so that one call lets it go.
-impl<R: Files> Drop for Sheets<'_, '_, R> {
-    fn drop(self) {
-        let Self {
-            report: _,
-            waves: _,
-        } = self;
-    }
 }
 
 /// Writes the files of a run that is to write some, says a refusal, and hints where they are wanted. Answers the exit status: that of
