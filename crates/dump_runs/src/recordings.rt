@@ -13,11 +13,7 @@ ghost use Rattle.run_parts.specs.Writing.{WritesAll};
 ghost use Rattle.run_parts.specs.declared.runs.Status.TheVariants.{Good};
 ghost use Rattle.vcd_read.specs.Views.{asked};
 
-use crate::driven::{
-    decode_with, drivers_of, judging_of, open_driven, refuse_no_names, refuse_others,
-    refuse_unknown,
-};
-use crate::forms::{capture_to, decode_as, decode_to};
+use crate::forms::{capture_to, decode_as, decode_to, decode_with};
 use bus_rows::Paint;
 use byte_lines::{ByteCounts, write_decoded, write_decoded_beside};
 use capture_check::{Beside, Signs};
@@ -36,7 +32,8 @@ use plan_words::PlanWords;
 use report::{CaptureCounts, CaptureReport, live_capture, write_capture};
 use run_parts::{Input, Output, RunError, Status, write_lines};
 use run_values::{
-    Ended, Findings, Halt, Recorded, Sources, Style, Waves, device_of, halted, halted_by, open_dump,
+    Ended, Findings, Halt, Recorded, Sources, Style, Waves, device_of, drivers_of, halted,
+    halted_by, judging_of, open_driven, open_dump, refuse_no_names, refuse_others, refuse_unknown,
 };
 use signals::{Dump, Listed, OpenDump, SignalDump, reads_ahead};
 use std::alloc::Global;

@@ -60,9 +60,12 @@ pub fn run_over<
             capture: None,
             ..
         } => write_page_alone(rt, plan, texts, out),
-        Request::Page { plan, bus, .. } => {
-            write_page_with(rt, plan, texts, given(second)?, out, bus)
-        }
+        Request::Page {
+            plan,
+            bus,
+            drives,
+            ..
+        } => { write_page_with(rt, plan, texts, given(second)?, out, bus, drives) }
         Request::Capture { capture, .. } => {
             explain_capture(rt, texts, given(second)?, out, capture, style)
         }

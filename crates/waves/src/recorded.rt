@@ -13,6 +13,7 @@ use std::mem;
 use vcd_read::{Further, Level, Sample, Tokens};
 
 /// What takes waves.
+#[derive(Drop)]
 pub struct WaveFile<'o, O> {
     pub out: &'o mut O,
     /// Whether all of them are written at their end, since something else is written there as well.
