@@ -166,7 +166,8 @@ from elsewhere. It shows
   what is sent     each message in bytes, as 'S 48 Wr A 01 A P'
   the capture      its transactions on a line of time, in a lane for each
                    participant that explains one, with '--capture VCD'; each
-                   leads to its wire as it was recorded
+                   leads to its wire as it was recorded, and with '--drives'
+                   ('twire help capture') to what the controllers did
 
 and the reports of 'check', 'order' and 'capture --explain', of which all this
 is made.

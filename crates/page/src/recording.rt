@@ -104,8 +104,9 @@ pub(crate) struct Recorded<'a> {
     // so many of this unit are a step of time, where the dump says so
     #[serde(skip_serializing_if = "Option::is_none")]
     step: Option<(u8, &'static str)>,
-    #[serde(skip_serializing_if = "<[String]>::is_empty")]
-    notes: &'a [String],
+    // what is said of the whole capture, where anything is
+    #[serde(skip_serializing_if = "Option::is_none")]
+    notes: Option<&'a [String]>,
     transactions: &'a [Shown],
 }
 
@@ -128,7 +129,10 @@ impl<'w> Recording<'w> {
     ///
     /// Where an allocation fails.
     pub fn note(&mut self, text: String) -> Result<(), AllocError> {
-        self.notes.push(text)
+        match self.notes.push(text) {
+            Ok(()) => Ok(()),
+            Err(_) => Err(AllocError),
+        }
     }
 
     /// Says of the whole capture what the controllers did that are followed.
@@ -194,7 +198,7 @@ impl<'w> Recording<'w> {
                 Some(scale) => Some((scale.number(), scale.unit().symbol())),
                 None => None,
             },
-            notes: self.notes.as_slice(),
+            notes: (!self.notes.is_empty()).then_some(self.notes.as_slice()),
             transactions: self.transactions.as_slice(),
         }
     }
