@@ -106,7 +106,7 @@ struct Shown<'a> {
 // What a dump shows, with its explained report, the status of a run with that, and what people may be told of it.
 fn recording_of<'a, R: AllocGlobal + Threads + Sync, J: Input, O: Output>(
     rt: &R,
-    words: PlanWords<'_>,
+    words: PlanWords<'a>,
     vcd: &mut J,
     report: &mut O,
     bus: Bus<'a>,
@@ -179,7 +179,7 @@ fn put_notes(
 
 fn record<'a, R: AllocGlobal + Threads + Sync, J: Input, O: Output>(
     rt: &R,
-    words: PlanWords<'_>,
+    words: PlanWords<'a>,
     dump: &mut Dump<'_, '_, J>,
     report: &mut O,
     selection: Selection,
