@@ -324,9 +324,9 @@ With '--format csv' each byte is a row: when it begins and ends, whether it is
 number of its transaction.
 
 With '--timing' lines below each say its rate and its longest LOW of SCL; with
-'--mode' also which times are less than the mode wants (UM10204, table 10). Above
-the last line stands which line was stuck LOW, and after how many clocks it was
-not:
+'--mode' also which times are less than the mode wants (UM10204, table 10).
+Above the last line stands which line was stuck LOW, and after how many clocks
+it was not:
 
   twire decode bus.vcd --timing --mode fast
 
