@@ -39,61 +39,113 @@ enum Place {
 
 /// Takes a line apart.
 pub(crate) fn read_line(line: &str) -> Line<'_> {
-    if line.starts_with("CPU:")
-        && line.trim_ascii_end().ends_with("]")
-        && line.contains(" EVENTS")
-    {
+    if line.starts_with("CPU:") && line.ends_with(']') && line.contains(" EVENTS") {
         return Line::Loss;
     }
-    let mut place = Place::Start;
-    let (mut time, mut process) = (None, "");
-    let mut head = Head::new(line);
+    let mut scan = Scan::new(line);
     let mut left = line;
     for _ in 0..MOST_WORDS {
         let Some((word, rest)) = first_word(left) else {
             return Line::Other;
         };
-        if place != Place::Head
-            && let Some(name) = event_name(word)
-        {
-            return Line::Event(EventLine {
-                time,
-                process,
-                name,
-                fields: rest,
-            });
+        if let Some(name) = scan.event_at(word) {
+            return Line::Event(scan.event(name, rest));
         }
-        place = match place {
-            // (a difference to the line before, or the colon of a time that stands apart)
-            Place::Timed if word == ":" || word.starts_with("(+") => Place::Timed,
-            Place::Timed => return Line::Other,
-            Place::Console => {
-                process = word.trim_start_matches('[').trim_end_matches(']');
-                if process.len() == word.len() {
-                    return Line::Other;
-                }
-                Place::Console
-            }
-            Place::Start | Place::Head if word == "kernel:" => Place::Start,
-            Place::Start | Place::Head => {
-                if let Some(stamp) = time_of(word) {
-                    (time, process) = (Some(stamp), head.process());
-                    Place::Timed
-                } else if let Some((stamp, caller)) = console_time(word) {
-                    (time, process) = (Some(stamp), caller);
-                    Place::Console
-                } else {
-                    head.take(word, left.len());
-                    Place::Head
-                }
-            }
+        let Some(next) = scan.after(word, left.len()) else {
+            return Line::Other;
         };
+        scan = next;
         left = rest;
     }
     Line::Other
 }
 
-// The first word of a text, and what follows the blank after it.
+// What the words of a line so far say.
+#[derive(Clone, Copy)]
+struct Scan<'t> {
+    place: Place,
+    time: Option<u64>,
+    process: &'t str,
+    head: Head<'t>,
+}
+
+impl<'t> Scan<'t> {
+    fn new(line: &'t str) -> Scan<'t> {
+        Scan {
+            place: Place::Start,
+            time: None,
+            process: "",
+            head: Head::new(line),
+        }
+    }
+
+    // The event whose name this word is, where one may stand.
+    fn event_at(self, word: &str) -> Option<&'static str> {
+        if self.place == Place::Head {
+            return None;
+        }
+        event_name(word)
+    }
+
+    fn event(self, name: &'static str, fields: &'t str) -> EventLine<'t> {
+        EventLine {
+            time: self.time,
+            process: self.process,
+            name,
+            fields,
+        }
+    }
+
+    // With one word more, with which the last so many bytes begin but for blanks. None where no event can follow.
+    fn after(self, word: &'t str, left: usize) -> Option<Scan<'t>> {
+        match self.place {
+            // (a difference to the line before, or the colon of a time that stands apart)
+            Place::Timed if word == ":" || word.starts_with("(+") => Some(self),
+            Place::Timed => None,
+            Place::Console => {
+                let process = word.trim_start_matches('[').trim_end_matches(']');
+                if process.len() == word.len() {
+                    return None;
+                }
+                Some(Scan { process, ..self })
+            }
+            Place::Start | Place::Head => Some(self.on(word, left)),
+        }
+    }
+
+    // The same before a time has come.
+    fn on(self, word: &'t str, left: usize) -> Scan<'t> {
+        if word == "kernel:" {
+            return Scan {
+                place: Place::Start,
+                ..self
+            };
+        }
+        if let Some(time) = time_of(word) {
+            return Scan {
+                place: Place::Timed,
+                time: Some(time),
+                process: self.head.process(),
+                ..self
+            };
+        }
+        match console_time(word) {
+            Some((time, process)) => Scan {
+                place: Place::Console,
+                time: Some(time),
+                process,
+                ..self
+            },
+            None => Scan {
+                place: Place::Head,
+                head: self.head.with(word, left),
+                ..self
+            },
+        }
+    }
+}
+
+/// The first word of a text, and what follows the blank after it.
 pub(crate) fn first_word(text: &str) -> Option<(&str, &str)> {
     let text = text.trim_start_matches([' ', '\t']);
     if text.is_empty() {
@@ -204,15 +256,21 @@ impl<'t> Head<'t> {
         }
     }
 
-    // One word more, with which the last so many bytes begin but for blanks.
-    fn take(&mut self, word: &str, left: usize) {
-        self.last = self.line.len().saturating_sub(left);
-        let number = word.strip_prefix('[').unwrap_or("").strip_suffix(']');
-        if let Some(number) = number
-            && !number.is_empty()
-            && are_digits(number)
-        {
-            self.processor = Some(self.last);
+    // With one word more.
+    fn with(self, word: &str, left: usize) -> Head<'t> {
+        let last = self.line.len().saturating_sub(left);
+        let is_processor = match word.strip_prefix('[').unwrap_or("").strip_suffix(']') {
+            Some(number) => !number.is_empty() && are_digits(number),
+            None => false,
+        };
+        Head {
+            processor: if is_processor {
+                Some(last)
+            } else {
+                self.processor
+            },
+            last,
+            ..self
         }
     }
 

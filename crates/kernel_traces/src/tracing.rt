@@ -1,5 +1,7 @@
 // Events put together into transfers.
 
+ghost use Rattle.std.specs.Prelude.{◌<◌, IfSome, vec_len};
+
 use crate::calls::segments_of;
 use crate::events::{Event, Protocol, Told, read_event};
 use crate::faults::{TraceError, Why};
@@ -216,14 +218,13 @@ impl Tracer {
 
     // All that goes on is not whole.
     fn forget(&mut self) {
-        for _ in 0..self.transfers.len() {
-            self.cut();
-        }
-        for call in self.calls.iter() {
-            if !call.is_made {
-                self.tallies.cut = self.tallies.cut.saturating_add(1);
-            }
-        }
+        // (a call that is made of transfers counts as these)
+        let calls = self.calls.iter().filter(|call| !call.is_made).count();
+        let open = self.transfers.len().saturating_add(calls);
+        self.tallies.cut = self
+            .tallies
+            .cut
+            .saturating_add(u64::try_from(open).unwrap_or(u64::MAX));
         self.transfers.clear();
         self.calls.clear();
     }
@@ -321,7 +322,9 @@ impl Tracer {
         )
     }
 
-    fn place_of(&self, number: Option<u32>) -> Option<usize> {
+    fn place_of(&self, number: Option<u32>) -> Option<usize>
+        ensures { IfSome result (λ place. place < vec_len self.now.transfers) }
+    {
         self.transfers
             .iter()
             .position(|open| open.who.number == number)
@@ -390,7 +393,9 @@ impl Tracer {
         )
     }
 
-    fn call_of(&self, number: Option<u32>) -> Option<usize> {
+    fn call_of(&self, number: Option<u32>) -> Option<usize>
+        ensures { IfSome result (λ place. place < vec_len self.now.calls) }
+    {
         self.calls.iter().position(|call| call.who.number == number)
     }
 
