@@ -387,13 +387,13 @@ here plan m ms s t e h = ((0, omega arith, refl), (t, e, h))
 
 not_in : (plan : Contents) (n : ℕ) (ms : List ℕ) (s : List Shown) (t : FrameTree) (m : ℕ) → slice_get (values_of plan.messages) n ≡ Some t → (SentBy t s → ⊥) →
     ((k : ℕ) → Contains ms k → MessageSends plan s k → ⊥) → Contains (n ∷ ms) m → MessageSends plan s m → ⊥
-not_in plan n ms s t m e no h (zero, l, i) sends =
+not_in plan n ms s t m e never h (zero, l, i) sends =
     let f : slice_get (values_of plan.messages) m ≡ Some t = subst (λ (k : ℕ). slice_get (values_of plan.messages) k ≡ Some t) i e in
-    no (subst (λ (x : FrameTree). SentBy x s) (let g : Some sends.0 ≡ Some t = sym sends.1 ∙ f in cc) sends.2)
-not_in plan n ms s t m e no h (suc k, l, i) sends = h m (k, omega (arith, l), i) sends
+    never (subst (λ (x : FrameTree). SentBy x s) (let g : Some sends.0 ≡ Some t = sym sends.1 ∙ f in cc) sends.2)
+not_in plan n ms s t m e never h (suc k, l, i) sends = h m (k, omega (arith, l), i) sends
 
 pub there : (plan : Contents) (n : ℕ) (ms : List ℕ) (s : List Shown) (t : FrameTree) (r : Option ℕ) → slice_get (values_of plan.messages) n ≡ Some t → (SentBy t s → ⊥) →
     MatchOption r ((m : ℕ) → Contains ms m → MessageSends plan s m → ⊥) (λ m. Contains ms m × MessageSends plan s m) →
     MatchOption r ((m : ℕ) → Contains (n ∷ ms) m → MessageSends plan s m → ⊥) (λ m. Contains (n ∷ ms) m × MessageSends plan s m)
-there plan n ms s t None e no h = λ m i sends. not_in plan n ms s t m e no h i sends
-there plan n ms s t (Some m) e no h = let i = h.0 in ((suc i.0, omega (arith, i.1), i.2), h.1)
+there plan n ms s t None e never h = λ m i sends. not_in plan n ms s t m e never h i sends
+there plan n ms s t (Some m) e never h = let i = h.0 in ((suc i.0, omega (arith, i.1), i.2), h.1)

@@ -29,16 +29,14 @@ read_sends count after _ = false
 
 abbrev mutual
   pub frame_sends : FrameTree → List Shown → Bool
-  frame_sends (write address acked refused) [] = true
+  frame_sends frame [] = true
   frame_sends (write address acked refused) (Sent b ∷ more) =
       never_split (write_header address) (pattern_bits b) && payload_sends acked more
   frame_sends (write address acked refused) (Refused b ∷ more) = never_split (write_header address) (pattern_bits b)
-  frame_sends (write address acked refused) _ = false
-  frame_sends (read address count after refused) [] = true
   frame_sends (read address count after refused) (Sent b ∷ more) =
       never_split (read_header address) (pattern_bits b) && read_sends count (tail_sends after) more
   frame_sends (read address count after refused) (Refused b ∷ more) = never_split (read_header address) (pattern_bits b)
-  frame_sends (read address count after refused) _ = false
+  frame_sends frame _ = false
 
   pub payload_sends : PayloadTree → List Shown → Bool
   payload_sends (byte bits acked refused) [] = true
@@ -49,9 +47,7 @@ abbrev mutual
   payload_sends (last tail) shown = tail_sends tail shown
 
   pub tail_sends : TailTree → List Shown → Bool
-  tail_sends stop [] = true
+  tail_sends tail [] = true
   tail_sends stop (Stop ∷ more) = true
-  tail_sends stop _ = false
-  tail_sends (again frame) [] = true
   tail_sends (again frame) (Again ∷ more) = frame_sends frame more
-  tail_sends (again frame) _ = false
+  tail_sends tail _ = false

@@ -25,6 +25,7 @@ pub fn message_sent(plan: &Plan, controller: u32, shown: &[Shown]) -> Option<u32
 }
 
 // The first of these messages that does.
+#[tactic(auto, using(crate::proofs::SendingLemmas::here, crate::proofs::SendingLemmas::there))]
 fn first_of(plan: &Plan, messages: &[u32], shown: &[Shown]) -> Option<u32>
     requires { All (λ m. m < length (plan_contents plan.now).messages) messages.now }
     ensures { MatchOption result

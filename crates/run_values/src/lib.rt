@@ -12,7 +12,7 @@ mod sources;
 
 pub use dumps::{device_of, halted, halted_by, open_dump};
 pub use endings::{
-    Ended, Findings, Halt, Mended, NoDrive, Recorded, RefusedSource, Takes, UnreadFile,
+    Ended, Findings, Halt, Mended, NoDrive, NoSender, Recorded, RefusedSource, Takes, UnreadFile,
 };
 pub use extras::{Extras, Style};
 pub use sources::{Sources, words_of};

@@ -14,8 +14,9 @@ use std::alloc::Global;
 use std::sync::Wait;
 use std::thread::Threads;
 use std::time::Clock;
+use trace_runs::{conform, learn_traces, learn_traces_with_names};
 
-/// Runs what was asked for, over what gives a plan or the only text, and a second text where there is one.
+/// Runs what was asked for, over what gives a plan or the only text, and a second text where there is one, or several.
 pub fn run_over<
     R: Eprint + AllocGlobal + Threads + Wait + Clock + Sync,
     I: Input,
@@ -25,7 +26,7 @@ pub fn run_over<
     rt: &R,
     errand: Errand<'_>,
     texts: &mut Sources<'_, I>,
-    second: &mut Option<J>,
+    seconds: &mut Vec<J>,
     out: &mut O,
 ) -> Result<Ended, Halt> {
     let (alloc, extras) = (rt.alloc(), errand.extras);
@@ -42,7 +43,7 @@ pub fn run_over<
         } => list_offers(rt, texts, out, workers, extras),
         Request::Mend { mend, .. } => take_offers(rt, texts, out, mend, extras),
         Request::Verify { explain, .. } => {
-            verify(alloc, texts, given(second)?, out, explain, extras)
+            verify(alloc, texts, given(seconds)?, out, explain, extras)
         }
         Request::Order { explain, .. } => order(rt, texts, out, explain, extras),
         Request::Bench {
@@ -50,17 +51,17 @@ pub fn run_over<
             play,
             ..
         } => bench_alone(rt, texts, out, play, extras),
-        Request::Bench { play, .. } => bench(rt, texts, given(second)?, out, play, extras),
+        Request::Bench { play, .. } => bench(rt, texts, given(seconds)?, out, play, extras),
         Request::Page {
             plan,
             capture: None,
             ..
         } => write_page_alone(rt, plan, texts, out),
         Request::Page { plan, bus, .. } => {
-            write_page_with(rt, plan, texts, given(second)?, out, bus)
+            write_page_with(rt, plan, texts, given(seconds)?, out, bus)
         }
         Request::Capture { capture, .. } => {
-            explain_capture(rt, texts, given(second)?, out, capture, style)
+            explain_capture(rt, texts, given(seconds)?, out, capture, style)
         }
         Request::Decode {
             names: None,
@@ -69,7 +70,7 @@ pub fn run_over<
             ..
         } => decode(alloc, texts.first()?, out, decoding, style, wave.is_some()),
         Request::Decode { decoding, wave, .. } => {
-            let vcd = given(second)?;
+            let vcd = given(seconds)?;
             decode_with_names(alloc, texts, vcd, out, decoding, style, wave.is_some())
         }
         Request::Signals { limits, .. } => list_signals(alloc, texts.first()?, out, limits, style),
@@ -79,8 +80,24 @@ pub fn run_over<
             ..
         } => learn(alloc, texts.first()?, out, lesson),
         Request::Learn { lesson, .. } => {
-            learn_with_names(alloc, texts, given(second)?, out, lesson)
+            learn_with_names(alloc, texts, given(seconds)?, out, lesson)
         }
+        Request::LearnTraces {
+            names: None,
+            lesson,
+            ..
+        } => learn_traces(alloc, texts.readers.as_mut_slice(), out, lesson),
+        Request::LearnTraces { lesson, .. } => {
+            learn_traces_with_names(alloc, texts, seconds.as_mut_slice(), out, lesson)
+        }
+        Request::Conform { conform: asked, .. } => conform(
+            alloc,
+            texts,
+            given(seconds)?,
+            out,
+            asked,
+            style,
+        ),
         Request::Rewrite { rewriting, .. } => rewrite(alloc, texts, out, rewriting),
     }
 }
@@ -111,8 +128,8 @@ pub fn run_once_more<I: Input, O: Output>(
 }
 
 // The second text, which a request that needs it names.
-fn given<I>(second: &mut Option<I>) -> Result<&mut I, Halt> {
-    match second {
+fn given<I>(seconds: &mut Vec<I>) -> Result<&mut I, Halt> {
+    match seconds.first_mut() {
         Some(second) => Ok(second),
         None => Err(Halt::Run(RunError::Read)),
     }
