@@ -16,11 +16,11 @@ has() {
 
 # ---- a small plan
 
-lines small.brief "brief 2" "device t 0x48 ;" "device e tenbit 0x2a5 ;" \
+lines small.brief "brief 2" "device t 0x48 ;" "device ten 0x7A ;" \
     "message set   write t 0x01 0x6X ;" "message get   write t 0x01 read t 1..2 ;" "message quick write t ;" \
-    "message call  write general 0x06 ;" "message far   write e any read e 2 ;" \
-    "message poll  write t 0x02 else again read t 1 ;" \
-    "controller main set get quick call far poll ;" "controller other quick ;"
+    "message call  write 0x00 0x06 ;" "message far   write ten 0xA5 any read ten 2 ;" \
+    "message poll  write t 0x02 else ( read t 1 ) ;" "message there write ten 0xA5 read ten 1 ;" \
+    "controller main set get quick call far poll there ;" "controller other quick ;"
 call expand small.brief
 ((status == 0)) || sed -n 1,3p err
 cp out small.plan
@@ -38,7 +38,8 @@ same "the messages by their places" "    main_message_set = 0,
     main_message_call = 3,
     main_message_far = 4,
     main_message_poll = 5, /* never answered: it goes on after a NACK */
-    main_messages = 6" "$(grep '^    main_message' main.h)"
+    main_message_there = 6,
+    main_messages = 7" "$(grep '^    main_message' main.h)"
 same "no line is wider than 100 columns" "" "$(grep '.\{101,\}' main.h)"
 
 call guard small.brief --controller main --table
@@ -57,6 +58,12 @@ call guard small.brief --controller man --hints always
 same "the nearest names" 1 "$(grep -c "'main'" err)"
 call guard small.brief --controller man --format json
 same "as an object" '{"kind":"refusal","code":"controller","controller":"man"' "$(grep -o '^{"kind":"refusal","code":"controller","controller":"man"' err out | sed 's/^[a-z]*://')"
+{
+    echo "brief 2"
+    for k in {16..225}; do printf 'message m%d write 0x50 0x%02x any*40 ;\n' "$k" "$k"; done
+    echo "controller main" m{16..225} ";"
+} >wide.brief
+expect "a table that is too large" 2 "" "refused guard main" guard wide.brief --controller main
 refuses "no controller is named" "'--controller <NAME>' is missing" guard small.brief
 echo old >main.h
 expect "a plan that is refused" 2 "" "refused P3 line 1" guard <(echo "plan 1 mess ;") --controller main -o main.h
@@ -93,7 +100,7 @@ ask() {
 
 if [[ -x guards ]]; then
     ask gcc small.plan main 200000 1
-    same "each message but the one that goes on after a NACK is answered" "-1 0 1 2 3 4" "$(sort -nu answers | xargs)"
+    same "each message but the one that goes on after a NACK is answered" "-1 0 1 2 3 4 6" "$(sort -nu answers | xargs)"
     ! has clang || ask clang small.plan main 50000 2
     "$twire" expand "$examples/shelf/board.brief" -o shelf.plan
     "$twire" expand "$examples/server_board.brief" -o server.plan
@@ -131,6 +138,7 @@ int main(void)
     ASK({0x2a5, TWIRE_TEN, 1, reset}, {0x2a5, TWIRE_TEN | TWIRE_READ, 2, NULL});
     ASK({0x2a5, TWIRE_TEN, 1, reset}, {0x7a, TWIRE_READ, 2, NULL});
     ASK({0x7a, 0, 2, word}, {0x7a, TWIRE_READ, 2, NULL});
+    ASK({0x2a5, TWIRE_TEN | TWIRE_READ, 1, NULL});
     ASK({0xc8, 0, 2, low});
     ASK({0x48, 0x40, 2, low});
     printf("%d\n", main_may_send(NULL, 0));
@@ -139,7 +147,43 @@ int main(void)
 C
     gcc "${warnings[@]}" -o hand hand.c >log 2>&1
     held "by hand" log
-    same "what is answered" "0 -1 1 -1 2 -1 3 -1 4 4 -1 -1 -1" "$(./hand)"
+    same "what is answered" "0 -1 1 -1 2 -1 3 -1 4 4 6 -1 -1 -1" "$(./hand)"
+fi
+
+# ---- the glue of docs/FIRMWARE.md, beside what it needs of other systems
+
+if has gcc; then
+    "$twire" guard "$examples/shelf/board.brief" --controller shmm_a -o shmm_a_guard.h
+    awk '/^```c$/ { inside = 1; k++; next } /^```/ { inside = 0 } inside { print >("glue" k ".c") }' "$top/docs/FIRMWARE.md"
+    rm -f glue1.c # (the names of a header)
+    glued=0
+    for glue in glue*.c; do
+        words=(-I. "-I$tests/guards/stubs")
+        if grep -q '<linux/i2c.h>' "$glue" && ! echo '#include <linux/i2c.h>' | gcc -E - >/dev/null 2>&1; then
+            echo "guard: no <linux/i2c.h>: its glue is left out"
+            continue
+        fi
+        # (a function that is not static has no prototype here, which no warning of these is about)
+        gcc "${warnings[@]}" "${words[@]}" -c -o glue.o "$glue" >log 2>&1
+        held "the glue $glue" log
+        glued=$((glued + 1))
+    done
+    same "all of it" 3 "$glued"
+    ! has g++ || { g++ -std=c++11 -pedantic -Wall -Wextra -Werror -x c++ -I. -c -o glue.o glue4.c >log 2>&1; held "in C++ too" log; }
+    cat >asks.c <<'C'
+#include "glue2.c"
+#include <stdio.h>
+int main(void)
+{
+    uint8_t channel[] = {0x05}, wide[] = {0x15};
+    struct i2c_msg one = {0x70, 0, 1, channel}, no = {0x70, 0, 1, wide}, len = {0x70, I2C_M_RD | I2C_M_RECV_LEN, 1, wide};
+    printf("%d %d %d\n", may_transfer(&one, 1), may_transfer(&no, 1), may_transfer(&len, 1));
+    return 0;
+}
+C
+    if gcc -std=c99 -I. -o asks asks.c >log 2>&1; then
+        same "of Linux: a channel of the mux, two that there are not" "$(sed -n 's/.*shmm_a_message_channel = \([0-9]*\),.*/\1/p' shmm_a_guard.h) -1 -1" "$(./asks)"
+    fi
 fi
 
 # ---- how large it is

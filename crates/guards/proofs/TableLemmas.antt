@@ -87,14 +87,14 @@ states_more lists keys new more states all state h e f positive within here =
       each = λ n depth live s some key at. elim (cases_order n (length states)) [
         | inl same ↦
             let old : slice_get (map key_of keys) (length states) ≡ Some (depth, live) =
-              subst (λ (k : ℕ). slice_get (map key_of keys) k ≡ Some (depth, live)) same (key_before keys new more n depth live e (omega arith) key) in
+            subst (λ (k : ℕ). slice_get (map key_of keys) k ≡ Some (depth, live)) same (key_before keys new more n depth live e (omega arith) key) in
             let it : state ≡ s = same_Some state s (sym (slice_get-push states state) ∙ subst (λ (k : ℕ). slice_get (states ++ state ∷ []) k ≡ Some s) same at) in
             subst (λ (t : State). IsState lists (map key_of new) depth live t) it (here depth live old)
         | inr other ↦ elim other [
-            | inl lt ↦ state_later lists keys new more e depth live s
-                (h.each n depth live s some (key_before keys new more n depth live e (omega arith) key) (sym (slice_get-append_left states (state ∷ []) n lt) ∙ at))
-            | inr gt ↦ absurd (omega (arith, gt, slice_get_within (states ++ state ∷ []) n s at, length_push states state))
-          ]
+          | inl lt ↦ state_later lists keys new more e depth live s
+              (h.each n depth live s some (key_before keys new more n depth live e (omega arith) key) (sym (slice_get-append_left states (state ∷ []) n lt) ∙ at))
+          | inr gt ↦ absurd (omega (arith, gt, slice_get_within (states ++ state ∷ []) n s at, length_push states state))
+        ]
       ];
     })
 
@@ -111,7 +111,7 @@ table_right plan messages lists n states e len h segments fits =
     let word = word_of segments in
     let q : ℕ → Bool = λ m. passes_from (letters_at lists m) 0 word in
     let same : (j m : ℕ) → slice_get messages j ≡ Some m → q (0 + j) ≡ message_sends plan segments m = λ j m at.
-      let here : slice_get lists j ≡ Some (message_letters plan m) =
-        ap (λ (ls : List (List Letter)). slice_get ls j) e ∙ (slice_get-map (message_letters plan) messages j ∙ ap (option_map (message_letters plan)) at) in
-      ap q (omega arith) ∙ (ap (λ (found : Option (List Letter)). passes_from (unwrap_or found []) 0 word) here ∙ message_same (slice_get _ m) segments fits) in
+    let here : slice_get lists j ≡ Some (message_letters plan m) =
+    ap (λ (ls : List (List Letter)). slice_get ls j) e ∙ (slice_get-map (message_letters plan) messages j ∙ ap (option_map (message_letters plan)) at) in
+    ap q (omega arith) ∙ (ap (λ (found : Option (List Letter)). passes_from (unwrap_or found []) 0 word) here ∙ message_same (slice_get _ m) segments fits) in
     h word (word_fits segments fits) ∙ (ap (λ (k : ℕ). find q (range_with_len 0 k)) len ∙ find_place q (message_sends plan segments) messages 0 same)

@@ -41,7 +41,7 @@ passes_after before (letter ∷ rest) (b ∷ word) =
     let longer : length (before ++ letter ∷ []) ≡ length before + 1 = length-append before (letter ∷ []) in
     let same : before ++ letter ∷ [] ++ rest ≡ before ++ letter ∷ rest = append_assoc before (letter ∷ []) rest in
     let moved : passes_from (before ++ letter ∷ rest) (length before + 1) word ≡ match_all rest word =
-      sym (ap (λ letters. passes_from letters (length before + 1) word) same) ∙ (sym (ap (λ k. passes_from (before ++ letter ∷ [] ++ rest) k word) longer) ∙ later) in
+    sym (ap (λ letters. passes_from letters (length before + 1) word) same) ∙ (sym (ap (λ k. passes_from (before ++ letter ∷ [] ++ rest) k word) longer) ∙ later) in
     ap (λ found. letter_takes found b && passes_from (before ++ letter ∷ rest) (length before + 1) word) (get_after before letter rest) ∙ ap (λ t. takes letter b && t) moved
 
 pub passes_all : (letters : List Letter) (word : List ℕ) → passes_from letters 0 word ≡ match_all letters word
@@ -92,7 +92,7 @@ mutual
       let header = takes_byte (write_header address) (2 * target) (omega (arith, here.0)) in
       ap (λ t. is_stop refused && payload_ends acked && (t && match_all (payload_letters acked) (bytes ++ 256 ∷ word_of segments))) header
       ∙ reordered (payload_ends acked) (is_stop refused) (agrees (write_header address) (2 * target)) _ _
-        (payload_same acked bytes segments here.1 (All-tail IsSegment (write_to target bytes) segments h))
+      (payload_same acked bytes segments here.1 (All-tail IsSegment (write_to target bytes) segments h))
   frame_same (write address acked refused) (read_from target n ∷ segments) h =
       none_of _ _ _ (and_right _ _ (agrees_last (address_bits address) Zero (2 * target + 1) (rw (lowest_odd target) refl)))
   frame_same (read address count after refused) [] h = and_right _ _ refl
@@ -103,16 +103,16 @@ mutual
       let header = takes_byte (read_header address) (2 * target + 1) (omega (arith, here.0)) in
       ap (λ t. is_stop refused && tail_ends after && (t && (takes (Between (least_of count) (greatest_of count)) n && match_all (tail_letters after) (word_of segments)))) header
       ∙ reordered_count (tail_ends after) (is_stop refused) (agrees (read_header address) (2 * target + 1)) _ _ _
-        (tail_same after segments (All-tail IsSegment (read_from target n) segments h))
+      (tail_same after segments (All-tail IsSegment (read_from target n) segments h))
 
   payload_same : (payload : PayloadTree) (bytes : List ℕ) (segments : List Segment) → All (λ b. b < 256) bytes → All IsSegment segments →
       (payload_ends payload && match_all (payload_letters payload) (bytes ++ 256 ∷ word_of segments)) ≡ payload_sends payload bytes segments
   payload_same (byte bits acked refused) [] segments small h = and_right _ _ refl
   payload_same (byte bits acked refused) (b ∷ bytes) segments small h =
       ap (λ t. is_stop refused && payload_ends acked && (t && match_all (payload_letters acked) (bytes ++ 256 ∷ word_of segments)))
-        (takes_byte (pattern_bits bits) b (All-head (λ k. k < 256) b bytes small))
+      (takes_byte (pattern_bits bits) b (All-head (λ k. k < 256) b bytes small))
       ∙ reordered (payload_ends acked) (is_stop refused) (agrees (pattern_bits bits) b) _ _
-        (payload_same acked bytes segments (All-tail (λ k. k < 256) b bytes small) h)
+      (payload_same acked bytes segments (All-tail (λ k. k < 256) b bytes small) h)
   payload_same (last tail) [] segments small h = tail_same tail segments h
   payload_same (last tail) (b ∷ bytes) segments small h =
       and_right (tail_ends tail) _ (and_left _ _ (and_left _ _ (lt-leb 256 b (All-head (λ k. k < 256) b bytes small))))
@@ -150,7 +150,7 @@ word_fits (write_to address bytes ∷ segments) h =
     let rest = word_fits segments (All-tail IsSegment (write_to address bytes) segments h) in
     All-cons (λ b. b < 257) (2 * address) (bytes ++ 256 ∷ word_of segments) (omega (arith, here.0))
     (All-append (λ b. b < 257) bytes (256 ∷ word_of segments) (All-weaker (λ b. b < 256) (λ b. b < 257) (λ b lt. omega (arith, lt)) bytes here.1)
-      (All-cons (λ b. b < 257) 256 (word_of segments) (omega arith) rest))
+    (All-cons (λ b. b < 257) 256 (word_of segments) (omega arith) rest))
 word_fits (read_from address count ∷ segments) h =
     let here = All-head IsSegment (read_from address count) segments h in
     let rest = word_fits segments (All-tail IsSegment (read_from address count) segments h) in

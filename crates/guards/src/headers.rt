@@ -1,5 +1,7 @@
 // A table as a header for a compiler of C99.
 
+ghost use Rattle.std.specs.Prelude.{◌<◌};
+
 use crate::letters::{END, sends_segments};
 use crate::tables::{Edge, State, Table};
 use growing_text::Text;
@@ -169,7 +171,9 @@ fn push_firsts(text: &mut Text, name: &str, states: &[State]) {
 }
 
 fn push_entries(text: &mut Text, name: &str, entries: &[Entry]) {
-    text.push("\n/* A number from least to greatest leads to next. {1, 0, next} leads on after the bytes of\n");
+    text.push(
+        "\n/* A number from least to greatest leads to next. {1, 0, next} leads on after the bytes of\n",
+    );
     text.push("   a write, and {2, 0, message} is the answer where the transfer ends. */\n");
     text.push("static const struct { uint8_t least, greatest; uint16_t next; } ");
     text.push(name);

@@ -119,10 +119,7 @@ fn push_frame(letters: &mut Vec<Letter>, frame: &Frame) -> Result<(), AllocError
             ..
         } => {
             letters.push(Letter::Like(address.header(Bit::One)))?;
-            letters.push(Letter::Between(
-                count.least() as u16,
-                count.greatest() as u16,
-            ))?;
+            letters.push(Letter::Between(count.least() as u16, count.greatest() as u16))?;
             push_tail(letters, after)
         }
     }

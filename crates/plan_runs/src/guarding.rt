@@ -28,11 +28,7 @@ pub fn guard<I: Input, O: Output>(
         return Err(Halt::Unguarded(Unguarded::NoController(names)));
     };
     match header_for(alloc, &given.plan, controller, messages.as_slice(), alone)? {
-        Some(header) => Ok(Ended::quietly(write_lines(
-            out,
-            header.as_bytes(),
-            Status::Good,
-        )?)),
+        Some(header) => Ok(Ended::quietly(write_lines(out, header.as_bytes(), Status::Good)?)),
         None => Err(Halt::Unguarded(Unguarded::TooLarge)),
     }
 }

@@ -7,7 +7,9 @@ use dump_runs::{
 };
 use files::Form;
 use page_runs::{write_page_alone, write_page_with};
-use plan_runs::{bench, bench_alone, check, guard, list_offers, order, rewrite, take_offers, verify};
+use plan_runs::{
+    bench, bench_alone, check, guard, list_offers, order, rewrite, take_offers, verify,
+};
 use run_ends::Errand;
 use run_parts::{Input, Output, RunError};
 use run_values::{Ended, Halt, Sources};

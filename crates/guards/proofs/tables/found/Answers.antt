@@ -13,6 +13,8 @@ returns-then-eq c =
     let at = slice_get_read keys (length keys) (c.loop-n.n - 1) key refl (omega arith) c.index-keys-n.is in
     let depth : key.depth ≡ c.args.depth = c.if-key-depth.false in
     let live : key.live.items ≡ c.args.live.now =
-      sym c.as_slice.ensures.value ∙ (slice_eq-Decides Decides-eqb c.as_slice.result.now c.args.live.now c.eq.result c.eq.ensures).0 c.if-eq.true in
-    (omega arith, slice_get-map key_of keys (c.loop-n.n - 1) ∙ (ap (option_map key_of) at
-        ∙ (ap (λ (d : ℕ). Some (d, key.live.items)) depth ∙ ap (λ (l : List ℕ). Some (c.args.depth, l)) live)))
+    sym c.as_slice.ensures.value ∙ (slice_eq-Decides Decides-eqb c.as_slice.result.now c.args.live.now c.eq.result c.eq.ensures).0 c.if-eq.true in (
+      omega arith,
+      slice_get-map key_of keys (c.loop-n.n - 1) ∙ (ap (option_map key_of) at
+          ∙ (ap (λ (d : ℕ). Some (d, key.live.items)) depth ∙ ap (λ (l : List ℕ). Some (c.args.depth, l)) live)),
+    )

@@ -13,11 +13,11 @@ loop-b-preserved c =
     let held = c.loop-b.invariant in
     let more = c.in_ok-n.ensures.keys in
     let here : LeadsTo (map key_of new) c.in_ok-n.n (c.args.depth + 1) (next_live lists c.args.live.now c.args.depth c.loop-b.b) =
-      subst (λ (live : List ℕ). LeadsTo (map key_of new) c.in_ok-n.n (c.args.depth + 1) live) c.in_ok-next.ensures c.in_ok-n.ensures.place in
-    ( ap length c.in_ok-push.ensures.items ∙ (length_push c.loop-b.row.items c.in_ok-n.n ∙ ap (λ (n : ℕ). n + 1) held.0)
-    , row_more lists c.loop-b.keys.items new more.0 c.args.live.now c.loop-b.row.items c.push.new.self.items c.args.depth c.loop-b.b c.in_ok-n.n
-        held.0 held.1 more.1 here c.in_ok-push.ensures.items
-    , (held.2.0 ++ more.0, more.1 ∙ (ap (λ (ks : List Key). ks ++ more.0) held.2.1 ∙ append_assoc c.args.keys.now.items held.2.0 more.0))
-    , omega arith
-    , c.in_ok-n.ensures.few
+    subst (λ (live : List ℕ). LeadsTo (map key_of new) c.in_ok-n.n (c.args.depth + 1) live) c.in_ok-next.ensures c.in_ok-n.ensures.place in (
+      ap length c.in_ok-push.ensures.items ∙ (length_push c.loop-b.row.items c.in_ok-n.n ∙ ap (λ (n : ℕ). n + 1) held.0),
+      row_more lists c.loop-b.keys.items new more.0 c.args.live.now c.loop-b.row.items c.push.new.self.items c.args.depth c.loop-b.b c.in_ok-n.n
+          held.0 held.1 more.1 here c.in_ok-push.ensures.items,
+      (held.2.0 ++ more.0, more.1 ∙ (ap (λ (ks : List Key). ks ++ more.0) held.2.1 ∙ append_assoc c.args.keys.now.items held.2.0 more.0)),
+      omega arith,
+      c.in_ok-n.ensures.few,
     )

@@ -14,16 +14,16 @@ loop-alloc-preserved c =
     let new = c.state_of.new.keys.items in
     let held = c.loop-alloc.invariant in
     let more = c.in_ok-state.ensures.keys in
-    let number : c.len-n.result ≡ length c.loop-alloc.states.items = omega arith in
-    ( omega arith
-    , omega arith
-    , omega arith
-    , c.in_ok-state.ensures.few
-    , key_later keys new more.0 1 0 (range_with_len 0 (length c.args.lists.now)) more.1 held.4
-    , states_more lists keys new more.0 c.loop-alloc.states.items c.push-in-loop-alloc.new.self.items c.in_ok-state.state held.5 more.1
-        c.in_ok-push-2.ensures.items (omega arith) (omega arith)
-        (λ depth live at. c.in_ok-state.ensures.state depth live
-          (subst (λ (k : ℕ). slice_get (map key_of keys) k ≡ Some (depth, live)) (sym number) at))
+    let number : c.len-n.result ≡ length c.loop-alloc.states.items = omega arith in (
+      omega arith,
+      omega arith,
+      omega arith,
+      c.in_ok-state.ensures.few,
+      key_later keys new more.0 1 0 (range_with_len 0 (length c.args.lists.now)) more.1 held.4,
+      states_more lists keys new more.0 c.loop-alloc.states.items c.push-in-loop-alloc.new.self.items c.in_ok-state.state held.5 more.1
+          c.in_ok-push-2.ensures.items (omega arith) (omega arith)
+          (λ depth live at. c.in_ok-state.ensures.state depth live
+          (subst (λ (k : ℕ). slice_get (map key_of keys) k ≡ Some (depth, live)) (sym number) at)),
     )
 
 pub returns : goal.returns

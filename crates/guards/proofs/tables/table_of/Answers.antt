@@ -13,5 +13,5 @@ returns c = λ segments fits.
     let lists = c.deref.result.now in
     let same : map vec_items lists ≡ map (message_letters plan) messages = ap (map vec_items) c.deref.ensures.value ∙ c.in_ok-lists.ensures in
     let many : length lists ≡ length messages =
-      sym (length-map lists vec_items) ∙ (ap length same ∙ length-map messages (message_letters plan)) in
+    sym (length-map lists vec_items) ∙ (ap length same ∙ length-map messages (message_letters plan)) in
     table_right plan messages (map vec_items lists) (length lists) c.in_ok-states.states.items same many (λ word f. c.in_ok-states.ensures word f) segments fits
