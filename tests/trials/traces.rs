@@ -38,23 +38,23 @@ fn compare(desk: &mut Desk, number: u64, dice: &mut Dice) -> io::Result<Option<D
 // Messages of many shapes. In a plan what is not acknowledged has its end written out: here a STOP.
 fn plan() -> String {
     let messages = [
-        ("set", "write 1001000 00000001 0110XXXX"),
+        ("set", "write 1001000 00000001 0110xxxx"),
         ("get", "write 1001000 00000001 again read 1001000 2"),
         ("few", "read 1010000 1..4"),
         ("ten", "write 1111010 10100101 00010000"),
         ("ten_read", "write 1111010 10100101 again read 1111010 3"),
         ("quick", "write 1010001"),
-        ("block", "write 0101100 00000011 00000010 XXXXXXXX XXXXXXXX"),
+        ("block", "write 0101100 00000011 00000010 xxxxxxxx xxxxxxxx"),
         ("block_read", "write 0101100 00000011 again read 0101100 1..33"),
-        ("coded", "write 0101100 00000101 00010001 XXXXXXXX"),
+        ("coded", "write 0101100 00000101 00010001 xxxxxxxx"),
         ("word", "write 0101100 00000110 00110100 00010010"),
     ];
-    let mut plan = "plan 1\n".to_owned();
+    let mut plan = "plan 2\n".to_owned();
     for (name, parts) in messages {
         let answers = parts.split(' ').filter(|part| part.len() > 6).count();
         plan += &format!("message {name} {parts} stop{} ;\n", " else stop".repeat(answers));
     }
-    let long = " XXXXXXXX".repeat(80);
+    let long = " xxxxxxxx".repeat(80);
     plan += &format!("message long write 1010000 00000000{long} stop{} ;\n", " else stop".repeat(82));
     plan + "controller a set get few ten ten_read quick block block_read coded word long ;\ncontroller b few ;\n"
 }
