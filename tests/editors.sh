@@ -52,7 +52,7 @@ END
     (($(grep -c '^ok \|^FAILED' neovim) == 14)) || { fails "Neovim did not come to the end:" && cat neovim.err; }
 
     # By the guide's text there is one server for all buffers, also where one of them is read again.
-    sed -n '/^\*\*Neovim\*\*/,/^\*\*Vim\*\*/s/^    //p' "$top/docs/GUIDE.md" | sed "s|/path/to/twire|$top|" >init.lua
+    sed -n '/^\*\*Neovim\*\*/,/^\*\*Vim\*\*/s/^    //p' "$top/docs/EDITOR.md" | sed "s|/path/to/twire|$top|" >init.lua
     cp bus.brief other.brief
     mkdir bin
     ln -s "$twire" bin/twire
