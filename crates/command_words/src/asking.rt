@@ -71,6 +71,8 @@ const NO_STARTERS: Fault =
 
 const NOT_BITS: Fault = "the value for '--answers <BITS>' is not of 0 and 1";
 
+const NO_CAPTURE: Fault = "'--drives' goes with '--capture <VCD>'";
+
 const NO_FILE: Fault = "'--wave' wants a file, since the report goes to standard output";
 
 const NOT_TIMED: Fault = "the argument '--timing' cannot be used with '--wave <FILE>'";
@@ -578,10 +580,15 @@ fn learn_of<'a>(matches: &ArgMatches<'a>) -> Result<Request<'a>, Fault> {
 }
 
 fn page_of<'a>(matches: &ArgMatches<'a>) -> Result<Request<'a>, Fault> {
+    let capture = matches.get_str("capture");
+    if capture.is_none() && matches.get_strs("drives").is_some() {
+        return Err(NO_CAPTURE);
+    }
     Ok(Request::Page {
         plan: word(matches, "PLAN"),
-        capture: matches.get_str("capture"),
+        capture,
         bus: options_of(matches)?.bus_or_only(),
+        drives: pulling_of(matches),
         output: output_of(matches),
     })
 }

@@ -29,6 +29,8 @@ pub enum Request<'a> {
         plan: &'a str,
         capture: Option<&'a str>,
         bus: Bus<'a>,
+        /// The lines of controllers that are followed.
+        drives: Drives<'a>,
         output: Option<&'a str>,
     },
     /// Who wins arbitration.
@@ -255,6 +257,19 @@ impl<'a> Request<'a> {
                     output,
                 }
             }
+            Request::Page {
+                plan,
+                capture,
+                bus,
+                drives,
+                output,
+            } => Request::Page {
+                plan,
+                capture,
+                bus,
+                drives: Drives { all, ..drives },
+                output,
+            },
             _ => self,
         }
     }
@@ -298,6 +313,7 @@ impl<'a> Request<'a> {
         match self {
             Request::Capture { capture, .. } => capture.drives.all.get(number).copied(),
             Request::Learn { lesson, .. } => lesson.drives.all.get(number).copied(),
+            Request::Page { drives, .. } => drives.all.get(number).copied(),
             _ => None,
         }
     }

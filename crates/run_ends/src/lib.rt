@@ -17,7 +17,7 @@ mod voices;
 
 pub use boards::{FailedText, TextReader, Texts, read_texts, rewind_first};
 pub use errands::{BoardNames, Errand};
-pub use finishing::finish;
+pub use finishing::{Sheets, finish};
 pub use inputs::{Inputs, OpenFiles, open_files};
 pub use made_dumps::{SecondText, read_second};
 pub use voices::refused;

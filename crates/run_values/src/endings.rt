@@ -24,10 +24,21 @@ use verdicts::Checked;
 pub struct Ended {
     pub status: Status,
     pub findings: Findings,
-    /// What goes into the file for waves, where there is one, or why nothing does.
-    pub wave: Option<Result<String, NoWaves>>,
+    /// What goes into the file for waves, where there is one.
+    pub wave: Option<Waves>,
     /// The texts of its plan with the offers that were taken, where such were.
     pub mended: Option<Mended>,
+}
+
+/// The waves of a run that was to have some.
+#[derive(Drop)]
+pub enum Waves {
+    /// They are to be written.
+    Text(String),
+    /// They were written as a dump was read, or why not all of them were.
+    Drawn(Result<(), RunError>),
+    /// There are none.
+    Missing(NoWaves),
 }
 
 /// Texts with edits that mend the plan which they give.

@@ -1,20 +1,19 @@
 // Dumps that have for each controller what it pulls itself.
 
+use crate::dumps::open_dump;
+use crate::endings::{Halt, NoDrive};
 use brief_tokens::is_brief_word;
-use capture_check::Beside;
-use decoding::{Ending, TransactionSink};
 use drives::{Drivers, Judging};
 use dump_tokens::{Bus, Drives, Quiet};
 use plan_core::{Name, NameError, Participant, Plan};
 use plan_words::PlanWords;
 use run_parts::{Input, RunError};
-use run_values::{Halt, NoDrive, open_dump};
 use signals::{Dump, Sought};
 use std::alloc::{AllocError, Global};
 
 /// The dump, with the lines of these controllers. That one has no signal is refused where SCL and SDA have theirs, since else
 /// that comes first.
-pub(crate) fn open_driven<'v, 'a, J: Input>(
+pub fn open_driven<'v, 'a, J: Input>(
     alloc: Global,
     vcd: &'v mut J,
     bus: Bus<'a>,
@@ -47,7 +46,7 @@ fn sought<'a>(alloc: Global, drives: Drives<'a>) -> Result<Vec<Sought<'a>>, Allo
 
 /// The lines of these controllers, before the dump is read on, of which short levels are left out or not. None where there are
 /// none.
-pub(crate) fn drivers_of(alloc: Global, drives: Drives<'_>, quiet: Quiet) -> Option<Drivers> {
+pub fn drivers_of(alloc: Global, drives: Drives<'_>, quiet: Quiet) -> Option<Drivers> {
     if drives.is_empty() {
         return None;
     }
@@ -55,24 +54,9 @@ pub(crate) fn drivers_of(alloc: Global, drives: Drives<'_>, quiet: Quiet) -> Opt
     Some(Drivers::new(alloc, drives.all.len(), drives.pulling, lags))
 }
 
-/// Hands the transactions of the dump on, beside who is there.
-pub(crate) fn decode_with<J: Input, S: TransactionSink, B: Beside>(
-    alloc: Global,
-    dump: &mut Dump<'_, '_, J>,
-    sink: &mut S,
-    beside: &mut Option<B>,
-) -> Result<Ending, RunError>
-    requires { S.needs }
-{
-    match beside {
-        Some(beside) => dump.decode_beside(alloc, sink, beside),
-        None => dump.decode(alloc, sink),
-    }
-}
-
 /// Refuses a line that is SDA itself, or that pulls it where it is HIGH, once the dump has been read. The first one that cannot
 /// be told apart from SDA.
-pub(crate) fn refuse_others(drivers: &Option<Drivers>) -> Result<Option<usize>, Halt> {
+pub fn refuse_others(drivers: &Option<Drivers>) -> Result<Option<usize>, Halt> {
     let Some(drivers) = drivers else {
         return Ok(None);
     };
@@ -90,7 +74,7 @@ pub(crate) fn refuse_others(drivers: &Option<Drivers>) -> Result<Option<usize>, 
 }
 
 /// Holds what the controllers do against the plan.
-pub(crate) fn judging_of<'a>(
+pub fn judging_of<'a>(
     alloc: Global,
     drives: Drives<'a>,
     plan: &Plan,
@@ -133,11 +117,7 @@ fn is_called(plan: &Plan, words: PlanWords<'_>, controller: u32, name: &str) -> 
 }
 
 /// Refuses a controller that the plan does not have.
-pub(crate) fn refuse_unknown(
-    alloc: Global,
-    words: PlanWords<'_>,
-    drives: Drives<'_>,
-) -> Result<(), Halt> {
+pub fn refuse_unknown(alloc: Global, words: PlanWords<'_>, drives: Drives<'_>) -> Result<(), Halt> {
     for (number, drive) in drives.all.iter().enumerate() {
         if !has_controller(words, drive.controller) {
             let names = names_of(alloc, words)?;
@@ -174,7 +154,7 @@ fn has_name(names: &[String], name: &str) -> bool {
 }
 
 /// Refuses a controller that a brief cannot have.
-pub(crate) fn refuse_no_names(alloc: Global, drives: Drives<'_>) -> Result<(), Halt> {
+pub fn refuse_no_names(alloc: Global, drives: Drives<'_>) -> Result<(), Halt> {
     for (number, drive) in drives.all.iter().enumerate() {
         match Name::new(alloc, drive.controller) {
             Ok(_) if !is_brief_word(drive.controller) => {}
