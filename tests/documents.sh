@@ -206,7 +206,7 @@ phrases() {
 stumbling="of several the first|\band of several\b|as for [a-z]+ where|\bone an? (line|byte|row|page)\b|\bso many more\b|\bis there for\b"
 stumbling+="|\bby so many\b|\bcan be had\b|\bwant of memory\b|\bnobody looks at\b|\bis no (fingerprint|frequency|proof|page)\b"
 stumbling+="|\b(mends|mended|mending)\b[^.]|\btold apart\b|\bsome [0-9]+ (lines|minutes|seconds|bytes)\b|\bhave it that\b|\ball but\b"
-for page in "${for_users[@]}"; do
+for page in "${for_users[@]}" "${rules[@]}" "${others[@]}"; do
     same "$page: phrases to write otherwise" "" "$(phrases "$page" "$stumbling")"
 done
 printf '%s\n' "It takes some 65 minutes, and of several the first" "is shown. \`mended\`" "" "    mended" >"$work/sample"
