@@ -101,7 +101,7 @@ done
 same "zsh: options that may be given again" "--drives --with" \
     "$(sed -n "s/^ *'\*\(--[^[]*\)\[.*/\1/p" _twire | LC_ALL=C sort -u | paste -sd ' ')"
 same "zsh: files of --with" "$(grep -c "'--with\|'\*--with" _twire)" "$(grep -c "'\*--with\[.*:FILE:_files'" _twire)"
-same "zsh: the levels of --pulls" 2 "$(grep -c "'--pulls\[.*:LEVEL:(0 1)'" _twire)"
+same "zsh: the levels of --pulls" 3 "$(grep -c "'--pulls\[.*:LEVEL:(0 1)'" _twire)"
 same "zsh: the first line for twire-verify" "#compdef twire-verify" "$(head -n 1 _twire-verify)"
 if type -P zsh >/dev/null; then
     same "what zsh finds wrong" "" "$(zsh -n _twire 2>&1)$(zsh -n _twire-verify 2>&1)"

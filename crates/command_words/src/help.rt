@@ -324,9 +324,9 @@ With '--format csv' each byte is a row: when it begins and ends, whether it is
 number of its transaction.
 
 With '--timing' lines below each say its rate and its longest LOW of SCL; with
-'--mode' also which times are less than the mode wants (UM10204, table 10). Above
-the last line stands which line was stuck LOW, and after how many clocks it was
-not:
+'--mode' also which times are less than the mode wants (UM10204, table 10).
+Above the last line stands which line was stuck LOW, and after how many clocks
+it was not:
 
   twire decode bus.vcd --timing --mode fast
 
@@ -379,6 +379,25 @@ Examples:
 
 Exit status: 0 listed, 2 refused.";
 
+pub const AFTER_CONFORM_HELP: &str = "\
+The trace is what the Linux kernel's I2C and SMBus events say, as text: of
+/sys/kernel/tracing/trace or trace_pipe, 'trace-cmd report', 'perf script', or
+the console with tp_printk. Each transfer has to be a message that the plan lets
+this controller send: whole where all was acknowledged, and else up to what was
+not. One that is none is told with the message that comes nearest:
+
+  45.123456 i2cset-123 S 48 Wr A 02 A P: no message of bmc, nearest set up to
+  S 48 Wr A
+
+(on one line). Then each message has a line with how often it was sent, and the
+last line says 'bmc keeps to the plan in N transfers', or in how many of them it
+departs. Transfers that failed otherwise are counted, and not judged.
+
+  trace-cmd stream -e i2c | twire conform board.brief --sender bmc - --live
+
+Exit status: 0 it keeps to the plan, 1 it does not, 2 refused.
+";
+
 pub const AFTER_LEARN_HELP: &str = "\
 The brief has a message for each different sequence of bytes that was seen, and
 one controller, 'seen', that lists them all. Above each message stand comments:
@@ -412,6 +431,10 @@ among controllers. Where a dump has what each controller pulls itself, this
 shares them out:
 
   --drives bmc=top.bmc.sda_o --drives pch=top.pch.sda_o
+
+With '--sender' it is learned from the kernel's traces, one for each controller:
+
+  twire learn --sender bmc bmc.txt --sender pch pch.txt -o board.brief
 
 Expanded by 'twire expand', it explains the capture that it was learned from,
 except for transactions that no message can have, which comments count.
@@ -467,6 +490,37 @@ Example:
   twire print bus.plan -o canonical.plan
 
 Exit status: 0 written, 2 refused.";
+
+pub const AFTER_GUARD_HELP: &str = "\
+The header has the messages that the controller may send as an enum, a table of
+them in two constant arrays, and a function for the driver to ask before it
+sends. For a controller 'bmc' with a message 'set' that is
+
+  enum bmc_message { bmc_message_set = 0, bmc_messages = 1 };
+  int bmc_may_send(const struct twire_segment *segments, size_t count);
+
+and the function answers the message that the segments are, or -1. A segment is
+what is sent from a START or a repeated START on:
+
+  struct twire_segment {
+      uint16_t address;  uint8_t flags;  uint16_t length;  const uint8_t *data;
+  };
+
+The flags are TWIRE_READ, and TWIRE_TEN for an address of ten bits. The function
+reads each byte once, however many messages there are. It allocates nothing, and
+the header needs C99, <stddef.h> and <stdint.h> alone. Include it in one file.
+
+A driver that sends segments ends with a STOP after a byte that is not
+acknowledged. So no segments are a message that goes on after one, as by 'else
+again': the header says so beside its name.
+
+docs/GUARD.md has the rules, and docs/FIRMWARE.md how to build it into drivers of
+Linux, Zephyr and others.
+
+Exit status:
+  0  the header was written
+  2  refused, as 'refused controller NAME' for one that the plan does not have,
+     and 'refused guard NAME' for one whose table would be too large";
 
 pub const AFTER_EXPAND_HELP: &str = "\
 brief 1

@@ -63,8 +63,12 @@ impl<'a> Errand<'a> {
             | Request::Page { .. }
             | Request::Order { .. }
             | Request::Capture { .. }
+            | Request::Guard { .. }
+            | Request::Conform { .. }
             | Request::Bench { .. } => true,
-            Request::Learn { names, .. } | Request::Decode { names, .. } => names.is_some(),
+            Request::Learn { names, .. }
+            | Request::LearnTraces { names, .. }
+            | Request::Decode { names, .. } => names.is_some(),
             Request::Signals { .. } => false,
             Request::Rewrite { rewriting, .. } => match rewriting {
                 Rewriting::Expand | Rewriting::Certify | Rewriting::Print => true,
@@ -88,8 +92,14 @@ impl<'a> Errand<'a> {
             | Request::Page { plan, .. }
             | Request::Order { plan, .. }
             | Request::Capture { plan, .. }
+            | Request::Guard { plan, .. }
+            | Request::Conform { plan, .. }
             | Request::Bench { plan, .. } => named("PLAN", "plan", plan),
             Request::Learn {
+                names: Some(names),
+                ..
+            }
+            | Request::LearnTraces {
                 names: Some(names),
                 ..
             }
@@ -97,6 +107,7 @@ impl<'a> Errand<'a> {
                 names: Some(names),
                 ..
             } => named("--names", "brief", names),
+            Request::LearnTraces { .. } => named("--sender", "trace", self.trace(0)),
             Request::Decode { vcd, .. }
             | Request::Signals { vcd, .. }
             | Request::Learn { vcd, .. } => named("VCD", "capture", vcd),
@@ -116,10 +127,10 @@ impl<'a> Errand<'a> {
             first,
             further: self.further,
             // (those of a command that takes briefs alone are words of it)
-            argument: if self.rewrites(Rewriting::Expand) {
-                "BRIEF"
-            } else {
-                "--with"
+            argument: match self.request {
+                Request::LearnTraces { names: None, .. } => "--sender",
+                _ if self.rewrites(Rewriting::Expand) => "BRIEF",
+                _ => "--with",
             },
             several: !self.further.is_empty(),
         }
@@ -148,7 +159,39 @@ impl<'a> Errand<'a> {
                 names: Some(_),
                 ..
             } => Some(named("VCD", "capture", vcd)),
+            Request::Conform { .. } | Request::LearnTraces { names: Some(_), .. } => {
+                Some(named("--sender", "trace", self.trace(0)))
+            }
             _ => None,
+        }
+    }
+
+    /// The second file, or one after it: traces may be several.
+    pub fn second_at(self, number: usize) -> Option<Named<'a>> {
+        match (self.request, number) {
+            (_, 0) => self.second(),
+            (Request::LearnTraces { names: Some(_), .. }, _) => {
+                let sender = self.request.senders().get(number)?;
+                Some(named("--sender", "trace", sender.trace))
+            }
+            _ => None,
+        }
+    }
+
+    /// How many there are of these.
+    pub fn seconds(self) -> usize {
+        match self.request {
+            Request::LearnTraces { names: Some(_), .. } => self.request.senders().len(),
+            _ if self.second().is_some() => 1,
+            _ => 0,
+        }
+    }
+
+    /// The trace of the controller with this number.
+    pub(crate) fn trace(self, number: usize) -> &'a str {
+        match self.request.senders().get(number) {
+            Some(sender) => sender.trace,
+            None => "",
         }
     }
 
@@ -168,6 +211,8 @@ impl<'a> Errand<'a> {
             Request::Rewrite { output, .. }
             | Request::Mend { output, .. }
             | Request::Page { output, .. }
+            | Request::Guard { output, .. }
+            | Request::LearnTraces { output, .. }
             | Request::Learn { output, .. } => Form::of(output),
             _ => Form::Plain,
         }
@@ -226,6 +271,14 @@ impl<'a> Errand<'a> {
             _ => None,
         };
         device.unwrap_or("")
+    }
+
+    /// The controller for whose driver a guard is written.
+    pub(crate) fn controller(self) -> &'a str {
+        match self.request {
+            Request::Guard { controller, .. } => controller,
+            _ => "",
+        }
     }
 
     fn lines(self) -> BusLines<'a> {

@@ -19,5 +19,5 @@ pub use boards::{FailedText, TextReader, Texts, read_texts, rewind_first};
 pub use errands::{BoardNames, Errand};
 pub use finishing::{Sheets, finish};
 pub use inputs::{Inputs, OpenFiles, open_files};
-pub use made_dumps::{SecondText, read_second};
+pub use made_dumps::{SecondTexts, read_seconds};
 pub use voices::refused;

@@ -8,7 +8,8 @@ use dump_findings::Seen;
 use dump_tables::{TableError, Why};
 use dump_tokens::Window;
 use given_plans::{GivenPlan, Halted, Provenance, RefusedText};
-use hints::{Found, NoWaves, Then, Untaken};
+use hints::{Found, NoWaves, Then, Unguarded, Untaken};
+use kernel_traces::TraceError;
 use plan_core::Plan;
 use plan_text::{NoBrief, PlanError};
 use plays::RefusedStarters;
@@ -106,6 +107,10 @@ pub enum Halt {
     Dump(VcdError, Option<Wrong>),
     /// A table, of which a dump was to be made, is refused.
     Table(TableError),
+    /// The trace of the controller with this number is refused.
+    Trace(usize, TraceError),
+    /// The controller with this number is none whose trace can be taken.
+    NoSender(usize, NoSender),
     /// The text of a plan or of a brief is refused.
     Text(PlanError, RefusedSource),
     /// A file that a head names cannot be opened or read.
@@ -122,6 +127,17 @@ pub enum Halt {
     NoDrive(usize, NoDrive),
     /// Offers are not taken.
     Untaken(Untaken),
+    /// No guard is written.
+    Unguarded(Unguarded),
+}
+
+/// Why the trace of a controller cannot be taken.
+#[derive(Drop)]
+pub enum NoSender {
+    /// The plan has no such controller. These are its own.
+    NoController(Vec<String>),
+    /// No controller of a brief can have its name.
+    NoName,
 }
 
 /// Why the line of a controller cannot be followed.
@@ -166,10 +182,13 @@ impl Halt {
             Halt::NoBrief(_) => RunError::Brief(NoBrief::Name),
             Halt::File(_)
             | Halt::Table(_)
+            | Halt::Trace(..)
+            | Halt::NoSender(..)
             | Halt::NoTimescale
             | Halt::NoDevice(_)
             | Halt::NoDrive(..)
-            | Halt::Untaken(_) => RunError::Read,
+            | Halt::Untaken(_)
+            | Halt::Unguarded(_) => RunError::Read,
         }
     }
 }

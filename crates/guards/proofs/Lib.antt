@@ -1,0 +1,5 @@
+pub mod WordLemmas
+pub mod RunLemmas
+pub mod EdgeLemmas
+pub mod TableLemmas
+pub mod MessageLemmas

@@ -1,0 +1,4 @@
+pub mod Segments
+pub mod Letters
+pub mod Tables
+pub mod Keys
