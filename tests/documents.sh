@@ -40,19 +40,30 @@ run_command() {
     same "$1: $2" "${3%$'\n'}" "$(bash -c "$2" 2>&1 </dev/null)"
 }
 
-# run_block PAGE LANGUAGE NAME: the block is in the file `block`; a brief or a plan with a name is kept under it.
+# run_block PAGE LANGUAGE NAME: the block is in the file `block`; a brief or a plan with a name is kept under it. A plan that
+# stands below a brief and the word `means` is what that brief expands to.
 run_block() {
     case $2 in
         console) run_console "$1" ;;
-        brief) same "$1: a brief that is read: $(sed -n 2p block)" 0 "$(twire expand block >found 2>&1; echo $?)" ;;
-        plan) same "$1: a plan that is read: $(sed -n 2p block)" 0 "$(twire print block >found 2>&1; echo $?)" ;;
+        brief)
+            same "$1: a brief that is read: $(sed -n 2p block)" 0 "$(twire expand block >found 2>&1; echo $?)"
+            cp found meant
+            ;;
+        plan)
+            same "$1: a plan that is read: $(sed -n 2p block)" 0 "$(twire print block >found 2>&1; echo $?)"
+            if [[ -n $means ]]; then
+                same_file "$1: what the brief means: $(sed -n 2p block)" block meant
+                meanings=$((meanings + 1))
+            fi
+            ;;
     esac
+    means=
     [[ -z $3 ]] || cp block "$3"
 }
 
 # run_blocks PAGE: in a folder of its own, so that a page has all that its commands need.
 run_blocks() {
-    local language='' name='' line folder=$work/of_${1//\//_}
+    local language='' name='' means='' line folder=$work/of_${1//\//_}
     mkdir "$folder"
     cd -- "$folder" || exit 1
     ln -s "$examples" examples
@@ -67,6 +78,8 @@ run_blocks() {
             language=${line#'```'}
             language=${language:-text}
             : >block
+        elif [[ $line == means ]]; then
+            means=yes
         elif [[ $line =~ Save\ this\ as$ ]]; then
             name=next
         elif [[ $line =~ Save\ this\ as\ \`([a-z.]+)\` || ($name == next && $line =~ ^\`([a-z.]+)\`) ]]; then
@@ -77,10 +90,11 @@ run_blocks() {
 }
 
 commands=0
+meanings=0
 for page in "${for_users[@]}" "${rules[@]}"; do
     run_blocks "$page"
 done
-same "the pages have commands" yes "$( ((commands > 30)) && echo yes)"
+same "the pages have commands, and briefs with what they mean" yes "$( ((commands > 30 && meanings > 8)) && echo yes)"
 
 # ---- the table of data-sheet transactions
 
