@@ -206,7 +206,7 @@ done
 contents() {
     awk '/^## / { exit } { print }' "$1" | grep -oE '^- \[[^]]*\]\(#[^)]*\)' | sed -e 's/^- \[[^]]*\](#//' -e 's/)$//'
 }
-for page in "${for_users[@]}" "${rules[@]}"; do
+for page in "${for_users[@]}" "${rules[@]}" "${others[@]}"; do
     (($(wc -l <"$page") > 150)) || continue
     same "$page: the contents at its head" "$(awk '/^```/ { inside = !inside } !inside && /^## /' "$page" >"$work/headings"
         anchors "$work/headings")" "$(contents "$page")"
