@@ -80,6 +80,14 @@ lines of.brief "brief 1" "device all 0x00 ;"
 asked decode calls.vcd --explain --pec --names of.brief
 asked decode calls.vcd --explain --summary
 asked decode calls.vcd --names of.brief --device fan
+# A guard of a controller that is not there, and one whose table is too large.
+asked guard on.plan --controller c
+{
+    echo "brief 2"
+    for k in {16..225}; do printf 'message m%d write 0x50 0x%02x any*40 ;\n' "$k" "$k"; done
+    echo "controller main" m{16..225} ";"
+} >wide.brief
+asked guard wide.brief --controller main
 wait
 for name in json lines explain briefs boards bench cases; do
     tail -n 1 "said.$name" | grep -qE '^[0-9]+( passed, [0-9]+ failed)?$'

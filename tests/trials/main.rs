@@ -49,6 +49,7 @@ mod slips;
 mod tallies;
 mod texts;
 mod timings;
+mod traces;
 mod unreadable;
 mod values;
 mod vectors;
@@ -79,6 +80,7 @@ use std::io;
 use std::path::PathBuf;
 use std::process::ExitCode;
 use timings::try_timings;
+use traces::try_traces;
 use vectors::try_vectors;
 use versions::try_versions;
 use waves::try_waves;
@@ -181,6 +183,7 @@ fn try_all(orders: &Orders) -> Result<Score, Box<dyn Error>> {
     try_vectors(&mut crew, &mut score, orders.seed, step)?;
     try_drives(&mut crew, &mut score, orders.seed, step)?;
     try_timings(&mut crew, &mut score, orders.seed, step)?;
+    try_traces(&mut crew, &mut score, orders.seed, step)?;
     try_layouts(&mut crew, &mut score, &cases, orders.seed, step)?;
     if takes_refusals {
         try_scarce(&mut crew, &mut score, &cases)?;

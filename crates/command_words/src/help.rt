@@ -514,13 +514,17 @@ A driver that sends segments ends with a STOP after a byte that is not
 acknowledged. So no segments are a message that goes on after one, as by 'else
 again': the header says so beside its name.
 
-docs/GUARD.md has the rules, and docs/FIRMWARE.md how to build it into drivers of
-Linux, Zephyr and others.
+docs/GUARD.md has the rules, and docs/FIRMWARE.md how to build it into the
+drivers of Linux, Zephyr and others.
 
-Exit status:
-  0  the header was written
-  2  refused, as 'refused controller NAME' for one that the plan does not have,
-     and 'refused guard NAME' for one whose table would be too large";
+Examples:
+
+  twire guard board.brief --controller bmc -o bmc_guard.h
+  twire guard bus.plan --controller main --table
+
+Exit status: 0 the header was written; 2 refused, as 'refused controller NAME'
+for one that the plan does not have, or 'refused guard NAME' for one whose table
+would be too large.";
 
 pub const AFTER_EXPAND_HELP: &str = "\
 brief 1

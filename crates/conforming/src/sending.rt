@@ -14,7 +14,6 @@ use plan_core::Plan;
 
 /// The first message that the plan lets this controller send and that sends what was shown: with all acknowledged, or up to what
 /// was not.
-#[tactic(auto, using(crate::proofs::SendingLemmas::of_controller))]
 pub fn message_sent(plan: &Plan, controller: u32, shown: &[Shown]) -> Option<u32>
     requires { controller < length (plan_contents plan.now).controllers }
     ensures { MatchOption result
@@ -25,26 +24,22 @@ pub fn message_sent(plan: &Plan, controller: u32, shown: &[Shown]) -> Option<u32
 }
 
 // The first of these messages that does.
-#[tactic(auto, using(crate::proofs::SendingLemmas::here, crate::proofs::SendingLemmas::there))]
 fn first_of(plan: &Plan, messages: &[u32], shown: &[Shown]) -> Option<u32>
     requires { All (λ m. m < length (plan_contents plan.now).messages) messages.now }
     ensures { MatchOption result
         ((m : ℕ) → Contains messages.now m → MessageSends (plan_contents plan.now) shown.now m → ⊥)
         (λ m. Contains messages.now m × MessageSends (plan_contents plan.now) shown.now m) }
 {
-    match messages {
-        [] => None,
-        [first, rest @ ..] => {
-            if sends(plan.message(*first), shown) {
-                return Some(*first);
-            }
-            first_of(plan, rest, shown)
-        }
+    let Some((first, rest)) = messages.split_first() else {
+        return None;
+    };
+    if sends(plan.message(*first), shown) {
+        return Some(*first);
     }
+    first_of(plan, rest, shown)
 }
 
 /// Whether the message sends what was shown.
-#[tactic(auto, using(crate::proofs::SendingLemmas::by_frame))]
 pub fn sends(frame: &Frame, shown: &[Shown]) -> bool
     ensures { IsTrue result ↔ SentBy (frame_tree frame.now) shown.now }
 {

@@ -3,3 +3,4 @@ pub mod RunLemmas
 pub mod EdgeLemmas
 pub mod TableLemmas
 pub mod MessageLemmas
+pub mod DriverLemmas

@@ -1,12 +1,12 @@
 -- What a table answers, by what its states stand for.
-use Rattle.std.proofs.Common.{◌≡◌, ℕ, zero, suc, ◌+◌, ◌<◌, ◌≤◌, Bool, true, false, ◌&&◌, List, [], ◌∷◌, ◌++◌, length, All, Option, Some, None, slice_get, cond, ◌⊎◌, inl, inr, refl, sym, ◌∙◌, ap, arith}
+use Rattle.std.proofs.Common.{◌≡◌, ℕ, zero, suc, ◌+◌, ◌<◌, ◌≤◌, Bool, true, false, ◌&&◌, List, [], ◌∷◌, ◌++◌, length, All, Option, Some, None, slice_get, cond, inl, inr, refl, sym, ◌∙◌, ap, arith}
 use Rattle.std.specs.List.{find, filter, position_from, range_with_len}
 use Rattle.std.proofs.lemmas.Option.{slice_get_cases, slice_get_within}
 use Rattle.std.proofs.lemmas.List.Elements.{All-head, All-tail}
 use Rattle.guards.specs.declared.letters.Letter.{Letter}
 use Rattle.guards.specs.declared.tables.State.{State}
 use Rattle.guards.specs.Tables.{next_of, next_at, answer_at, run_from}
-use Rattle.guards.specs.Keys.{letters_at, takes_at, passes_from, first_from, next_live, LeadsTo, IsState, IsDead, AreStates}
+use Rattle.guards.specs.Keys.{letters_at, takes_at, passes_from, first_from, next_live, IsDead, AreStates}
 
 find_filter : (p q : ℕ → Bool) (xs : List ℕ) → find (λ m. p m && q m) xs ≡ find q (filter p xs)
 find_filter p q [] = refl

@@ -1,10 +1,10 @@
 -- States and keys that come one after another, and what the table answers in the end.
-use Rattle.std.proofs.Common.{◌≡◌, ℕ, zero, suc, ◌+◌, ◌<◌, ◌≤◌, Bool, List, [], ◌∷◌, ◌++◌, length, map, All, Option, Some, None, slice_get, slice_index, ◌⊎◌, inl, inr, refl, sym, ◌∙◌, ap, subst, arith}
-use Rattle.std.specs.List.{find, position_from, range_with_len}
+use Rattle.std.proofs.Common.{◌≡◌, ℕ, zero, suc, ◌+◌, ◌<◌, Bool, List, [], ◌∷◌, ◌++◌, length, map, All, Option, Some, None, slice_get, slice_index, inl, inr, refl, sym, ◌∙◌, ap, subst, arith}
+use Rattle.std.specs.List.{find, range_with_len}
 use Rattle.std.specs.Option.{option_map, unwrap_or}
 use Rattle.std.proofs.lemmas.Bool.{cases_lt, cases_order}
 use Rattle.std.proofs.lemmas.List.{map-append, length-map, length_push, get_or_append_left, get_or_push}
-use Rattle.std.proofs.lemmas.Option.{slice_get-map, slice_get_within, slice_get_past, same_Some, none-some}
+use Rattle.std.proofs.lemmas.Option.{slice_get-map, slice_get_within, same_Some}
 use Rattle.message_tree.specs.Trees.{FrameTree}
 use Rattle.plan_core.specs.Contents.{Contents}
 use Rattle.guards.specs.declared.letters.Letter.{Letter}

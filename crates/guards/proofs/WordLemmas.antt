@@ -1,12 +1,12 @@
 -- What a message wants of the numbers of a transfer, held against what it sends.
-use Rattle.std.proofs.Common.{◌≡◌, ℕ, zero, suc, ◌+◌, ◌*◌, ◌<◌, ◌≤◌, Bool, true, false, ◌&&◌, ◌==◌, nat_le, List, [], ◌∷◌, ◌++◌, length, All, Option, Some, None, slice_get, if◌then◌else◌, ◌⊎◌, inl, inr, refl, sym, ◌∙◌, ap, arith}
+use Rattle.std.proofs.Common.{◌≡◌, ℕ, ◌+◌, ◌*◌, ◌<◌, Bool, true, false, ◌&&◌, List, [], ◌∷◌, ◌++◌, length, All, Some, None, slice_get, if◌then◌else◌, inl, inr, refl, sym, ◌∙◌, ap, arith}
 use Rattle.std.specs.Int.{bit_at}
 use Rattle.std.proofs.lemmas.Bool.{and_right, and_left, ne_eqb, eq-eqb, lt-ltb, lt-leb, cases_lt}
 use Rattle.std.proofs.lemmas.List.{append_assoc, length-append, append-nil}
 use Rattle.std.proofs.lemmas.List.Elements.{All-head, All-tail, All-cons, All-append, All-nil, All-weaker}
 use Rattle.std.proofs.lemmas.Nat.Bits.{bit_at_lowest}
 use Rattle.message_tree.specs.declared.bits.Bit.{Bit}
-use Rattle.message_tree.specs.declared.bits.Bit.TheVariants.{Zero, One, Either}
+use Rattle.message_tree.specs.declared.bits.Bit.TheVariants.{Zero, One}
 use Rattle.message_tree.specs.Counts.{least_of, greatest_of}
 use Rattle.message_tree.specs.Patterns.{pattern_bits, address_bits}
 use Rattle.message_tree.specs.Texts.{write_header, read_header}

@@ -2,3 +2,4 @@ pub mod Segments
 pub mod Letters
 pub mod Tables
 pub mod Keys
+pub mod Drivers

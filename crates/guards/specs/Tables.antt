@@ -1,7 +1,7 @@
 -- What a table lets pass. It reads a transfer number by number, from its state 1 on. An edge leads on where the number lies in its
 -- range, and where none does the state 0 is next, from which nothing leads on. After the last number the state answers the place of
 -- a message, or nothing.
-use Rattle.std.specs.Prelude.{ℕ, Bool, ◌&&◌, nat_le, List, [], ◌∷◌, Option, Some, None, slice_get, if◌then◌else◌}
+use Rattle.std.specs.Prelude.{ℕ, ◌&&◌, nat_le, List, [], ◌∷◌, Option, Some, None, slice_get, if◌then◌else◌}
 use Rattle.guards.specs.declared.tables.Edge.{Edge}
 use Rattle.guards.specs.declared.tables.State.{State}
 use Rattle.guards.specs.declared.tables.Table.{Table}

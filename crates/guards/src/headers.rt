@@ -1,5 +1,7 @@
 // A table as a header for a compiler of C99.
 
+ghost use Rattle.std.specs.Prelude.{◌<◌};
+
 use crate::letters::{END, sends_segments};
 use crate::tables::{Edge, State, Table};
 use growing_text::Text;

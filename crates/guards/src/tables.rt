@@ -63,7 +63,7 @@ impl From<AllocError> for GuardError {
 }
 
 /// The most states of a table.
-pub const MOST_STATES: usize = 16384;
+pub const MOST_STATES: usize = 8192;
 
 // What a state stands for: how many numbers have been read, and the places of the messages that may still be meant, in order.
 #[derive(Drop)]

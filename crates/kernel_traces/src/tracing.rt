@@ -64,6 +64,7 @@ struct Call {
     reply: Option<Told>,
     // whether it is made of transfers, which then count
     is_made: bool,
+    is_whole: bool,
 }
 
 // A longer line is cut.
@@ -235,12 +236,13 @@ impl Tracer {
 
     fn take_event(&mut self, line: EventLine<'_>, event: Option<Event>) -> Result<(), AllocError> {
         let who = who_of(self.alloc, line)?;
+        let is_call = line.name.starts_with("smbus");
+        if !is_call {
+            self.mark_made(who.number);
+        }
         match event {
             None => {
-                // (what goes on has lost this event)
-                if let Some(open) = self.open_of(who.number) {
-                    open.is_whole = false;
-                }
+                self.mark_cut(who.number, is_call);
                 Ok(())
             }
             Some(Event::Segment(number, told)) => self.take_segment(who, number, told),
@@ -260,6 +262,30 @@ impl Tracer {
                 Ok(())
             }
             Some(Event::CallResult(answer)) => self.take_call_result(who.number, answer),
+        }
+    }
+
+    // The call of this process that goes on is made of transfers.
+    fn mark_made(&mut self, number: Option<u32>) {
+        for call in self.calls.iter_mut() {
+            if call.who.number == number {
+                call.is_made = true;
+            }
+        }
+    }
+
+    // What goes on of this process has lost an event.
+    fn mark_cut(&mut self, number: Option<u32>, is_call: bool) {
+        if !is_call {
+            if let Some(open) = self.open_of(number) {
+                open.is_whole = false;
+            }
+            return;
+        }
+        for call in self.calls.iter_mut() {
+            if call.who.number == number {
+                call.is_whole = false;
+            }
         }
     }
 
@@ -299,13 +325,8 @@ impl Tracer {
         Ok(())
     }
 
-    // A transfer begins, of which the call of the process is made that goes on.
+    // A transfer begins.
     fn begin(&mut self, who: Who, segment: Segment) -> Result<(), AllocError> {
-        for call in self.calls.iter_mut() {
-            if call.who.number == who.number {
-                call.is_made = true;
-            }
-        }
         if let Some(place) = self.place_of(who.number) {
             self.transfers.remove(place);
             self.cut();
@@ -389,6 +410,7 @@ impl Tracer {
                 told,
                 reply: None,
                 is_made: false,
+                is_whole: true,
             },
         )
     }
@@ -410,8 +432,13 @@ impl Tracer {
             told,
             reply,
             is_made,
+            is_whole,
         } = self.calls.remove(place);
         if is_made {
+            return Ok(());
+        }
+        if !is_whole {
+            self.cut();
             return Ok(());
         }
         let outcome = if answer >= 0 {

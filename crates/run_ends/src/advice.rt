@@ -3,6 +3,7 @@
 use crate::errands::Errand;
 use crate::inputs::Inputs;
 use crate::messages::{dump_message, file_message, table_message, text_message};
+use crate::unguarded::on_unguarded;
 use crate::voices::{refused, refused_by_word, say, say_message, say_objects, say_these};
 use cert_check::{Answer, Answered};
 use command_words::Format;
@@ -19,7 +20,7 @@ use growing_text::Text;
 use hints::{
     Found, Hints, NoWaves, Untaken, on_certificate, on_checked, on_fault, on_memory, on_mended,
     on_named_file, on_no_answers, on_no_brief, on_no_timescale, on_no_waves, on_reading, on_safe,
-    on_starters, on_unguarded, on_untaken, on_workers, on_writing,
+    on_starters, on_untaken, on_workers, on_writing,
 };
 use lint::oddities;
 use plan_core::Plan;

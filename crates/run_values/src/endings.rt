@@ -8,7 +8,7 @@ use dump_findings::Seen;
 use dump_tables::{TableError, Why};
 use dump_tokens::Window;
 use given_plans::{GivenPlan, Halted, Provenance, RefusedText};
-use hints::{Found, NoWaves, Then, Unguarded, Untaken};
+use hints::{Found, NoWaves, Then, Untaken};
 use kernel_traces::TraceError;
 use plan_core::Plan;
 use plan_text::{NoBrief, PlanError};
@@ -138,6 +138,25 @@ pub enum NoSender {
     NoController(Vec<String>),
     /// No controller of a brief can have its name.
     NoName,
+}
+
+/// Why no guard is written.
+#[derive(Drop)]
+pub enum Unguarded {
+    /// The plan has no such controller. These are its own.
+    NoController(Vec<String>),
+    /// The table of the controller would be too large.
+    TooLarge,
+}
+
+impl Unguarded {
+    /// What the refusal is called.
+    pub fn word(&self) -> &'static str {
+        match self {
+            Unguarded::NoController(_) => "controller",
+            Unguarded::TooLarge => "guard",
+        }
+    }
 }
 
 /// Why the line of a controller cannot be followed.

@@ -47,6 +47,7 @@ mod tests;
 #[cfg(test)]
 mod texts;
 pub mod timed;
+pub mod traces;
 mod wires;
 mod words;
 mod writing;

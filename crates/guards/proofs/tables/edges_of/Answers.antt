@@ -1,7 +1,7 @@
-use Rattle.std.proofs.Common.{ℕ, ◌-◌, List, Vec, Global, slice_index, sym, ◌∙◌, ap, subst, arith}
+use Rattle.std.proofs.Common.{◌-◌, List, Vec, Global, ◌∙◌, ap, arith}
 use Rattle.guards.specs.declared.tables.Edge.{Edge}
 use Rattle.guards.specs.Tables.{next_of}
-use Rattle.guards.proofs.EdgeLemmas.{Covers, covers_same, covers_longer, covers_more, covers_all}
+use Rattle.guards.proofs.EdgeLemmas.{covers_same, covers_longer, covers_more, covers_all}
 use Rattle.guards.proofs.tables.edges_of.Goals as goal
 use Rattle.guards.proofs.tables.edges_of.Goals.{then-row-b+in_ok-push_edge, else-row-b}
 

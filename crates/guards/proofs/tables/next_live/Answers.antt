@@ -1,4 +1,4 @@
-use Rattle.std.proofs.Common.{ℕ, Bool, arith, filter, map, take, ap, ◌∙◌}
+use Rattle.std.proofs.Common.{ℕ, Bool, arith, filter, map, ap, ◌∙◌}
 use Rattle.std.specs.Vec.{vec_items}
 use Rattle.std.proofs.lemmas.List.{take_all, append-nil}
 use Rattle.std.proofs.lemmas.List.Elements.{filter_more}

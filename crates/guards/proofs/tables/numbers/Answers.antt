@@ -1,4 +1,4 @@
-use Rattle.std.proofs.Common.{◌≡◌, ap, ◌∙◌, arith, sym}
+use Rattle.std.proofs.Common.{arith}
 use Rattle.guards.proofs.RunLemmas.{range_more}
 use Rattle.guards.proofs.tables.numbers.Goals as goal
 

@@ -1,4 +1,4 @@
-use Rattle.std.proofs.Common.{◌≡◌, ℕ, ◌+◌, ◌++◌, length, map, ◌∙◌, ap, subst, List, arith}
+use Rattle.std.proofs.Common.{ℕ, ◌+◌, ◌++◌, length, map, ◌∙◌, ap, subst, List, arith}
 use Rattle.std.specs.Vec.{vec_items}
 use Rattle.std.proofs.lemmas.List.{append_assoc, length_push}
 use Rattle.guards.specs.declared.tables.Key.{Key}

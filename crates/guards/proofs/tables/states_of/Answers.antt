@@ -1,8 +1,8 @@
-use Rattle.std.proofs.Common.{◌≡◌, ℕ, ◌<◌, length, map, sym, subst, List, Some, slice_get, arith}
+use Rattle.std.proofs.Common.{◌≡◌, ℕ, length, map, sym, subst, Some, slice_get, arith}
 use Rattle.std.specs.List.{range_with_len}
-use Rattle.std.specs.Vec.{vec_items, vec_len}
+use Rattle.std.specs.Vec.{vec_items}
 use Rattle.std.proofs.lemmas.List.{length-map}
-use Rattle.guards.specs.Keys.{key_of, IsState}
+use Rattle.guards.specs.Keys.{key_of}
 use Rattle.guards.proofs.RunLemmas.{run_right}
 use Rattle.guards.proofs.TableLemmas.{states_more, key_later}
 use Rattle.guards.proofs.tables.states_of.Goals as goal
