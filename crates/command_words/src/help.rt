@@ -488,8 +488,8 @@ reads each byte once, however many messages there are. It allocates nothing, and
 the header needs C99, <stddef.h> and <stdint.h> alone. Include it in one file.
 
 A driver that sends segments ends with a STOP after a byte that is not
-acknowledged. So no segments are a message that goes on after one, as by 'else
-again': the header says so beside its name.
+acknowledged. So no segments are a message that has frames after 'else': the
+header says so beside its name.
 
 docs/GUARD.md has the rules, and docs/FIRMWARE.md how to build it into the
 drivers of Linux, Zephyr and others.
