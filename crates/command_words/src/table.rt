@@ -409,7 +409,7 @@ const SENDER: Argument = Argument::Twos {
 const ADAPTER: Argument = Argument::Count {
     id: "adapter",
     value_name: "N",
-    help: "Events of adapter N, as i2c-N [default: the only one]",
+    help: "Events of adapter i2c-N [default: the only one]",
 };
 
 const COUNTED: Argument = Argument::Flag {
