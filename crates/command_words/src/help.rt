@@ -395,6 +395,11 @@ departs. Transfers that failed otherwise are counted, and not judged.
 
   trace-cmd stream -e i2c | twire conform board.brief --sender bmc - --live
 
+Examples:
+
+  twire conform board.brief --sender bmc trace.txt
+  twire conform board.brief --sender bmc trace.txt --adapter 3 --summary
+
 Exit status: 0 it keeps to the plan, 1 it does not, 2 refused.
 ";
 

@@ -417,7 +417,7 @@ const SENDER: Argument = Argument::Twos {
 const ADAPTER: Argument = Argument::Count {
     id: "adapter",
     value_name: "N",
-    help: "Events of adapter N, as i2c-N [default: the only one]",
+    help: "Events of i2c-N; without it, of the only adapter",
 };
 
 const COUNTED: Argument = Argument::Flag {
