@@ -1,9 +1,9 @@
 #!/usr/bin/env bash
 # The documents: each command that README and the pages of docs/ show prints what stands below it; each plan and brief there
 # is read; the lines of the table of data-sheet transactions mean what the text says; the picture of the terminal is of the
-# present program; links and anchors lead somewhere; and the rules of the pages: how many words they have together, how long
-# their lines, cells and paragraphs are, a contents list at the head of a long page, no heading twice, and no turn of phrase
-# that readers stumbled over.
+# present program; the pages have each option, and each kind and field of an object; links and anchors lead somewhere; and
+# the rules of the pages: how many words they have together, how long their lines, cells and paragraphs are, a contents list
+# at the head of a long page, no heading twice, and no turn of phrase that readers stumbled over.
 source "$(dirname -- "$(readlink -f -- "${BASH_SOURCE[0]}")")/suite.bash" || exit 1
 
 mkdir bin
@@ -132,6 +132,39 @@ if type -P python3 >/dev/null; then
     same_file "docs/pictures/check.svg: 'tools/pictures terminal TWIRE' makes it anew" "$top/docs/pictures/check.svg" check.svg
 else
     echo "left out: the picture of the terminal (no python3)"
+fi
+
+# ---- options and objects
+
+# Each option of a command stands on a page that is for its command.
+sed -n 's/^ *\(-[a-zA-Z], \)\{0,1\}\(--[a-z-]*\).*/\2/p' "$top"/docs/help/*.txt | sort -u >options
+same "options that there are" yes "$( (($(wc -l <options) > 40)) && echo yes)"
+cat "$top"/docs/{COMMANDS,CAPTURES,LEARN,GUARD,TRACES}.md | grep -oE -- '--[a-z][a-z-]*' | sort -u >shown
+same "options that no page has" "" "$(comm -23 options shown | paste -sd ' ')"
+
+# The page has each kind and each field of the schema.
+if type -P python3 >/dev/null; then
+    same "docs/JSON.md: kinds and fields of the schema that it lacks" "" "$(python3 - "$top/docs" <<'PYTHON'
+import json, re, sys
+
+names = set()
+
+def walk(part):
+    if isinstance(part, dict):
+        for name, of in part.get('properties', {}).items():
+            names.add(name)
+            if name == 'kind' and isinstance(of, dict) and 'const' in of:
+                names.add(of['const'])
+    for inner in part.values() if isinstance(part, dict) else part if isinstance(part, list) else ():
+        walk(inner)
+
+with open(sys.argv[1] + '/objects.schema.json', encoding='utf-8') as file:
+    walk(json.load(file))
+with open(sys.argv[1] + '/JSON.md', encoding='utf-8') as file:
+    page = set(re.findall('`([^`]*)`', file.read()))
+print(' '.join(sorted(names - page)) if len(names) > 100 else 'the schema has few names')
+PYTHON
+    )"
 fi
 
 # ---- links
