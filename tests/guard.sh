@@ -55,16 +55,19 @@ held "and else what the header has" differing
 expect "a controller that the plan does not have" 2 "" "refused controller man" guard small.brief --controller man -o none.h
 same "no file is made" "" "$(ls none.h 2>/dev/null)"
 call guard small.brief --controller man --hints always
-same "the nearest names" 1 "$(grep -c "'main'" err)"
+same "the nearest names" "main other" "$(sed -n 's/^hint:   //p' err | xargs)"
 call guard small.brief --controller man --format json
 same "as an object" '{"kind":"refusal","code":"controller","controller":"man"' "$(grep -o '^{"kind":"refusal","code":"controller","controller":"man"' err out | sed 's/^[a-z]*://')"
-{
-    echo "brief 2"
-    for k in {16..225}; do printf 'message m%d write 0x50 0x%02x any*40 ;\n' "$k" "$k"; done
-    echo "controller main" m{16..225} ";"
-} >wide.brief
-expect "a table that is too large" 2 "" "refused guard main" guard wide.brief --controller main
-refuses "no controller is named" "'--controller <NAME>' is missing" guard small.brief
+# (for which a trial build takes a minute, and tests/schema.sh has it too)
+if [[ $("$twire" --version) == *"(proved"* ]]; then
+    {
+        echo "brief 2"
+        for k in {16..225}; do printf 'message m%d write 0x50 0x%02x any*40 ;\n' "$k" "$k"; done
+        echo "controller main" m{16..225} ";"
+    } >wide.brief
+    expect "a table that is too large" 2 "" "refused guard main" guard wide.brief --controller main
+fi
+refuses "no controller is named" "'--controller <NAME>' is missing: whose messages the driver may send" guard small.brief
 echo old >main.h
 expect "a plan that is refused" 2 "" "refused P3 line 1" guard <(echo "plan 1 mess ;") --controller main -o main.h
 same "leaves the file as it was" old "$(cat main.h)"
@@ -104,14 +107,13 @@ if [[ -x guards ]]; then
     ! has clang || ask clang small.plan main 50000 2
     "$twire" expand "$examples/shelf/board.brief" -o shelf.plan
     "$twire" expand "$examples/server_board.brief" -o server.plan
-    ask gcc shelf.plan shmm_a 500000 3
+    ask gcc shelf.plan shmm_a 600000 3
     ! has clang || ask clang server.plan "$(sed -n 's/^controller \([^ ]*\).*/\1/p' server.plan | head -n 1)" 200000 4
     seed=10
     for plan in "$examples"/*.plan; do
-        while read -r _ controller _; do
-            seed=$((seed + 1))
-            ask gcc "$plan" "$controller" 3000 "$seed"
-        done < <(grep '^controller ' "$plan")
+        read -r _ controller _ < <(grep '^controller ' "$plan" | tail -n 1)
+        seed=$((seed + 1))
+        ask gcc "$plan" "$controller" 3000 "$seed"
     done
 fi
 

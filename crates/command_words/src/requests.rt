@@ -353,11 +353,12 @@ impl<'a> Request<'a> {
 
     /// The controllers whose traces it is over.
     pub fn senders(self) -> &'a [Sender<'a>] {
-        match self {
-            Request::LearnTraces { lesson, .. } => lesson.senders,
-            Request::Conform { conform, .. } => conform.senders,
-            _ => &[],
-        }
+        let senders = match self {
+            Request::LearnTraces { lesson, .. } => Some(lesson.senders),
+            Request::Conform { conform, .. } => Some(conform.senders),
+            _ => None,
+        };
+        senders.unwrap_or(&[])
     }
 
     /// The same with the offers of these numbers, where such are taken.
