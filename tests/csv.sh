@@ -334,6 +334,7 @@ for command in "capture $plan" "capture $plan --live" "capture $plan --explain" 
     read -ra words <<<"$command"
     same "far apart: $command" "$(far 8 2)" "$(said "${words[@]}" far | grep -o 'SCL rises.*clock of the bus')"
 done
+same "far apart, on the page" "$(far 8 2)" "$(grep -oE '"notes":\["SCL rises[^"]*"' page.html | cut -d'"' -f4)"
 same "far apart, from a pipe" "$(far 8 2)" "$(said capture "$plan" - < <(cat far) | grep -o 'SCL rises.*clock of the bus')"
 same "far apart, as an object" "{\"kind\":\"hint\",\"form\":\"sentence\",\"text\":\"$(far 8 2)\"}" \
     "$("$twire" decode far --hints always --format json 2>&1 >/dev/null | head -n 1)"

@@ -216,6 +216,27 @@ expect "as objects, against the rules" 1 '{"kind":"transaction","from":5,"to":29
 {"kind":"transactions","transactions":1,"unexplained":1,"drives":{"right":0,"wrong":1,"others":0}}' "" \
     capture two.brief pulls_on "${both[@]}" --format json
 
+# paged DUMP ARG..: the status of a page, and what it has of the controllers that are followed.
+paged() {
+    "$twire" page two.brief --capture "$1" -o page.html "${@:2}" >/dev/null 2>&1
+    echo "status $?"
+    grep -oE '"(notes|drove)":\[[^]]*\]' page.html
+}
+same "on a page" 'status 0
+"notes":["who drove: in 1 transactions as the rules of the plan give, not in 0; others sent 0"]
+"drove":["a starts, and goes on to the end","b starts, and loses in slot 11: it sends 1, the bus has 0"]' \
+    "$(paged arbitrated "${both[@]}")"
+same "on a page, against the rules" 'status 1
+"notes":["who drove: in 0 transactions as the rules of the plan give, not in 1; others sent 0"]
+"drove":["a starts, and loses in slot 14: it sends 1, the bus has 0","b starts, and loses in slot 11, but still pulls SDA in slot 14: against the rules"]' \
+    "$(paged pulls_on "${both[@]}")"
+same "on a page without controllers" "status 0" "$(paged arbitrated)"
+expect "a line that is not there, on a page" 2 "" "refused drives b" \
+    page two.brief --capture arbitrated --drives a=oa --drives b=none --hints never
+expect "a controller that the plan has not, on a page" 2 "" "refused drives c" \
+    page two.brief --capture arbitrated --drives c=oa --hints never
+refuses "lines of controllers without a capture" "'--drives' goes with '--capture <VCD>'" page two.brief --drives a=oa
+
 expect "what only the controllers that are followed could have sent" 1 "5-295 b/high
     none of the controllers that are followed pulls SDA, and no other sends
     this: against the plan

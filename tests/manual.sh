@@ -11,7 +11,7 @@ same "that there are commands" "check mend certify" "${commands[*]:0:3}"
 
 # words: each word on a line, without the marks that options and arguments have in a help.
 words() {
-    sed 's/^Usage://; s/^Commands:$//; s/^Options:$//; s/^Arguments:$//' | tr -s ' []<>,' '\n' | sed '/^$/d' | LC_ALL=C sort -u
+    sed 's/^Usage://; s/^Commands:$//; s/^Options:$//; s/^Options of all commands:$//; s/^Examples*:$//; s/^Arguments:$//' | tr -s ' []<>,' '\n' | sed '/^$/d' | LC_ALL=C sort -u
 }
 
 # The words of the page, as a terminal shows them.
@@ -26,6 +26,12 @@ for command in "" "${commands[@]}"; do
     same "words of 'help $command' that the page lacks" "" "$(LC_ALL=C comm -23 of_help of_page)"
 done
 same "a section for each command" "${commands[*]^^}" "$(sed -n 's/^\.SH TWIRE //p' twire.1 | paste -sd ' ')"
+same "the sections at its end" "EXIT STATUS,EXAMPLES,SEE ALSO" "$(sed -n 's/^\.SH //p' twire.1 | tail -n 3 | paste -sd ,)"
+for command in "${commands[@]}"; do
+    same "an example in 'help $command'" yes \
+        "$("$twire" help "$command" | awk -v begins="  twire $command " '/^Examples?:$/ { on = 1 } on && index($0, begins) == 1 { found = 1 } END { print found ? "yes" : "no" }')"
+    same "the status in 'help $command'" 1 "$("$twire" help "$command" | grep -c '^Exit status:')"
+done
 if type -P groff >/dev/null; then
     same "what groff warns of" "" "$(groff -man -Tutf8 -ww -z twire.1 2>&1)"
     same "lines of the page that are wider than 80 columns" "" \
@@ -60,7 +66,7 @@ same "bash: a file for a plan" "folder/a.plan" "$(complete_after check folder/a)
 same "bash: a file for -o" "folder/a.plan" "$(complete_after certify -o folder/a)"
 same "bash: an option after a file" "--explain" "$(complete_after check folder/a.plan --e)"
 for command in "${commands[@]}"; do
-    of_help=$("$twire" help "$command" | sed -n '/^Options:/,/^$/s/^ *\(-[-a-zA-Z, ]*\).*/\1/p' | tr -s ', ' '\n' | sed -n '/^-/p' |
+    of_help=$("$twire" help "$command" | sed -n '/^Options/,/^$/s/^ *\(-[-a-zA-Z, ]*\).*/\1/p' | tr -s ', ' '\n' | sed -n '/^-/p' |
         LC_ALL=C sort | paste -sd ' ')
     same "bash: the options of $command" "$of_help" "$(complete_after "$command" -)"
 done
@@ -86,16 +92,16 @@ same "bash: no option after a file for twire-verify" "" "$(verify_after folder/a
 
 same "zsh: the first line" "#compdef twire" "$(head -n 1 _twire)"
 for command in "${commands[@]}"; do
-    of_help=$("$twire" help "$command" | sed -n '/^Options:/,/^$/s/^ *\(-[-a-zA-Z, ]*\).*/\1/p' | tr -s ', ' '\n' | sed -n '/^-/p' |
+    of_help=$("$twire" help "$command" | sed -n '/^Options/,/^$/s/^ *\(-[-a-zA-Z, ]*\).*/\1/p' | tr -s ', ' '\n' | sed -n '/^-/p' |
         LC_ALL=C sort | paste -sd ' ')
     same "zsh: the options of $command" "$of_help" \
         "$(sed -n "/^                $command)/,/;;/s/^ *'\*\{0,1\}\(-[^[]*\)\[.*/\1/p" _twire | LC_ALL=C sort | paste -sd ' ')"
 done
-# (by what docs/COMMAND_LINE.md says of them, and each takes what it did)
+# (by what rules/commands.md says of them, and each takes what it did)
 same "zsh: options that may be given again" "--drives --with" \
     "$(sed -n "s/^ *'\*\(--[^[]*\)\[.*/\1/p" _twire | LC_ALL=C sort -u | paste -sd ' ')"
 same "zsh: files of --with" "$(grep -c "'--with\|'\*--with" _twire)" "$(grep -c "'\*--with\[.*:FILE:_files'" _twire)"
-same "zsh: the levels of --pulls" 2 "$(grep -c "'--pulls\[.*:LEVEL:(0 1)'" _twire)"
+same "zsh: the levels of --pulls" 3 "$(grep -c "'--pulls\[.*:LEVEL:(0 1)'" _twire)"
 same "zsh: the first line for twire-verify" "#compdef twire-verify" "$(head -n 1 _twire-verify)"
 if type -P zsh >/dev/null; then
     same "what zsh finds wrong" "" "$(zsh -n _twire 2>&1)$(zsh -n _twire-verify 2>&1)"

@@ -548,10 +548,11 @@ if type -P python3 >python; then
         "$(chosen Home ArrowRight ArrowRight ArrowDown) $(chosen Home ArrowRight ArrowRight ArrowUp) $(chosen Home ArrowRight ArrowRight ArrowUp ArrowUp) $(chosen Home ArrowRight ArrowRight ArrowUp ArrowUp ArrowUp)"
     same "keys go along a lane, and no further" "option-1 option-1 option-0" \
         "$(chosen Home Shift+ArrowRight) $(chosen Home Shift+ArrowRight Shift+ArrowRight) $(chosen Home Shift+ArrowLeft)"
-    span='say:Math.round(100 * [...document.querySelectorAll(".times .seen")].reduce((most, one) => Math.max(most, one.getAttribute("width")), 0))'
+    # (the one that is chosen stays in view)
+    span='say:Math.round(100 * document.querySelector(".times .odd").getAttribute("width"))'
     sizes=($(said 'say:document.querySelector(".times").focus()' "$span" + "$span" - "$span" | grep -E '^[0-9]+$'))
     same "keys zoom: twice as wide, and back again" "yes" \
-        "$( ((sizes[0] > 100 && sizes[1] >= 2 * sizes[0] - 2 && sizes[1] <= 2 * sizes[0] + 2 && sizes[2] == sizes[0])) && echo yes || echo "${sizes[*]}")"
+        "$( ((sizes[0] > 1000 && sizes[1] >= 2 * sizes[0] - 2 && sizes[1] <= 2 * sizes[0] + 2 && sizes[2] == sizes[0])) && echo yes || echo "${sizes[*]}")"
     # It has the byte 00000111 from slot 9 on, where the readings have 00000001: they differ in slot 14. The other header is
     # 1010000, which differs from 1001000 in slot 2.
     same "a click shows a wire, and where the nearest leave it" "250

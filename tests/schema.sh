@@ -48,7 +48,7 @@ for dump in "$examples"/*.vcd; do
 done >>said.examples 2>&1
 
 # What none of these says: of a byte of a brief, of a file that a head names in vain, of one that is not written, of likely
-# mistakes, of dumps, of a dump that cannot be read again, and of a bus that goes on where one sends a STOP and one repeats START.
+# mistakes, of dumps, of a table that is refused, of a dump that cannot be read again, and of a bus that goes on where one sends a STOP and one repeats START.
 asked() {
     ./keep "$@" --format json --hints always >>said.examples 2>&1
 }
@@ -58,6 +58,8 @@ asked expand - <<<$'brief 2\nwith "none" ;'
 asked print "$examples/two_writers.plan" -o nowhere/plan
 asked check - <<<$'brief 1\n# a \r device d 0x50 ;'
 asked decode - <<<"$heads"
+printf 'Time,scl,sda\n0,1,1\nsoon,1,0\n' >wrong.csv
+asked decode wrong.csv
 # Each time that a mode limits, too short; a limit that is less than a step; and both lines stuck.
 timed="100 ns \$end $heads \$end"' #0 1! 1" #100 0" #110 0! #119 1" #120 1! #130 0! #140 1! #150 0" #160 0! #170 1! #180 1" #190 0"
 #200 0! #210 1! #220 1"'
@@ -78,6 +80,14 @@ lines of.brief "brief 1" "device all 0x00 ;"
 asked decode calls.vcd --explain --pec --names of.brief
 asked decode calls.vcd --explain --summary
 asked decode calls.vcd --names of.brief --device fan
+# A guard of a controller that is not there, and one whose table is too large.
+asked guard on.plan --controller c
+{
+    echo "brief 2"
+    for k in {16..225}; do printf 'message m%d write 0x50 0x%02x any*40 ;\n' "$k" "$k"; done
+    echo "controller main" m{16..225} ";"
+} >wide.brief
+asked guard wide.brief --controller main
 # A trace with a transfer that is a message, one that is near to one, and one that is not acknowledged; and what is refused of these.
 printf 'a-1 [000] 5.000001: i2c_%s\n' 'write: i2c-3 #0 a=048 f=0000 l=2 [01-60]' 'result: i2c-3 n=1 ret=1' \
     'write: i2c-3 #0 a=048 f=0000 l=2 [02-60]' 'result: i2c-3 n=1 ret=1' 'write: i2c-3 #0 a=051 f=0000 l=0 []' \

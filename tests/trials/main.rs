@@ -4,7 +4,7 @@
 //! compares what twire says with the plain programs; it makes up plans, which are to come back from the briefs that twire writes
 //! of them; and it cuts briefs into several files. All these come from a seed, so a run can be repeated.
 //!
-//! tests/trials.sh builds it and runs it; docs/TESTING.md says what it tries, tests/cases/README.md how cases are written.
+//! tests/trials.sh builds it and runs it; tests/README.md says what it tries, tests/cases/README.md how cases are written.
 
 mod blocks;
 mod boards;

@@ -73,6 +73,8 @@ const NO_STARTERS: Fault =
 
 const NOT_BITS: Fault = "the value for '--answers <BITS>' is not of 0 and 1";
 
+const NO_CAPTURE: Fault = "'--drives' goes with '--capture <VCD>'";
+
 const NO_FILE: Fault = "'--wave' wants a file, since the report goes to standard output";
 
 const NOT_TIMED: Fault = "the argument '--timing' cannot be used with '--wave <FILE>'";
@@ -121,6 +123,8 @@ const NOT_OF_TRACES: Fault =
     "'--sender' reads traces: options of lines, times and tables are for dumps";
 
 const NO_NAMES: Fault = "'--device' wants '--names <BRIEF>', which has the device";
+
+const NO_CONTROLLER: Fault = "'--controller <NAME>' is missing: whose messages the driver may send";
 
 const NOT_COUNTED: Fault = "'--summary' leaves no transactions for '--pec'";
 
@@ -230,13 +234,14 @@ fn asked_of<'a>(matches: &ArgMatches<'a>) -> Result<(Request<'a>, Tabled<'a>, Ma
     let request = request_of(name, matches)?;
     refuse_rows(name, matches)?;
     refuse_input_twice(matches)?;
-    Ok((request, tabled_of(matches)?, manner_of(matches)))
+    Ok((request, tabled_of(name, matches)?, manner_of(matches)))
 }
 
 // Whether the capture is a table, where that goes with the other options.
-fn tabled_of<'a>(matches: &ArgMatches<'a>) -> Result<Tabled<'a>, Fault> {
+fn tabled_of<'a>(name: &str, matches: &ArgMatches<'a>) -> Result<Tabled<'a>, Fault> {
     let tabled = Tabled {
-        is_table: matches.get_flag("table"),
+        // (that of a guard is none)
+        is_table: name != "guard" && matches.get_flag("table"),
         rate: matches.get_str("rate"),
     };
     let path = matches.get_str("VCD").or(matches.get_str("capture"));
@@ -354,6 +359,7 @@ fn request_of<'a>(name: &str, matches: &ArgMatches<'a>) -> Result<Request<'a>, F
         "learn" => learn_of(matches),
         "page" => page_of(matches),
         "bench" => bench_of(matches),
+        "guard" => guard_of(matches),
         "format" => layout_of(matches),
         "certify" => Ok(rewrite_of(matches, "PLAN", Rewriting::Certify)),
         "expand" => Ok(rewrite_of(matches, "BRIEF", Rewriting::Expand)),
@@ -485,6 +491,18 @@ fn rewrite_of<'a>(matches: &ArgMatches<'a>, file: &str, rewriting: Rewriting) ->
         file: word(matches, file),
         rewriting,
         output: output_of(matches),
+    }
+}
+
+fn guard_of<'a>(matches: &ArgMatches<'a>) -> Result<Request<'a>, Fault> {
+    match matches.get_str("controller") {
+        Some(controller) => Ok(Request::Guard {
+            plan: word(matches, "PLAN"),
+            controller,
+            alone: matches.get_flag("table"),
+            output: output_of(matches),
+        }),
+        None => Err(NO_CONTROLLER),
     }
 }
 
@@ -707,10 +725,15 @@ fn learn_of<'a>(matches: &ArgMatches<'a>) -> Result<Request<'a>, Fault> {
 }
 
 fn page_of<'a>(matches: &ArgMatches<'a>) -> Result<Request<'a>, Fault> {
+    let capture = matches.get_str("capture");
+    if capture.is_none() && matches.get_strs("drives").is_some() {
+        return Err(NO_CAPTURE);
+    }
     Ok(Request::Page {
         plan: word(matches, "PLAN"),
-        capture: matches.get_str("capture"),
+        capture,
         bus: options_of(matches)?.bus_or_only(),
+        drives: pulling_of(matches),
         output: output_of(matches),
     })
 }

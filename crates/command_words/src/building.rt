@@ -23,11 +23,14 @@ fn program_alone<'a>(alloc: Global) -> Result<Command<'a>, AllocError> {
         .args(options)
 }
 
+// Below this the help of each command lists them.
+const OF_ALL: &str = "Options of all commands";
+
 // The options of all commands.
 fn options<'a>(alloc: Global) -> Result<Vec<Arg<'a>>, AllocError> {
     let mut options = Vec::new(alloc);
     for one in &[HINTS, COLOR, FORMAT] {
-        options.push(argument(alloc, *one)?.global(true))?;
+        options.push(argument(alloc, *one)?.global(true).help_heading(OF_ALL))?;
     }
     Ok(options)
 }

@@ -30,6 +30,14 @@ start together.
 People write a brief, with addresses in hex and no 'else stop', and have the
 plan written from it: 'twire help expand' shows the language.
 
+Examples:
+
+  twire check board.brief --explain    is the plan safe, and if not, why?
+  twire mend board.brief               edits that make it safe
+  twire certify board.brief -o board.cert
+  twire verify board.brief board.cert  the proof of each pair holds
+  twire decode bus.vcd                 what a capture shows, without a plan
+
 Exit status:
   0  the plan is safe, or was accepted as safe; a capture is explained; a bench
      was played; a plan or a brief was written (or help was asked for)
@@ -67,6 +75,12 @@ shown):
 '--wave FILE' draws the fault of the first unsafe pair, or of that of '--pair':
 SCL, SDA and what each of the two pulls, for GTKWave or PulseView.
 
+Examples:
+
+  twire check bus.plan
+  twire check board.brief --explain
+  twire check board.brief --strict --apart 0    for the checks of a team
+
 Exit status: 0 safe, 1 not safe, 2 refused. With '--strict' it is 1 also where
 some message is in no controller, and where there is no pair; with '--apart N'
 beside it also where 'never' leaves out more than N pairs.";
@@ -81,6 +95,8 @@ that mends most, and what 'twire check' then says:
 
 '--take 0.1,1.2' takes these offers, and '--all' those of the list. What the
 edited files give is checked again. Comments and layout stay.
+
+Examples:
 
   twire mend board.brief                       lists the offers
   twire mend board.brief --all --in-place      writes the files
@@ -109,6 +125,11 @@ leaves it where the plan is refused. Whoever builds on the plan checks it by
 says that the plan at hand is safe, whatever plan the certificate was written
 for. Change the plan, and write the certificate again.
 
+Examples:
+
+  twire certify bus.plan -o bus.cert
+  twire certify board.brief --with pch.brief -o board.cert
+
 Exit status: 0 safe, 1 not safe, 2 refused.";
 
 pub const AFTER_VERIFY_HELP: &str = "\
@@ -124,6 +145,11 @@ The answer is one line:
 
 A wrong certificate says nothing of the plan: ask 'twire check'. An accepted one
 says nothing of devices that do not keep to the plan.
+
+Examples:
+
+  twire verify bus.plan bus.cert
+  twire verify board.brief board.cert --explain
 
 Exit status: 0 accepted safe, 1 accepted unsafe, 2 wrong or refused.";
 
@@ -150,6 +176,11 @@ With '--explain' a summary stands above these lines: for each two controllers
 how many pairs each wins, either may win, and both always end together; who
 never wins against whom; and who waits in each pair that somebody wins.
 
+Examples:
+
+  twire order bus.plan
+  twire order board.brief --explain
+
 Exit status: 0 the plan is safe, 1 it is not, 2 refused.";
 
 pub const AFTER_PAGE_HELP: &str = "\
@@ -166,10 +197,13 @@ from elsewhere. It shows
   what is sent     each message in bytes, as 'S 48 Wr A 01 A P'
   the capture      its transactions on a line of time, in a lane for each
                    participant that explains one, with '--capture VCD'; each
-                   leads to its wire as it was recorded
+                   leads to its wire as it was recorded, and with '--drives'
+                   ('twire help capture') to what the controllers did
 
 and the reports of 'check', 'order' and 'capture --explain', of which all this
 is made.
+
+Examples:
 
   twire page bus.plan -o bus.html
   twire page bus.plan --capture bus.vcd --scl D0 --sda D1 -o bus.html
@@ -242,6 +276,12 @@ What makes such dumps:
 With '--hints always', and on a terminal, further lines on standard error say
 what is wrong with a refused capture, or why a report may have no transaction.
 
+Examples:
+
+  twire capture bus.plan bus.vcd --explain
+  twire capture board.brief export.csv --scl D0 --sda D1 --summary
+  twire capture board.brief sim.vcd --drives bmc=top.bmc.sda_o
+
 Exit status: 0 all is explained, 1 something is not, 2 refused.";
 
 pub const AFTER_DECODE_HELP: &str = "\
@@ -284,9 +324,9 @@ With '--format csv' each byte is a row: when it begins and ends, whether it is
 number of its transaction.
 
 With '--timing' lines below each say its rate and its longest LOW of SCL; with
-'--mode' also which times are less than the mode wants (UM10204, table 10). Above
-the last line stands which line was stuck LOW, and after how many clocks it was
-not:
+'--mode' also which times are less than the mode wants (UM10204, table 10).
+Above the last line stands which line was stuck LOW, and after how many clocks
+it was not:
 
   twire decode bus.vcd --timing --mode fast
 
@@ -303,7 +343,13 @@ beside them as texts, as 'S', '48_Wr' and 'A', for programs that show waves:
 
   twire decode board.vcd --scl D0 --sda D1 --wave bytes.vcd
 
+Examples:
+
+  twire decode bus.vcd --explain
+  twire decode export.csv --rate 24MHz --nacked --times si
+
 Refusals are those of 'twire capture'.
+
 Exit status: 0 written, 2 refused.";
 
 pub const AFTER_SIGNALS_HELP: &str = "\
@@ -325,6 +371,12 @@ a glitch is no START. With '--from' and '--to' changes count that happen then,
 and transactions that begin then, as with 'twire capture'.
 
 Refusals are those of 'twire capture'; V1 says that no signal has one bit.
+
+Examples:
+
+  twire signals bus.vcd
+  twire signals export.csv --min-pulse 50ns
+
 Exit status: 0 listed, 2 refused.";
 
 pub const AFTER_CONFORM_HELP: &str = "\
@@ -342,6 +394,11 @@ last line says 'bmc keeps to the plan in N transfers', or in how many of them it
 departs. Transfers that failed otherwise are counted, and not judged.
 
   trace-cmd stream -e i2c | twire conform board.brief --sender bmc - --live
+
+Examples:
+
+  twire conform board.brief --sender bmc trace.txt
+  twire conform board.brief --sender bmc trace.txt --adapter 3 --summary
 
 Exit status: 0 it keeps to the plan, 1 it does not, 2 refused.
 ";
@@ -387,6 +444,11 @@ With '--sender' it is learned from the kernel's traces, one for each controller:
 Expanded by 'twire expand', it explains the capture that it was learned from,
 except for transactions that no message can have, which comments count.
 
+Examples:
+
+  twire learn bus.vcd --merge -o seen.brief
+  twire learn bus.vcd --names board.brief --widen -o learned.brief
+
 Exit status: 0 written, 1 written, and not all is in messages, 2 refused.";
 
 pub const AFTER_BENCH_HELP: &str = "\
@@ -415,6 +477,11 @@ Starters that cannot start together are refused on standard error with a code:
   B1  no starter                   B3  two of one controller, or one twice
   B2  no participant of the plan   B8  two that never start together
 
+Examples:
+
+  twire bench board.brief main/set,guard/get --certify --rest 0 --explain
+  twire bench bus.plan bus.cert main/set,guard/get --wave run.vcd
+
 Exit status: 0 played, 1 accepted unsafe, 2 wrong or refused.";
 
 pub const AFTER_PRINT_HELP: &str = "\
@@ -423,7 +490,46 @@ controllers, the interrupts and the 'never' items, each on a line of its own,
 with one space between two words and no comments. It says the same plan, so a
 certificate of the one is a certificate of the other.
 
+Example:
+
+  twire print bus.plan -o canonical.plan
+
 Exit status: 0 written, 2 refused.";
+
+pub const AFTER_GUARD_HELP: &str = "\
+The header has the messages that the controller may send as an enum, a table of
+them in two constant arrays, and a function for the driver to ask before it
+sends. For a controller 'bmc' with a message 'set' that is
+
+  enum bmc_message { bmc_message_set = 0, bmc_messages = 1 };
+  int bmc_may_send(const struct twire_segment *segments, size_t count);
+
+and the function answers the message that the segments are, or -1. A segment is
+what is sent from a START or a repeated START on:
+
+  struct twire_segment {
+      uint16_t address;  uint8_t flags;  uint16_t length;  const uint8_t *data;
+  };
+
+The flags are TWIRE_READ, and TWIRE_TEN for an address of ten bits. The function
+reads each byte once, however many messages there are. It allocates nothing, and
+the header needs C99, <stddef.h> and <stdint.h> alone. Include it in one file.
+
+A driver that sends segments ends with a STOP after a byte that is not
+acknowledged. So no segments are a message that goes on after one, as by 'else
+again': the header says so beside its name.
+
+docs/GUARD.md has the rules, and docs/FIRMWARE.md how to build it into the
+drivers of Linux, Zephyr and others.
+
+Examples:
+
+  twire guard board.brief --controller bmc -o bmc_guard.h
+  twire guard bus.plan --controller main --table
+
+Exit status: 0 the header was written; 2 refused, as 'refused controller NAME'
+for one that the plan does not have, or 'refused guard NAME' for one whose table
+would be too large.";
 
 pub const AFTER_EXPAND_HELP: &str = "\
 brief 1
@@ -455,8 +561,14 @@ all their items, in this order. Other commands take further files by '--with'.
 
 Check, certify and keep the plan that is written ('-o FILE', which leaves the
 old file where the brief is refused). Refusals are those of 'twire check', with
-the line of the brief, and of several files with the name of the one. Exit
-status: 0 written, 2 refused.";
+the line of the brief, and of several files with the name of the one.
+
+Examples:
+
+  twire expand board.brief -o bus.plan
+  twire expand bmc.brief pch.brief -o bus.plan
+
+Exit status: 0 written, 2 refused.";
 
 pub const AFTER_BRIEF_HELP: &str = "\
 A brief is the short form of a plan, which 'twire help expand' shows. This one
@@ -466,6 +578,10 @@ comments, are added by people. 'twire expand' gives the same plan back.
 
 A plan that has a name 'brief', 'device', 'byte' or 'any' has no brief, since
 these are words of the language: 'refused brief name'.
+
+Example:
+
+  twire brief bus.plan -o board.brief
 
 Exit status: 0 written, 2 refused.";
 
@@ -488,6 +604,11 @@ read, whole or not at all, and only where it changes. '--check' writes the line
 from which on it would change, for the checks of a team. It takes several files,
 and looks at those too that the heads of briefs name.
 
+Examples:
+
+  twire format board.brief --in-place
+  twire format --check board.brief pch.brief
+
 Exit status: 0 written, or nothing to change, 1 '--check' would change some,
 2 refused.";
 
@@ -502,6 +623,10 @@ follow in this order: as they are open in the editor, or else on disk. Neovim
 starts it once, in the folder of the project, and attaches buffers to it:
 
   vim.lsp.start_client({ cmd = { 'twire', 'lsp', '--with', 'pch.brief' } })
+
+Example:
+
+  twire lsp --with pch.brief
 
 Exit status: 0 after 'shutdown' and 'exit', 1 where the editor ends otherwise, 2
 where it ends inside of a frame, and where standard output cannot be written.";

@@ -29,6 +29,8 @@ pub enum Request<'a> {
         plan: &'a str,
         capture: Option<&'a str>,
         bus: Bus<'a>,
+        /// The lines of controllers that are followed.
+        drives: Drives<'a>,
         output: Option<&'a str>,
     },
     /// Who wins arbitration.
@@ -77,6 +79,13 @@ pub enum Request<'a> {
         plan: &'a str,
         cert: Option<&'a str>,
         play: Play<'a>,
+    },
+    /// What this controller of a plan may send, for its driver: with the function that asks the table, or the table alone.
+    Guard {
+        plan: &'a str,
+        controller: &'a str,
+        alone: bool,
+        output: Option<&'a str>,
     },
     /// A text in another form.
     Rewrite {
@@ -305,6 +314,19 @@ impl<'a> Request<'a> {
                     output,
                 }
             }
+            Request::Page {
+                plan,
+                capture,
+                bus,
+                drives,
+                output,
+            } => Request::Page {
+                plan,
+                capture,
+                bus,
+                drives: Drives { all, ..drives },
+                output,
+            },
             _ => self,
         }
     }
@@ -331,11 +353,12 @@ impl<'a> Request<'a> {
 
     /// The controllers whose traces it is over.
     pub fn senders(self) -> &'a [Sender<'a>] {
-        match self {
-            Request::LearnTraces { lesson, .. } => lesson.senders,
-            Request::Conform { conform, .. } => conform.senders,
-            _ => &[],
-        }
+        let senders = match self {
+            Request::LearnTraces { lesson, .. } => Some(lesson.senders),
+            Request::Conform { conform, .. } => Some(conform.senders),
+            _ => None,
+        };
+        senders.unwrap_or(&[])
     }
 
     /// The same with the offers of these numbers, where such are taken.
@@ -377,6 +400,7 @@ impl<'a> Request<'a> {
         match self {
             Request::Capture { capture, .. } => capture.drives.all.get(number).copied(),
             Request::Learn { lesson, .. } => lesson.drives.all.get(number).copied(),
+            Request::Page { drives, .. } => drives.all.get(number).copied(),
             _ => None,
         }
     }

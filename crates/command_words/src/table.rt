@@ -2,9 +2,9 @@
 
 use crate::help::{
     AFTER_BENCH_HELP, AFTER_BRIEF_HELP, AFTER_CAPTURE_HELP, AFTER_CERTIFY_HELP, AFTER_CHECK_HELP,
-    AFTER_CONFORM_HELP, AFTER_DECODE_HELP, AFTER_EXPAND_HELP, AFTER_FORMAT_HELP, AFTER_LEARN_HELP,
-    AFTER_LSP_HELP, AFTER_MEND_HELP, AFTER_ORDER_HELP, AFTER_PAGE_HELP, AFTER_PRINT_HELP,
-    AFTER_SIGNALS_HELP, AFTER_VERIFY_HELP,
+    AFTER_CONFORM_HELP, AFTER_DECODE_HELP, AFTER_EXPAND_HELP, AFTER_FORMAT_HELP, AFTER_GUARD_HELP,
+    AFTER_LEARN_HELP, AFTER_LSP_HELP, AFTER_MEND_HELP, AFTER_ORDER_HELP, AFTER_PAGE_HELP,
+    AFTER_PRINT_HELP, AFTER_SIGNALS_HELP, AFTER_VERIFY_HELP,
 };
 
 /// A command of the program.
@@ -163,9 +163,9 @@ pub const FORMAT: Argument = Argument::Choice {
 };
 
 /// The commands, in the order of the help.
-pub const COMMANDS: [Entry; 17] = [
+pub const COMMANDS: [Entry; 18] = [
     CHECK, MEND, CERTIFY, VERIFY, ORDER, CAPTURE, CONFORM, DECODE, SIGNALS, LEARN, BENCH, PAGE,
-    EXPAND, PRINT, BRIEF, LAYOUT, LSP,
+    GUARD, EXPAND, PRINT, BRIEF, LAYOUT, LSP,
 ];
 
 const CHECK: Entry = Entry {
@@ -286,9 +286,17 @@ const PAGE: Entry = Entry {
     usage: None,
     after_help: AFTER_PAGE_HELP,
     arguments: &[
-        PLAN, WITH, RECORDED, SCL, SDA, SCOPE, SCL_CODE, SDA_CODE, TABLE, RATE, MIN_PULSE, FROM,
-        TO, ADDRESS, DEVICE, NACKED, PATTERN, TIMES, OUTPUT,
+        PLAN, WITH, RECORDED, SCL, SDA, SCOPE, SCL_CODE, SDA_CODE, TABLE, RATE, DRIVES, PULLS,
+        MIN_PULSE, FROM, TO, ADDRESS, DEVICE, NACKED, PATTERN, TIMES, OUTPUT,
     ],
+};
+
+const GUARD: Entry = Entry {
+    name: "guard",
+    about: "Write what a controller may send as a header for its driver, in C",
+    usage: Some("twire guard [OPTIONS] --controller <NAME> <PLAN>"),
+    after_help: AFTER_GUARD_HELP,
+    arguments: &[PLAN, CONTROLLER, WITH, ALONE, OUTPUT],
 };
 
 const EXPAND: Entry = Entry {
@@ -409,7 +417,7 @@ const SENDER: Argument = Argument::Twos {
 const ADAPTER: Argument = Argument::Count {
     id: "adapter",
     value_name: "N",
-    help: "Events of adapter i2c-N [default: the only one]",
+    help: "Events of i2c-N; without it, of the only adapter",
 };
 
 const COUNTED: Argument = Argument::Flag {
@@ -536,6 +544,18 @@ const SDA_CODE: Argument = Argument::Name {
 const TABLE: Argument = Argument::Flag {
     id: "table",
     help: "The capture is a table (CSV), whatever its name",
+};
+
+const CONTROLLER: Argument = Argument::Option {
+    id: "controller",
+    value_name: "NAME",
+    help: "Whose messages; it has to be given",
+};
+
+// Without the function that asks the table.
+const ALONE: Argument = Argument::Flag {
+    id: "table",
+    help: "The names and the table alone",
 };
 
 const RATE: Argument = Argument::Option {

@@ -1,6 +1,5 @@
 // The forms of transactions that are no exact lines: sinks that end by what they have told.
 
-use crate::driven::decode_with;
 use capture_check::{Beside, Signs};
 use decoding::{Ending, ExplainedSink, Explaining, TransactionSink};
 use dump_findings::Selection;
@@ -127,4 +126,19 @@ pub(crate) fn capture_to<R: AllocGlobal + Threads + Sync, J: Input, S: CaptureFo
     };
     let Explaining { sink, .. } = explaining;
     Ok((sink.told(dump.quiet(), ended)?, signs))
+}
+
+/// Hands the transactions of the dump on, beside who is there.
+pub(crate) fn decode_with<J: Input, S: TransactionSink, B: Beside>(
+    alloc: Global,
+    dump: &mut Dump<'_, '_, J>,
+    sink: &mut S,
+    beside: &mut Option<B>,
+) -> Result<Ending, RunError>
+    requires { S.needs }
+{
+    match beside {
+        Some(beside) => dump.decode_beside(alloc, sink, beside),
+        None => dump.decode(alloc, sink),
+    }
 }

@@ -1,9 +1,7 @@
 //! The runs over dumps: `capture`, `decode`, `learn` and `signals`. Each finds a value, and writes it in the form that is
-//! wanted, `decode` as waves too. `recordings` has the runs, `forms` drives the forms that are no exact lines, and `driven`
-//! is for dumps that have for each controller what it pulls itself.
+//! wanted, `decode` as waves too. `recordings` has the runs, and `forms` drives the forms that are no exact lines.
 #![tactic(auto)]
 
-mod driven;
 mod forms;
 mod recordings;
 

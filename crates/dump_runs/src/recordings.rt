@@ -13,11 +13,7 @@ ghost use Rattle.run_parts.specs.Writing.{WritesAll};
 ghost use Rattle.run_parts.specs.declared.runs.Status.TheVariants.{Good};
 ghost use Rattle.vcd_read.specs.Views.{asked};
 
-use crate::driven::{
-    decode_with, drivers_of, judging_of, open_driven, refuse_no_names, refuse_others,
-    refuse_unknown,
-};
-use crate::forms::{capture_to, decode_as, decode_to};
+use crate::forms::{capture_to, decode_as, decode_to, decode_with};
 use bus_rows::Paint;
 use byte_lines::{ByteCounts, write_decoded, write_decoded_beside};
 use capture_check::{Beside, Signs};
@@ -25,7 +21,7 @@ use command_words::{Capture, Decoding, Lesson};
 use drives::Drivers;
 use dump_findings::{Layout, MarkTimes, Remarks, Seen, Selection, status_of_seen};
 use dump_objects::{CaptureObjects, DecodeObjects, write_signals};
-use dump_tokens::{Bus, BusLines, Drives, Limits, Quiet, View, Window};
+use dump_tokens::{Bus, BusLines, Drives, Limits, Quiet, Window};
 use given_plans::{GivenPlan, Halted, Provenance};
 use given_runs::{GivenCapture, GivenLive, capture_given, live_given};
 use lessons::{BriefBefore, Likeness, Sights, brief_of, write_brief, write_learned};
@@ -36,14 +32,15 @@ use plan_words::PlanWords;
 use report::{CaptureCounts, CaptureReport, live_capture, write_capture};
 use run_parts::{Input, Output, RunError, Status, write_lines};
 use run_values::{
-    Ended, Findings, Halt, Recorded, Sources, Style, device_of, halted, halted_by, open_dump,
+    Ended, Findings, Halt, Recorded, Sources, Style, Waves, device_of, drivers_of, halted,
+    halted_by, judging_of, open_driven, open_dump, refuse_no_names, refuse_others, refuse_unknown,
 };
-use signals::{Dump, Listed, OpenDump, Recorder, SignalDump, reads_ahead};
+use signals::{Dump, Listed, OpenDump, SignalDump, reads_ahead};
 use std::alloc::Global;
 use std::thread::Threads;
 use transaction_lines::{ByteRows, CaptureLines, DecodeLines};
 use vcd_read::{Nobody, Probe, Signal, VcdError, Wrong};
-use waves::wave_of_recording;
+use waves::{RecordedWave, WaveFile};
 
 // What a capture has come to: its status, what it tells, in how many transactions a controller departed from the rules of the
 // plan, and how well it was recorded.
@@ -344,16 +341,16 @@ fn capture_dump<R: AllocGlobal + Threads + Sync, J: Input, O: Output>(
 // ---- decode
 
 /// Writes the transactions of the dump that the reader gives, in bytes; with the bus as waves, where these are wanted.
-pub fn decode<J: Input, O: Output>(
+pub fn decode<J: Input, O: Output, W: Output>(
     alloc: Global,
     vcd: &mut J,
     out: &mut O,
     decoding: Decoding<'_>,
     style: Style,
-    has_wave: bool,
+    wave: Option<WaveFile<'_, W>>,
 ) -> Result<Ended, Halt> {
-    if !is_exactly(decoding, style, has_wave) {
-        return decode_in_form(alloc, vcd, out, decoding, NAMELESS, style, has_wave);
+    if !is_exactly(decoding, style, wave.is_some()) {
+        return decode_in_form(alloc, vcd, out, decoding, NAMELESS, style, wave);
     }
     let Decoding { bus, live, .. } = decoding;
     let BusLines {
@@ -395,26 +392,27 @@ pub fn decode_others<J: Input, O: Output>(
     decoding: Decoding<'_>,
 ) -> Result<Ended, Halt> {
     let style = Style::Lines(Paint::Plain);
-    decode_in_form(alloc, vcd, out, decoding, NAMELESS, style, false)
+    let nowhere: Option<WaveFile<'_, O>> = None;
+    decode_in_form(alloc, vcd, out, decoding, NAMELESS, style, nowhere)
 }
 
 /// The same with the names that devices have in the briefs which the first readers give. These are read to their ends and judged
 /// before the dump is read.
-pub fn decode_with_names<I: Input, J: Input, O: Output>(
+pub fn decode_with_names<I: Input, J: Input, O: Output, W: Output>(
     alloc: Global,
     briefs: &mut Sources<'_, I>,
     vcd: &mut J,
     out: &mut O,
     decoding: Decoding<'_>,
     style: Style,
-    has_wave: bool,
+    wave: Option<WaveFile<'_, W>>,
 ) -> Result<Ended, Halt> {
     let GivenPlan { provenance, .. } = briefs.find_in_briefs(alloc)?;
     let named = Named {
         device: device_of(alloc, decoding.bus.device, &provenance)?,
         names: provenance.origins.as_ref(),
     };
-    decode_in_form(alloc, vcd, out, decoding, named, style, has_wave)
+    decode_in_form(alloc, vcd, out, decoding, named, style, wave)
 }
 
 // The device that transactions have to call, and the briefs that have names of devices.
@@ -469,14 +467,14 @@ fn seen_in_bytes(counts: ByteCounts) -> Seen {
 }
 
 // The report in another form, by definitions that are read ahead, or beside waves.
-fn decode_in_form<J: Input, O: Output>(
+fn decode_in_form<J: Input, O: Output, W: Output>(
     alloc: Global,
     vcd: &mut J,
     out: &mut O,
     decoding: Decoding<'_>,
     named: Named<'_>,
     style: Style,
-    has_wave: bool,
+    wave: Option<WaveFile<'_, W>>,
 ) -> Result<Ended, Halt>
     ensures status { IfOk result (λ it. EndsJudged decoding.entry.bus.view.at_least 0 it) }
 {
@@ -488,10 +486,10 @@ fn decode_in_form<J: Input, O: Output>(
         pec: decoding.pec,
         names: named.names,
     };
-    let mut recorder = if has_wave {
-        Some(Recorder::new(alloc))
-    } else {
-        None
+    let least = dump.quiet().least;
+    let mut recorder = match wave {
+        Some(file) => Some(RecordedWave::new(alloc, file, least, selection.view())),
+        None => None,
     };
     let is_timed = bus.view.timing.is_some();
     let told = match style {
@@ -511,13 +509,12 @@ fn decode_in_form<J: Input, O: Output>(
             decode_as(alloc, &mut dump, lines, is_timed, &mut recorder)
         }
     };
-    let least = dump.quiet().least;
     let (selection, signs) = match told {
         Ok(told) => told,
         Err(error) => return Err(halted(dump, error)),
     };
     let wave = match recorder {
-        Some(recorder) => Some(Ok(draw_recording(alloc, recorder, least, selection.view())?)),
+        Some(recorder) => Some(Waves::Drawn(recorder.finish()?)),
         None => None,
     };
     let recorded = Recorded::Bytes(bus.view.window, selection.seen);
@@ -529,33 +526,18 @@ fn decode_in_form<J: Input, O: Output>(
     })
 }
 
-// Draws what was recorded, with the bytes of the levels that last for so long.
-fn draw_recording(
-    alloc: Global,
-    recorder: Recorder,
-    least: u64,
-    view: View,
-) -> Result<String, RunError> {
-    let recorded = recorder.finish()?;
-    if least == 0 {
-        return Ok(wave_of_recording(alloc, &recorded, &recorded, view)?);
-    }
-    let lasting = recorded.lasting(alloc, least)?;
-    Ok(wave_of_recording(alloc, &recorded, &lasting, view)?)
-}
-
 // The exact lines, by the run of `byte_lines` over what gives the dump from its beginning on.
-fn exact_bytes<J: Input, O: Output>(
+fn exact_bytes<J: Input, O: Output, B: Beside>(
     alloc: Global,
     dump: &mut Dump<'_, '_, J>,
     out: &mut O,
     mut selection: Selection,
     live: bool,
-    recorder: &mut Option<Recorder>,
+    beside: &mut Option<B>,
 ) -> Result<(Selection, Signs), RunError> {
     let dump = dump.parts();
-    let told = match recorder {
-        Some(recorder) => bytes_beside(alloc, dump, out, live, recorder),
+    let told = match beside {
+        Some(beside) => bytes_beside(alloc, dump, out, live, beside),
         None => bytes_beside(alloc, dump, out, live, &mut Nobody),
     };
     match told {

@@ -1,7 +1,7 @@
 // A part of the script: the transactions of a capture, in lanes on a line of time.
 
 pub(crate) const LANES: &str = r#"
-// ---- A capture. A transaction is { number, from, to, end, by, bytes, nearest, wire }, and its times are whole numbers.
+// ---- A capture. A transaction is { number, from, to, end, by, bytes, nearest, drove, wire }, and its times are whole numbers.
 
 const shownTransactions = list => list.map((one, number) => ({ ...one, number, from: BigInt(one.from),
   to: one.to === undefined ? null : BigInt(one.to) }));
@@ -439,10 +439,11 @@ function oddOf(line) {
 }
 
 // Its parts, and what is to be done once they stand in the page.
-function captureOf({ stopped, unexplained, step, transactions }) {
+function captureOf({ stopped, unexplained, step, notes, transactions }) {
   const list = shownTransactions(transactions);
   const parts = [element('h2', { id: 'capture-seen' }, 'The capture'),
-    element('p', {}, stopped + ' transactions, ' + unexplained + ' unexplained')];
+    element('p', {}, stopped + ' transactions, ' + unexplained + ' unexplained'),
+    ...(notes ?? []).map(text => element('p', { class: 'note' }, text))];
   if (list.length === 0) return { parts, draw: () => {} };
   const line = lineOf(list, step);
   listen(line);

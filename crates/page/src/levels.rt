@@ -147,6 +147,11 @@ function wireOf(one, step) {
     style: '--all: ' + (margin + end) }, names, svg);
 }
 
+// What the controllers did that are followed.
+function deedsOf(one) {
+  return one.drove ? element('ul', { class: 'leaves' }, ...one.drove.map(text => element('li', {}, text))) : null;
+}
+
 // The transaction with its wire, and who explains it, or where the nearest leave it.
 function shownTransaction(one, step) {
   const said = fateOf(one) === 'odd' ? 'Nobody of the plan explains it. Where those leave it who go along furthest:'
@@ -157,6 +162,7 @@ function shownTransaction(one, step) {
     element('pre', { class: 'rows' }, one.bytes),
     element('p', {}, said),
     one.nearest ? element('ul', { class: 'leaves mono' }, ...one.nearest.map(near => element('li', {}, leavesText(near)))) : null,
+    deedsOf(one),
     wireOf(one, step),
     one.lasting === undefined ? null : element('p', {}, 'The lines are as they were recorded. Some of their levels were too short, and do not count for the bytes.'));
 }

@@ -35,7 +35,7 @@ pub struct Page<'a> {
     /// What is offered to mend them, where there are some.
     pub offers: Option<&'a Offers>,
     /// A recorded bus.
-    pub recording: Option<&'a Recording>,
+    pub recording: Option<&'a Recording<'a>>,
     /// The same as texts.
     pub texts: Texts<'a>,
 }

@@ -4,7 +4,11 @@ use crate::wires::{Span, Wired};
 use bus_rows::bytes_of;
 use capture_check::{Mark, Transaction, Until};
 use decoding::ExplainedSink;
-use dump_findings::{Leaves, Seen, Selection, mark_words, nearest, offer_words};
+use drives::{Judging, Verdict};
+use dump_findings::{
+    Leaves, Seen, Selection, deed, deeds, denied, mark_words, meeting, meetings, nearest,
+    offer_words,
+};
 use dump_tokens::Scale;
 use plan_core::Plan;
 use run_parts::RunError;
@@ -13,13 +17,30 @@ use signals::RecordedLines;
 use std::alloc::{AllocError, Global};
 
 /// The transactions that are told, in the order in which they ended.
-#[derive(Drop)]
-pub struct Recording {
+pub struct Recording<'w> {
     alloc: Global,
     selection: Selection,
     transactions: Vec<Shown>,
+    // the controllers that are followed, where such are
+    judging: Option<Judging<'w>>,
     // what the numbers of the dump count
     scale: Option<Scale>,
+    // what is said of the whole capture
+    notes: Vec<String>,
+}
+
+// Written out, so that one call lets it go.
+impl Drop for Recording<'_> {
+    fn drop(self) {
+        let Self {
+            alloc: _,
+            selection: _,
+            transactions: _,
+            judging: _,
+            scale: _,
+            notes: _,
+        } = self;
+    }
 }
 
 /// A transaction. Its times are whole numbers, which may be too great for a number of a script.
@@ -38,6 +59,9 @@ pub(crate) struct Shown {
     bytes: String,
     #[serde(skip_serializing_if = "Vec::is_empty")]
     nearest: Vec<Near>,
+    // what the controllers did that are followed
+    #[serde(skip_serializing_if = "Vec::is_empty")]
+    drove: Vec<String>,
     // the two lines as they were recorded, and without what was too short, where that differs
     wire: String,
     #[serde(skip_serializing_if = "Option::is_none")]
@@ -56,6 +80,7 @@ impl Drop for Shown {
             by: _,
             bytes: _,
             nearest: _,
+            drove: _,
             wire: _,
             lasting: _,
         } = self;
@@ -79,18 +104,52 @@ pub(crate) struct Recorded<'a> {
     // so many of this unit are a step of time, where the dump says so
     #[serde(skip_serializing_if = "Option::is_none")]
     step: Option<(u8, &'static str)>,
+    // what is said of the whole capture, where anything is
+    #[serde(skip_serializing_if = "Option::is_none")]
+    notes: Option<&'a [String]>,
     transactions: &'a [Shown],
 }
 
-impl Recording {
+impl<'w> Recording<'w> {
     /// No transaction yet of those that are selected.
-    pub fn new(alloc: Global, selection: Selection) -> Recording {
+    pub fn new(alloc: Global, selection: Selection, judging: Option<Judging<'w>>) -> Recording<'w> {
         Recording {
             alloc,
             selection,
             transactions: Vec::new(alloc),
+            judging,
             scale: None,
+            notes: Vec::new(alloc),
         }
+    }
+
+    /// Says this of the whole capture.
+    ///
+    /// # Errors
+    ///
+    /// Where an allocation fails.
+    pub fn note(&mut self, text: String) -> Result<(), AllocError> {
+        match self.notes.push(text) {
+            Ok(()) => Ok(()),
+            Err(_) => Err(AllocError),
+        }
+    }
+
+    /// Says of the whole capture what the controllers did that are followed.
+    ///
+    /// # Errors
+    ///
+    /// Where an allocation fails.
+    pub fn note_deeds(&mut self) -> Result<(), AllocError> {
+        let Some(judging) = &self.judging else {
+            return Ok(());
+        };
+        self.notes
+            .push(deeds(self.alloc, judging).text(self.alloc)?)?;
+        if let Some(met) = meetings(self.alloc, judging) {
+            self.notes.push(met.text(self.alloc)?)?;
+        }
+        Ok(())
     }
 
     /// Puts the two lines beside the transactions, as they were recorded, and as they last where some levels were too short.
@@ -139,6 +198,7 @@ impl Recording {
                 Some(scale) => Some((scale.number(), scale.unit().symbol())),
                 None => None,
             },
+            notes: (!self.notes.is_empty()).then_some(self.notes.as_slice()),
             transactions: self.transactions.as_slice(),
         }
     }
@@ -149,16 +209,55 @@ impl Recording {
         transaction: &Transaction,
         participants: &[u32],
     ) -> Result<(), AllocError> {
-        if self.selection.takes(transaction, !participants.is_empty()) {
+        let is_told = self.selection.takes(transaction, !participants.is_empty());
+        let drove = self.judge(plan, transaction, participants, is_told)?;
+        if is_told {
             let scale = self.selection.told_scale();
-            let shown = shown_of(self.alloc, plan, transaction, participants, scale)?;
+            let mut shown = shown_of(self.alloc, plan, transaction, participants, scale)?;
+            shown.drove = drove;
             self.transactions.push(shown)?;
         }
         Ok(())
     }
+
+    // What the controllers did in it that are followed.
+    fn judge(
+        &mut self,
+        plan: &Plan,
+        transaction: &Transaction,
+        participants: &[u32],
+        is_told: bool,
+    ) -> Result<Vec<String>, AllocError> {
+        let alloc = self.alloc;
+        match &mut self.judging {
+            Some(judging) => {
+                let verdict = judging.judge_next(alloc, plan, transaction, participants, is_told)?;
+                texts_of(alloc, judging, &verdict)
+            }
+            None => Ok(Vec::new(alloc)),
+        }
+    }
 }
 
-impl ExplainedSink for Recording {
+fn texts_of(
+    alloc: Global,
+    judging: &Judging<'_>,
+    verdict: &Verdict,
+) -> Result<Vec<String>, AllocError> {
+    let mut texts = Vec::new(alloc);
+    for judged in verdict.all.iter() {
+        texts.push(deed(alloc, judging, *judged).text(alloc)?)?;
+    }
+    for met in verdict.met.iter() {
+        texts.push(meeting(alloc, judging, *met).text(alloc)?)?;
+    }
+    if verdict.is_denied {
+        texts.push(denied(alloc).text(alloc)?)?;
+    }
+    Ok(texts)
+}
+
+impl ExplainedSink for Recording<'_> {
     ghost use Rattle.decoding.specs.Sinks.{any_sink};
 
     ghost sink = { λ plan. any_sink };
@@ -204,6 +303,7 @@ fn shown_of(
         } else {
             Vec::new(alloc)
         },
+        drove: Vec::new(alloc),
         wire: String::new(alloc),
         lasting: None,
     })

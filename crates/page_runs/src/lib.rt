@@ -5,11 +5,14 @@ ghost use Rattle.plan_core.specs.PlanContents.{plan_contents};
 ghost use Rattle.verdicts.specs.Faults.{AreFaults, fault_list};
 
 use bus_rows::Paint;
-use capture_check::{Signs, Transaction};
+use capture_check::{Beside, Drove, Moment, Signs, Transaction};
 use decoding::{ExplainedSink, Explaining};
+use drives::{Drivers, Judging};
 use dump_findings::{Layout, Selection};
-use dump_tokens::Bus;
+use dump_hints::{Names, on_signs};
+use dump_tokens::{Bus, BusLines, Drives};
 use given_plans::{GivenPlan, Provenance};
+use hints::Hint;
 use message_tree::Address;
 use offers::{Offers, offers_of};
 use order::{order_of, order_report};
@@ -19,13 +22,17 @@ use plan_words::PlanWords;
 use remedies::{Grouped, grouped_of};
 use report::{check_found, check_report, status_of};
 use run_parts::{Input, Output, RunError, Status, Watched, write_lines};
-use run_values::{Ended, Findings, Halt, Recorded, Sources, device_of, halted, open_dump};
+use run_values::{
+    Ended, Findings, Halt, Recorded, Sources, device_of, drivers_of, halted, judging_of,
+    open_driven, refuse_others, refuse_unknown,
+};
 use signals::{Dump, Recorder};
 use spellings::print_plan;
 use std::alloc::{AllocError, Global};
 use std::str;
 use std::thread::Threads;
 use transaction_lines::CaptureLines;
+use vcd_read::{Further, Sample, Tokens};
 use verdicts::{Checked, NoGate};
 
 /// Writes the page of a plan.
@@ -50,13 +57,23 @@ pub fn write_page_with<R: AllocGlobal + Threads + Sync, I: Input, J: Input, O: O
     vcd: &mut J,
     out: &mut O,
     bus: Bus<'_>,
+    drives: Drives<'_>,
 ) -> Result<Ended, Halt> {
     let GivenPlan { plan, provenance } = plans.find(rt.alloc())?;
     let checked = check_found(rt, rt.alloc(), plan, 1, &NoGate)?;
     let words = plans.words(&checked.plan, &provenance);
+    refuse_unknown(rt.alloc(), words, drives)?;
     let device = device_of(rt.alloc(), bus.device, &provenance)?;
     let mut written = Watched::new(Vec::new(rt.alloc()));
-    let (recording, shown, findings) = recording_of(rt, words, vcd, &mut written, bus, device)?;
+    let (recording, shown, findings) = recording_of(
+        rt,
+        words,
+        vcd,
+        &mut written,
+        bus,
+        drives,
+        device,
+    )?;
     let capture = written.into_inner();
     let capture = Shown {
         recording: &recording,
@@ -82,45 +99,98 @@ pub fn write_page_with<R: AllocGlobal + Threads + Sync, I: Input, J: Input, O: O
 // A capture, and its explained report.
 #[derive(Clone, Copy)]
 struct Shown<'a> {
-    recording: &'a Recording,
+    recording: &'a Recording<'a>,
     report: &'a str,
 }
 
 // What a dump shows, with its explained report, the status of a run with that, and what people may be told of it.
-fn recording_of<R: AllocGlobal + Threads + Sync, J: Input, O: Output>(
+fn recording_of<'a, R: AllocGlobal + Threads + Sync, J: Input, O: Output>(
     rt: &R,
-    words: PlanWords<'_>,
+    words: PlanWords<'a>,
     vcd: &mut J,
     report: &mut O,
-    bus: Bus<'_>,
+    bus: Bus<'a>,
+    drives: Drives<'a>,
     device: Option<Address>,
-) -> Result<(Recording, Status, Findings), Halt> {
-    let mut dump = open_dump(rt.alloc(), vcd, bus)?;
+) -> Result<(Recording<'a>, Status, Findings), Halt> {
+    let alloc = rt.alloc();
+    let mut dump = open_driven(alloc, vcd, bus, drives)?;
     let selection = Selection::new(bus.view, dump.scale()).with_device(device);
-    let recorder = Recorder::new(rt.alloc());
-    match record(rt, words, &mut dump, report, selection, recorder) {
-        Ok((recording, selection, signs)) => {
+    let mut beside = Listeners {
+        recorder: Recorder::new(alloc),
+        drivers: drivers_of(alloc, drives, dump.quiet()),
+    };
+    let judgings = (
+        judging_of(alloc, drives, words.plan(), words)?,
+        judging_of(alloc, drives, words.plan(), words)?,
+    );
+    let ended = record(
+        rt,
+        words,
+        &mut dump,
+        report,
+        selection,
+        judgings,
+        &mut beside,
+    );
+    let alike = refuse_others(&beside.drivers)?;
+    match ended {
+        Ok((mut recording, selection, signs)) => {
+            put_notes(alloc, &mut recording, bus, signs)?;
+            put_lines(alloc, &mut recording, beside.recorder, dump.quiet().least)?;
             let told = Recorded::Page(selection.seen);
-            let findings = Findings::Recording(told, signs, None, dump.take_only());
+            let findings = Findings::Recording(told, signs, alike, dump.take_only());
             Ok((recording, selection.status(), findings))
         }
         Err(error) => Err(halted(dump, error)),
     }
 }
 
-fn record<R: AllocGlobal + Threads + Sync, J: Input, O: Output>(
+// What is said of the whole capture: what the controllers did, and how well it was recorded.
+fn put_notes(
+    alloc: Global,
+    recording: &mut Recording<'_>,
+    bus: Bus<'_>,
+    signs: Signs,
+) -> Result<(), AllocError> {
+    recording.note_deeds()?;
+    let BusLines {
+        scl,
+        sda,
+        scope,
+        min_pulse,
+        ..
+    } = bus.lines;
+    let names = Names {
+        scl,
+        sda,
+        scope,
+        min_pulse,
+        command: "twire page",
+        vcd: "",
+    };
+    for hint in on_signs(alloc, names, signs)?.all() {
+        if let Hint::Sentence(said) | Hint::Item(said) = hint {
+            recording.note(said.text(alloc)?)?;
+        }
+    }
+    Ok(())
+}
+
+fn record<'a, R: AllocGlobal + Threads + Sync, J: Input, O: Output>(
     rt: &R,
-    words: PlanWords<'_>,
+    words: PlanWords<'a>,
     dump: &mut Dump<'_, '_, J>,
     report: &mut O,
     selection: Selection,
-    mut recorder: Recorder,
-) -> Result<(Recording, Selection, Signs), RunError> {
+    judgings: (Option<Judging<'a>>, Option<Judging<'a>>),
+    beside: &mut Listeners,
+) -> Result<(Recording<'a>, Selection, Signs), RunError> {
     let alloc = rt.alloc();
     let lines = CaptureLines::new(alloc, words, selection, LAYOUT, report)?;
     let both = Both {
-        lines,
-        recording: Recording::new(alloc, selection),
+        lines: lines.with_drives(judgings.0),
+        recording: Recording::new(alloc, selection, judgings.1),
     };
     let mut explaining = Explaining {
         rt,
@@ -128,22 +198,18 @@ fn record<R: AllocGlobal + Threads + Sync, J: Input, O: Output>(
         plan: words.plan(),
         sink: both,
     };
-    let ended = dump.decode_beside(alloc, &mut explaining, &mut recorder);
+    let ended = dump.decode_beside(alloc, &mut explaining, beside);
     let Explaining { sink, .. } = explaining;
-    let Both {
-        lines,
-        mut recording,
-    } = sink;
+    let Both { lines, recording } = sink;
     let ending = ended?;
     let selection = lines.finish(dump.quiet(), ending)?;
-    put_lines(alloc, &mut recording, recorder, dump.quiet().least)?;
     Ok((recording, selection, ending.signs))
 }
 
 // Puts the two lines beside the transactions, also without what is shorter than this.
 fn put_lines(
     alloc: Global,
-    recording: &mut Recording,
+    recording: &mut Recording<'_>,
     recorder: Recorder,
     least: u64,
 ) -> Result<(), RunError> {
@@ -165,11 +231,48 @@ const LAYOUT: Layout = Layout {
     stops: false,
 };
 
+// Who hears what is read: who keeps the two lines, and who follows those of controllers.
+#[derive(Drop)]
+struct Listeners {
+    recorder: Recorder,
+    drivers: Option<Drivers>,
+}
+
+impl Tokens for Listeners {
+    fn token(&mut self, token: &[u8]) {
+        self.recorder.token(token);
+    }
+}
+
+impl Beside for Listeners {
+    fn hear(&mut self, samples: &[Sample], further: &[Further]) -> Result<(), AllocError> {
+        self.recorder.hear(samples, further)?;
+        match &mut self.drivers {
+            Some(drivers) => drivers.hear(samples, further),
+            None => Ok(()),
+        }
+    }
+
+    fn reach(&mut self, moment: Moment<'_>) -> Result<(), AllocError> {
+        match &mut self.drivers {
+            Some(drivers) => drivers.reach(moment),
+            None => Ok(()),
+        }
+    }
+
+    fn take_drove(&mut self) -> Option<Drove> {
+        match &mut self.drivers {
+            Some(drivers) => drivers.take_drove(),
+            None => None,
+        }
+    }
+}
+
 // The explained report, and what the page draws.
 #[derive(Drop)]
 struct Both<'a, 'w, O> {
     lines: CaptureLines<'a, 'w, O>,
-    recording: Recording,
+    recording: Recording<'w>,
 }
 
 impl<O: Output> ExplainedSink for Both<'_, '_, O> {

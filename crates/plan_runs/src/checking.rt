@@ -39,7 +39,7 @@ use remedies::{count_groups, kept_apart};
 use report::{check_report, status_of};
 use run_parts::devices::reading::READS;
 use run_parts::{Input, Output, RunError, Status, read_within, write_lines};
-use run_values::{Ended, Extras, Findings, Halt, Sources, Style};
+use run_values::{Ended, Extras, Findings, Halt, Sources, Style, Waves};
 use std::alloc::{AllocError, Global};
 use std::thread::Threads;
 use std::time::Clock;
@@ -81,20 +81,18 @@ pub fn check<R: Eprint + Clock + AllocGlobal + Threads + Sync, I: Input, O: Outp
 }
 
 // The waves of an unsafe pair, where they are wanted, or why there are none.
-fn wave_of(
-    alloc: Global,
-    checked: &Checked,
-    look: Look<'_>,
-) -> Result<Option<Result<String, NoWaves>>, AllocError> {
+fn wave_of(alloc: Global, checked: &Checked, look: Look<'_>) -> Result<Option<Waves>, AllocError> {
     if look.wave.is_none() {
         return Ok(None);
     }
     Ok(Some(
         match (wave_of_check(alloc, checked, look.pair)?, look.pair) {
-            (Some(wave), _) => Ok(wave),
-            (None, None) => Err(NoWaves::Safe),
-            (None, Some(pair)) if pair < checked.plan.pair_count() => Err(NoWaves::SafePair(pair)),
-            (None, Some(pair)) => Err(NoWaves::NoPair(pair)),
+            (Some(wave), _) => Waves::Text(wave),
+            (None, None) => Waves::Missing(NoWaves::Safe),
+            (None, Some(pair)) if pair < checked.plan.pair_count() => {
+                Waves::Missing(NoWaves::SafePair(pair))
+            }
+            (None, Some(pair)) => Waves::Missing(NoWaves::NoPair(pair)),
         },
     ))
 }

@@ -26,7 +26,7 @@ use plan_core::Plan;
 use plan_findings::mistake_of;
 use plan_words::PlanWords;
 use run_parts::{Input, Output, RunError, Status, write_lines};
-use run_values::{Ended, Extras, Findings, Halt, Sources, Style};
+use run_values::{Ended, Extras, Findings, Halt, Sources, Style, Waves};
 use std::alloc::{AllocError, Global};
 use std::sync::Wait;
 use std::thread::Threads;
@@ -79,15 +79,11 @@ pub fn bench_alone<R: AllocGlobal + Threads + Wait + Clock + Sync, I: Input, O: 
 }
 
 // The waves of a rehearsal, where they are wanted, or why there are none.
-fn wave_of(
-    alloc: Global,
-    outcome: &Outcome,
-    play: Play<'_>,
-) -> Result<Option<Result<String, NoWaves>>, AllocError> {
+fn wave_of(alloc: Global, outcome: &Outcome, play: Play<'_>) -> Result<Option<Waves>, AllocError> {
     Ok(match outcome {
         _ if play.wave.is_none() => None,
-        Outcome::Played(rehearsal) => Some(Ok(wave_of_bench(alloc, rehearsal)?)),
-        Outcome::NotAccepted(_) => Some(Err(NoWaves::Unplayed)),
+        Outcome::Played(rehearsal) => Some(Waves::Text(wave_of_bench(alloc, rehearsal)?)),
+        Outcome::NotAccepted(_) => Some(Waves::Missing(NoWaves::Unplayed)),
     })
 }
 

@@ -3,6 +3,7 @@
 use crate::errands::Errand;
 use crate::inputs::Inputs;
 use crate::messages::{dump_message, file_message, table_message, text_message};
+use crate::unguarded::on_unguarded;
 use crate::voices::{refused, refused_by_word, say, say_message, say_objects, say_these};
 use cert_check::{Answer, Answered};
 use command_words::Format;
@@ -330,6 +331,10 @@ fn tell<'x, R: Eprint + AllocGlobal>(
             return refused_by_word(rt, "drives", controller, reason, format);
         }
         Halt::Untaken(untaken) => return tell_untaken(rt, untaken, reason, errand),
+        Halt::Unguarded(unguarded) => {
+            let controller = Subject::Controller(errand.controller());
+            return refused_by_word(rt, unguarded.word(), controller, reason, format);
+        }
         Halt::Text(error, source) if format == Format::Messages => {
             return say_message(rt, text_message(alloc, of_text(*error, source, errand)));
         }
@@ -467,6 +472,7 @@ fn hints_on<F: Read + Seek + Drop>(
         Halt::NoDevice(names) => on_no_device(alloc, errand.device(), names.as_slice()),
         Halt::NoDrive(number, why) => on_no_drive(alloc, drive_of(errand, *number), why),
         Halt::Untaken(untaken) => on_untaken(alloc, errand.named().files(), untaken),
+        Halt::Unguarded(unguarded) => on_unguarded(alloc, errand.controller(), unguarded),
         Halt::Run(RunError::Read) => on_reading(alloc, read.last, read.error.as_ref()),
         Halt::File(file) => on_named_file(
             alloc,

@@ -63,6 +63,7 @@ impl<'a> Errand<'a> {
             | Request::Page { .. }
             | Request::Order { .. }
             | Request::Capture { .. }
+            | Request::Guard { .. }
             | Request::Conform { .. }
             | Request::Bench { .. } => true,
             Request::Learn { names, .. }
@@ -91,6 +92,7 @@ impl<'a> Errand<'a> {
             | Request::Page { plan, .. }
             | Request::Order { plan, .. }
             | Request::Capture { plan, .. }
+            | Request::Guard { plan, .. }
             | Request::Conform { plan, .. }
             | Request::Bench { plan, .. } => named("PLAN", "plan", plan),
             Request::Learn {
@@ -209,6 +211,7 @@ impl<'a> Errand<'a> {
             Request::Rewrite { output, .. }
             | Request::Mend { output, .. }
             | Request::Page { output, .. }
+            | Request::Guard { output, .. }
             | Request::LearnTraces { output, .. }
             | Request::Learn { output, .. } => Form::of(output),
             _ => Form::Plain,
@@ -268,6 +271,14 @@ impl<'a> Errand<'a> {
             _ => None,
         };
         device.unwrap_or("")
+    }
+
+    /// The controller for whose driver a guard is written.
+    pub(crate) fn controller(self) -> &'a str {
+        match self.request {
+            Request::Guard { controller, .. } => controller,
+            _ => "",
+        }
     }
 
     fn lines(self) -> BusLines<'a> {

@@ -9,17 +9,24 @@ use crate::inputs::Inputs;
 use files::{FilesRead, Form, Reread, Sheet};
 use hints::NoWaves;
 use run_parts::{RunError, Status, Watched, write_lines};
-use run_values::{Ended, Findings, Halt, Mended};
+use run_values::{Ended, Findings, Halt, Mended, Waves};
 use std::io;
 use std::rt::Files;
 use std::time::Clock;
+
+/// What a run writes: its report, and its waves.
+#[derive(Drop)]
+pub struct Sheets<'a, 'i, R: Files> {
+    pub report: Sheet<'a, 'i, R>,
+    pub waves: Watched<Sheet<'a, 'i, R>>,
+}
 
 /// Writes the files of a run that is to write some, says a refusal, and hints where they are wanted. Answers the exit status: that of
 /// the run, or 2 where it has no whole report or a file cannot be written. None of the files that were read is written.
 pub fn finish<R: Files + Print + Eprint + Clock + AllocGlobal>(
     rt: &R,
     read: Inputs<'_, Reread<R::File>>,
-    out: Sheet<'_, '_, R>,
+    out: Sheets<'_, '_, R>,
     ended: Result<Ended, Halt>,
     ids: FilesRead<'_>,
     errand: Errand<'_>,
@@ -39,7 +46,7 @@ pub fn finish<R: Files + Print + Eprint + Clock + AllocGlobal>(
 fn finish_whole<R: Files + Print + Eprint + Clock + AllocGlobal>(
     rt: &R,
     read: Inputs<'_, Reread<R::File>>,
-    out: Sheet<'_, '_, R>,
+    out: Sheets<'_, '_, R>,
     ended: Ended,
     ids: FilesRead<'_>,
     errand: Errand<'_>,
@@ -53,10 +60,11 @@ fn finish_whole<R: Files + Print + Eprint + Clock + AllocGlobal>(
         mended,
     } = ended;
     let no_waves = match &wave {
-        Some(Err(why)) => Some(*why),
+        Some(Waves::Missing(why)) => Some(*why),
         _ => None,
     };
-    match write_files(rt, wave, mended.as_ref(), ids, errand) {
+    let Sheets { report: out, waves } = out;
+    match write_files(rt, (wave, waves), mended.as_ref(), ids, errand) {
         Ok(()) => {
             let said = Said {
                 findings,
@@ -89,14 +97,12 @@ struct Unwritten<'a> {
 // Writes the files that a run has beside its report: its waves, and the texts of its plan that change.
 fn write_files<'a, R: Files + Print + Eprint + Clock + AllocGlobal>(
     rt: &R,
-    wave: Option<Result<String, NoWaves>>,
+    waves: (Option<Waves>, Watched<Sheet<'_, '_, R>>),
     mended: Option<&Mended>,
     ids: FilesRead<'_>,
     errand: Errand<'a>,
 ) -> Result<(), Unwritten<'a>> {
-    if let Some(Ok(wave)) = &wave {
-        draw(rt, wave.as_str(), ids, errand)?;
-    }
+    draw(waves, errand)?;
     match mended {
         Some(mended) if errand.mends_in_place() => put_in_place(rt, mended, ids, errand),
         _ => Ok(()),
@@ -155,23 +161,24 @@ fn hint<R: Files + Print + Eprint + Clock + AllocGlobal>(
     advise(rt, status, findings, read.again, errand);
 }
 
-// Writes the waves into their file, whole or not at all.
+// The waves in their file, whole or not at all.
 fn draw<'a, R: Files + Print + Eprint + Clock + AllocGlobal>(
-    rt: &R,
-    wave: &str,
-    ids: FilesRead<'_>,
+    waves: (Option<Waves>, Watched<Sheet<'_, '_, R>>),
     errand: Errand<'a>,
 ) -> Result<(), Unwritten<'a>> {
-    let file = errand.request.wave();
-    let mut sheet = Watched::new(Sheet::new(rt, Form::of(file), ids, errand.extras.watcher));
-    let written = write_lines(&mut sheet, wave.as_bytes(), Status::Good);
+    let (waves, mut sheet) = waves;
+    let written = match waves {
+        Some(Waves::Text(text)) => write_lines(&mut sheet, text.as_bytes(), Status::Good),
+        Some(Waves::Drawn(Err(error))) => Err(error),
+        _ => Ok(Status::Good),
+    };
     let mut sheet = sheet.into_inner();
     match sheet.settle(written) {
         Ok(_) => Ok(()),
         Err(error) => Err(Unwritten {
             error,
             reason: sheet.into_error(),
-            file,
+            file: errand.request.wave(),
         }),
     }
 }
@@ -251,10 +258,16 @@ fn settle_sheets<'s, 'i, 'a, R: Files + Print + Eprint + Clock + AllocGlobal>(
 fn finish_halted<R: Files + Print + Eprint + Clock + AllocGlobal>(
     rt: &R,
     read: Inputs<'_, Reread<R::File>>,
-    mut out: Sheet<'_, '_, R>,
+    out: Sheets<'_, '_, R>,
     halt: Halt,
     errand: Errand<'_>,
 ) {
+    let Sheets {
+        report: mut out,
+        waves,
+    } = out;
+    let mut waves = waves.into_inner();
+    let _ = waves.settle(Err(halt.error()));
     // (an allocation that failed for a file is why it was not written)
     let halt = match out.settle(Err(halt.error())) {
         Err(RunError::NoMemory) => Halt::Run(RunError::NoMemory),

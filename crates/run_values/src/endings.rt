@@ -25,10 +25,21 @@ use verdicts::Checked;
 pub struct Ended {
     pub status: Status,
     pub findings: Findings,
-    /// What goes into the file for waves, where there is one, or why nothing does.
-    pub wave: Option<Result<String, NoWaves>>,
+    /// What goes into the file for waves, where there is one.
+    pub wave: Option<Waves>,
     /// The texts of its plan with the offers that were taken, where such were.
     pub mended: Option<Mended>,
+}
+
+/// The waves of a run that was to have some.
+#[derive(Drop)]
+pub enum Waves {
+    /// They are to be written.
+    Text(String),
+    /// They were written as a dump was read, or why not all of them were.
+    Drawn(Result<(), RunError>),
+    /// There are none.
+    Missing(NoWaves),
 }
 
 /// Texts with edits that mend the plan which they give.
@@ -116,6 +127,8 @@ pub enum Halt {
     NoDrive(usize, NoDrive),
     /// Offers are not taken.
     Untaken(Untaken),
+    /// No guard is written.
+    Unguarded(Unguarded),
 }
 
 /// Why the trace of a controller cannot be taken.
@@ -125,6 +138,25 @@ pub enum NoSender {
     NoController(Vec<String>),
     /// No controller of a brief can have its name.
     NoName,
+}
+
+/// Why no guard is written.
+#[derive(Drop)]
+pub enum Unguarded {
+    /// The plan has no such controller. These are its own.
+    NoController(Vec<String>),
+    /// The table of the controller would be too large.
+    TooLarge,
+}
+
+impl Unguarded {
+    /// What the refusal is called.
+    pub fn word(&self) -> &'static str {
+        match self {
+            Unguarded::NoController(_) => "controller",
+            Unguarded::TooLarge => "guard",
+        }
+    }
 }
 
 /// Why the line of a controller cannot be followed.
@@ -174,7 +206,8 @@ impl Halt {
             | Halt::NoTimescale
             | Halt::NoDevice(_)
             | Halt::NoDrive(..)
-            | Halt::Untaken(_) => RunError::Read,
+            | Halt::Untaken(_)
+            | Halt::Unguarded(_) => RunError::Read,
         }
     }
 }

@@ -202,12 +202,24 @@ impl<L: Listing> Definitions<L> {
         if self.has_failed {
             return Err(AllocError);
         }
-        let header = Header {
+        let header = self.header();
+        Ok((self.listing, header))
+    }
+
+    fn header(&self) -> Header {
+        Header {
             scale: scale_of(self.timescale.as_slice()),
             is_whole: self.is_whole,
             is_wrong: self.is_wrong,
-        };
-        Ok((self.listing, header))
+        }
+    }
+
+    /// What was said so far of the time of the dump.
+    pub(crate) fn scale(&self) -> Result<Option<Scale>, AllocError> {
+        if self.has_failed {
+            return Err(AllocError);
+        }
+        Ok(self.header().scale)
     }
 
     // The next token.

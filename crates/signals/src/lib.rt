@@ -2,7 +2,7 @@
 //!
 //! `blocks` reads a dump block by block. `definitions` finds the signals that its definitions declare, and `beginning` reads
 //! these ahead of the dump and gives them back before the rest. `picking` finds the two lines of a bus there, by names and a
-//! scope, with `fits`, which tells how a name fits a signal. `recorded` keeps the two lines as they are. `listing` has what
+//! scope, with `fits`, which tells how a name fits a signal. `recorded` keeps the two lines as they are, and reads what the times of a dump count. `listing` has what
 //! `twire signals` finds: the signals (`codes` finds them again by their codes), their levels by time stamps (`levels`),
 //! what these show that last (`lasting`, with `waiting` for those that have still to), and the pairs that are the two lines
 //! of a bus (`buses`, among `candidates`, with `masks` for sets of signals). What a dump says, and why it is refused, is
@@ -32,4 +32,4 @@ pub use fits::{Fit, base_of, fit_of};
 pub use listing::{Listed, OnlyBus, Pair, Signal, SignalDump, bus_options};
 pub use masks::MOST as CANDIDATES;
 pub use picking::{Line, Picked, Sought, needs_picking, pick};
-pub use recorded::{RecordedLines, Recorder, Samples};
+pub use recorded::{RecordedLines, Recorder, Samples, TimescaleReader};

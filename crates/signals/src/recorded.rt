@@ -71,6 +71,36 @@ impl Beside for Recorder {
     }
 }
 
+/// Reads what the numbers of a dump count.
+#[derive(Drop)]
+pub struct TimescaleReader {
+    definitions: Definitions<NoListing>,
+}
+
+impl TimescaleReader {
+    /// Nothing has been read.
+    pub fn new(alloc: Global) -> TimescaleReader {
+        TimescaleReader {
+            definitions: Definitions::new(alloc, NoListing),
+        }
+    }
+
+    /// What the numbers count, where the definitions that were read say so.
+    ///
+    /// # Errors
+    ///
+    /// Where an allocation has failed.
+    pub fn scale(&self) -> Result<Option<Scale>, AllocError> {
+        self.definitions.scale()
+    }
+}
+
+impl Tokens for TimescaleReader {
+    fn token(&mut self, token: &[u8]) {
+        self.definitions.token(token);
+    }
+}
+
 /// The levels of the two lines, as they were recorded, or without those that were too short. Each sample takes a few bytes:
 /// the first has the levels and the least three bits of the time since the one before, each other one seven bits of it. The
 /// greatest bit of a byte says whether one more follows.

@@ -1,12 +1,12 @@
 // Lines for people below those of transactions.
 
-use crate::meetings::tell_possible;
 use bus_rows::{
-    ALIKE, BYTES, Bytes, Labels, bus_row, row_of, row_of_marks, say, tell_item, tell_rows,
+    ALIKE, BYTES, Bytes, Labels, bus_row, row_of, row_of_marks, say, say_all, tell_item, tell_rows,
 };
 use capture_check::{Mark, Transaction, Until};
 use dump_findings::{
     Cut, Cuts, Leaves, NEAREST, bytes_until, could_meet, mark_words, nearest, offer_words,
+    possible_meeting,
 };
 use growing_text::{Lines, Part};
 use plan_core::Plan;
@@ -63,7 +63,7 @@ fn tell_all_possible(
     marks: &[Mark],
 ) -> Result<(), AllocError> {
     for met in could_meet(alloc, plan, marks)?.iter() {
-        tell_possible(alloc, lines, *met);
+        say_all(lines, &possible_meeting(alloc, *met));
     }
     Ok(())
 }

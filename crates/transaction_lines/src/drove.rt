@@ -1,9 +1,9 @@
 // Lines for people of who drove the bus in a transaction.
 
-use crate::meetings::tell_met;
-use bus_rows::{named, say};
-use drives::{Does, Judged, Judging, Met, Verdict};
-use growing_text::{Lines, Part, Text};
+use bus_rows::say_all;
+use drives::{Does, Judged, Judging, Verdict};
+use dump_findings::{deed, deeds, denied, meeting, meetings};
+use growing_text::{Lines, Sentence, Text};
 use std::alloc::{AllocError, Global};
 
 /// The lines of those who go on to the end, by the numbers of their controllers. Most transactions have such a line, so each is
@@ -55,109 +55,30 @@ pub(crate) fn push_drives(
         }
     }
     for met in verdict.met.iter() {
-        text.push_made(met_line(alloc, judging, *met));
+        text.push_made(line_with(alloc, &meeting(alloc, judging, *met)));
     }
     if verdict.is_denied {
-        text.push_made(denied_line(alloc));
+        text.push_made(line_with(alloc, &denied(alloc)));
     }
-}
-
-// Who meets, and as which pair of the plan.
-fn met_line(alloc: Global, judging: &Judging<'_>, met: Met) -> Result<String, AllocError> {
-    let mut lines = Lines::new(alloc);
-    let parts = [
-        Part::Number(met.slot as u64),
-        Part::Name(judging.controller(met.first.number)),
-        Part::Words(named(met.first.kind)),
-        Part::Name(judging.controller(met.second.number)),
-        Part::Words(named(met.second.kind)),
-    ];
-    tell_met(
-        alloc,
-        &mut lines,
-        met,
-        "slot {}: {}'s {} meets {}'s {}",
-        &parts,
-    );
-    lines.finish()
 }
 
 // What a controller did.
 fn line_of(alloc: Global, judging: &Judging<'_>, judged: Judged) -> Result<String, AllocError> {
-    let mut lines = Lines::new(alloc);
-    tell(&mut lines, judging.controller(judged.number), judged);
-    lines.finish()
+    line_with(alloc, &deed(alloc, judging, judged))
 }
 
-fn denied_line(alloc: Global) -> Result<String, AllocError> {
+fn line_with(alloc: Global, sentence: &Sentence) -> Result<String, AllocError> {
     let mut lines = Lines::new(alloc);
-    say(
-        &mut lines,
-        "none of the controllers that are followed pulls SDA, and no other sends this: against the plan",
-        &[],
-    );
+    say_all(&mut lines, sentence);
     lines.finish()
-}
-
-fn tell(lines: &mut Lines, controller: &str, judged: Judged) {
-    let name = Part::Name(controller);
-    match judged.does {
-        Does::GoesOn => say(lines, "{} starts, and goes on to the end", &[name]),
-        Does::Loses { slot } => say(
-            lines,
-            "{} starts, and loses in slot {}: it sends 1, the bus has 0",
-            &[name, Part::Number(slot as u64)],
-        ),
-        Does::PullsOn { slot, again } => say(
-            lines,
-            "{} starts, and loses in slot {}, but still pulls SDA in slot {}: against the rules",
-            &[name, Part::Number(slot as u64), Part::Number(again as u64)],
-        ),
-        Does::Meets { slot, again: None } => say(
-            lines,
-            "{} starts, is within its message up to slot {}, and pulls SDA no more",
-            &[name, Part::Number(slot as u64)],
-        ),
-        Does::Meets {
-            slot,
-            again: Some(again),
-        } => say(
-            lines,
-            "{} starts, is within its message up to slot {}, and then pulls SDA in slot {}",
-            &[name, Part::Number(slot as u64), Part::Number(again as u64)],
-        ),
-        Does::Departs { slot, pulls } => say(
-            lines,
-            "{} starts, and in slot {} {} SDA, which no message of it does there: against the plan",
-            &[
-                name,
-                Part::Number(slot as u64),
-                Part::Words(if pulls { "pulls" } else { "releases" }),
-            ],
-        ),
-        Does::JoinsLate { slot } => say(
-            lines,
-            "{} does not start, but pulls SDA in slot {}: against the rules",
-            &[name, Part::Number(slot as u64)],
-        ),
-    }
 }
 
 /// In how many transactions the controllers that are followed did what the rules of the plan give.
 pub(crate) fn drives_line(alloc: Global, judging: &Judging<'_>) -> Result<String, AllocError> {
     let mut lines = Lines::new(alloc);
-    say(
-        &mut lines,
-        "who drove: in {} transactions as the rules of the plan give, not in {}; others sent {}",
-        &[
-            Part::Number(judging.right),
-            Part::Number(judging.wrong),
-            Part::Number(judging.others),
-        ],
-    );
-    if judging.met != 0 {
-        let template = "in {} of these two met: the plan is unsafe";
-        say(&mut lines, template, &[Part::Number(judging.met)]);
+    say_all(&mut lines, &deeds(alloc, judging));
+    if let Some(met) = meetings(alloc, judging) {
+        say_all(&mut lines, &met);
     }
     lines.finish()
 }

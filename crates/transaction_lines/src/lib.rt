@@ -2,7 +2,7 @@
 //!
 //! `capture_lines` writes them with who explains each, and `decode_lines` without a plan (`written` hands lines on). Which of them
 //! are told, and what they come to, is found in `dump_findings`. `moments` has their times, `captures` what people read below
-//! them (`drove` who pulled the lines, `meetings` where two meet, `pulse_lines` short levels, and `remarks` whom they call),
+//! them (`drove` who pulled the lines, `pulse_lines` short levels, and `remarks` whom they call),
 //! `timing_lines` those of times, and `counts` the lines of a summary. `byte_rows` writes their bytes as a table.
 #![tactic(auto)]
 
@@ -12,7 +12,6 @@ mod captures;
 mod counts;
 mod decode_lines;
 mod drove;
-mod meetings;
 mod moments;
 mod pulse_lines;
 mod remarks;

@@ -8,8 +8,8 @@ use growing_text::visible;
 use language_server::serve;
 use refusal_objects::Detail;
 use run_ends::{
-    BoardNames, Errand, FailedText, Inputs, OpenFiles, SecondTexts, TextReader, Texts, finish,
-    open_files, read_seconds, read_texts, refused, rewind_first,
+    BoardNames, Errand, FailedText, Inputs, OpenFiles, SecondTexts, Sheets, TextReader, Texts,
+    finish, open_files, read_seconds, read_texts, refused, rewind_first,
 };
 use run_parts::{RunError, Watched};
 use run_values::{Extras, Halt, Sources};
@@ -243,9 +243,11 @@ fn do_over<'a, R: Files + Input + Print + Eprint + AllocGlobal + Threads + Wait 
     let is_long = errand.rewrites(Rewriting::Certify);
     let sheet = Sheet::telling(rt, errand.form(), files, errand.extras.watcher, is_long);
     let mut out = Watched::new(sheet);
+    let form = Form::of(errand.request.wave());
+    let mut waves = Watched::new(Sheet::new(rt, form, files, errand.extras.watcher));
     let mut ended = match halt {
         Some(halt) => Err(halt),
-        None => run_over(rt, errand, &mut sources, &mut seconds, &mut out),
+        None => run_over(rt, errand, &mut sources, &mut seconds, &mut out, &mut waves),
     };
     if let Some(decoding) = with_others(errand, &ended)
         && rewind_first(rt.alloc(), sources.readers.as_mut_slice())
@@ -261,7 +263,11 @@ fn do_over<'a, R: Files + Input + Print + Eprint + AllocGlobal + Threads + Wait 
         sources.read_on(rt.alloc(), halt);
     }
     let inputs = Inputs::of(errand, sources.readers, failed, seconds);
-    finish(rt, inputs, out.into_inner(), ended, files, errand)
+    let sheets = Sheets {
+        report: out.into_inner(),
+        waves,
+    };
+    finish(rt, inputs, sheets, ended, files, errand)
 }
 
 // Serves the editor that has started the program, and answers the status.

@@ -5,8 +5,11 @@ use dump_runs::{
     decode, decode_others, decode_with_names, explain_capture, learn, learn_with_names,
     list_signals, may_have_others,
 };
+use files::Form;
 use page_runs::{write_page_alone, write_page_with};
-use plan_runs::{bench, bench_alone, check, list_offers, order, rewrite, take_offers, verify};
+use plan_runs::{
+    bench, bench_alone, check, guard, list_offers, order, rewrite, take_offers, verify,
+};
 use run_ends::Errand;
 use run_parts::{Input, Output, RunError};
 use run_values::{Ended, Halt, Sources};
@@ -15,6 +18,7 @@ use std::sync::Wait;
 use std::thread::Threads;
 use std::time::Clock;
 use trace_runs::{conform, learn_traces, learn_traces_with_names};
+use waves::WaveFile;
 
 /// Runs what was asked for, over what gives a plan or the only text, and a second text where there is one, or several.
 pub fn run_over<
@@ -22,12 +26,14 @@ pub fn run_over<
     I: Input,
     J: Input,
     O: Output,
+    W: Output,
 >(
     rt: &R,
     errand: Errand<'_>,
     texts: &mut Sources<'_, I>,
     seconds: &mut Vec<J>,
     out: &mut O,
+    waves: &mut W,
 ) -> Result<Ended, Halt> {
     let (alloc, extras) = (rt.alloc(), errand.extras);
     let style = extras.style();
@@ -57,9 +63,12 @@ pub fn run_over<
             capture: None,
             ..
         } => write_page_alone(rt, plan, texts, out),
-        Request::Page { plan, bus, .. } => {
-            write_page_with(rt, plan, texts, given(seconds)?, out, bus)
-        }
+        Request::Page {
+            plan,
+            bus,
+            drives,
+            ..
+        } => { write_page_with(rt, plan, texts, given(seconds)?, out, bus, drives) }
         Request::Capture { capture, .. } => {
             explain_capture(rt, texts, given(seconds)?, out, capture, style)
         }
@@ -68,10 +77,13 @@ pub fn run_over<
             decoding,
             wave,
             ..
-        } => decode(alloc, texts.first()?, out, decoding, style, wave.is_some()),
+        } => {
+            let vcd = texts.first()?;
+            decode(alloc, vcd, out, decoding, style, file_of(wave, waves))
+        }
         Request::Decode { decoding, wave, .. } => {
-            let vcd = given(seconds)?;
-            decode_with_names(alloc, texts, vcd, out, decoding, style, wave.is_some())
+            let (vcd, file) = (given(seconds)?, file_of(wave, waves));
+            decode_with_names(alloc, texts, vcd, out, decoding, style, file)
         }
         Request::Signals { limits, .. } => list_signals(alloc, texts.first()?, out, limits, style),
         Request::Learn {
@@ -82,6 +94,11 @@ pub fn run_over<
         Request::Learn { lesson, .. } => {
             learn_with_names(alloc, texts, given(seconds)?, out, lesson)
         }
+        Request::Guard {
+            controller,
+            alone,
+            ..
+        } => guard(alloc, texts, out, controller, alone),
         Request::LearnTraces {
             names: None,
             lesson,
@@ -100,6 +117,12 @@ pub fn run_over<
         ),
         Request::Rewrite { rewriting, .. } => rewrite(alloc, texts, out, rewriting),
     }
+}
+
+// What takes waves, where they are wanted. Where the report goes there as well, they come after it.
+fn file_of<'w, W: Output>(path: Option<&str>, out: &'w mut W) -> Option<WaveFile<'w, W>> {
+    let waits = Form::of(path).path().is_none();
+    path.map(|_| WaveFile { out, waits })
 }
 
 /// What is to be decoded once more, of other lines, where the run that has ended so did not find those that it looked for.

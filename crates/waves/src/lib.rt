@@ -2,8 +2,8 @@
 //! pulls, and of the slot of a fault, for programs that show waves.
 //!
 //! `drawing` goes along the wire slot by slot, `rows` has what a participant does in a slot, `dump` writes the changes, and
-//! `runs` has the waves of a check and of a rehearsal. `recorded` has those of a recorded bus, with its bytes as the words of
-//! `spoken`.
+//! `runs` has the waves of a check and of a rehearsal. `recorded` draws a recorded bus as it is read, with its bytes as the
+//! words of `spoken`.
 #![tactic(auto)]
 
 mod drawing;
@@ -13,5 +13,5 @@ mod rows;
 mod runs;
 mod spoken;
 
-pub use recorded::wave_of_recording;
+pub use recorded::{RecordedWave, WaveFile};
 pub use runs::{wave_of_bench, wave_of_check};

@@ -1,32 +1,214 @@
-// A recorded bus as waves: its two lines as they were recorded, and beside them the bytes as texts.
+// A recorded bus as waves, drawn as it is read: its two lines as they were recorded, and beside them its bytes as words.
 
-use crate::spoken::{Said, said_of};
+use crate::spoken::{Said, Speaker};
+use capture_check::Beside;
 use dump_tokens::{Scale, View};
 use growing_text::Text;
-use signals::RecordedLines;
+use pulses::Filter;
+use run_parts::{Output, RunError, Status, write_lines};
+use signals::TimescaleReader;
 use std::alloc::{AllocError, Global};
-use vcd_read::{Level, Sample};
+use std::collections::VecDeque;
+use std::mem;
+use vcd_read::{Further, Level, Sample, Tokens};
 
-/// The waves of a recorded bus. Its bytes are those of the levels that last, of the transactions that are told.
-///
-/// # Errors
-///
-/// Where an allocation fails.
-pub fn wave_of_recording(
+/// What takes waves.
+#[derive(Drop)]
+pub struct WaveFile<'o, O> {
+    pub out: &'o mut O,
+    /// Whether all of them are written at their end, since something else is written there as well.
+    pub waits: bool,
+}
+
+/// The waves of a bus, which are written as it is read. What a transaction shows is kept as long as words of it may come; where only
+/// some transactions are asked for, until it ends.
+pub struct RecordedWave<'o, O> {
     alloc: Global,
-    recorded: &RecordedLines,
-    lasting: &RecordedLines,
-    view: View,
-) -> Result<String, AllocError> {
-    let said = said_of(alloc, lasting, view)?;
-    let mut wave = Wave::new(alloc, recorded.scale);
-    wave.push_all(recorded, said.as_slice());
-    wave.text.finish()
+    file: WaveFile<'o, O>,
+    timescale: TimescaleReader,
+    pen: Pen,
+    has_begun: bool,
+    // how long a level has to last that counts, and those that last
+    least: u64,
+    filter: Filter,
+    lasting: Vec<Sample>,
+    speaker: Speaker,
+    // what was recorded, and is not drawn yet
+    held: VecDeque<Sample>,
+    written: Result<(), RunError>,
+}
+
+// Written out, so that one call lets it go.
+impl<O> Drop for RecordedWave<'_, O> {
+    fn drop(self) {
+        let Self {
+            alloc: _,
+            file: _,
+            timescale: _,
+            pen: _,
+            has_begun: _,
+            least: _,
+            filter: _,
+            lasting: _,
+            speaker: _,
+            held: _,
+            written: _,
+        } = self;
+    }
+}
+
+// So many bytes are written at once, or some more.
+const BLOCK: usize = 1 << 16;
+
+impl<'o, O: Output> RecordedWave<'o, O> {
+    /// Nothing has been read. Words are those of the levels that last for so long, of the transactions that are told.
+    pub fn new(
+        alloc: Global,
+        file: WaveFile<'o, O>,
+        least: u64,
+        view: View,
+    ) -> RecordedWave<'o, O> {
+        RecordedWave {
+            alloc,
+            file,
+            timescale: TimescaleReader::new(alloc),
+            pen: Pen::new(alloc),
+            has_begun: false,
+            least,
+            filter: Filter::new(least),
+            lasting: Vec::new(alloc),
+            speaker: Speaker::new(alloc, view),
+            held: VecDeque::new(alloc),
+            written: Ok(()),
+        }
+    }
+
+    /// The dump has ended: what is left is drawn. Answers whether all was written.
+    ///
+    /// # Errors
+    ///
+    /// Where an allocation fails.
+    pub fn finish(mut self) -> Result<Result<(), RunError>, AllocError> {
+        self.begin()?;
+        self.filter.end(&mut self.lasting)?;
+        self.hear_lasting()?;
+        self.speaker.finish()?;
+        self.draw(u64::MAX)?;
+        for _ in 0..self.held.len() {
+            self.draw_next();
+        }
+        for _ in 0..self.speaker.count() {
+            self.say_next(u64::MAX);
+        }
+        self.pen.push_end();
+        self.write()?;
+        Ok(self.written)
+    }
+
+    // The definitions of the dump have ended, at the latest with its first sample.
+    fn begin(&mut self) -> Result<(), AllocError> {
+        if self.has_begun {
+            return Ok(());
+        }
+        self.has_begun = true;
+        let scale = self.timescale.scale()?;
+        self.speaker.count_in(scale);
+        self.pen.define(scale);
+        Ok(())
+    }
+
+    fn add(&mut self, sample: Sample) -> Result<(), AllocError> {
+        self.held.push_back(sample)?;
+        if self.least == 0 {
+            return self.speaker.sample(sample);
+        }
+        self.filter.feed(&[sample], &mut self.lasting)?;
+        self.hear_lasting()
+    }
+
+    fn hear_lasting(&mut self) -> Result<(), AllocError> {
+        for sample in self.lasting.iter() {
+            self.speaker.sample(*sample)?;
+        }
+        self.lasting.clear();
+        Ok(())
+    }
+
+    // Draws what was recorded before this time, with the words that go before it.
+    fn draw(&mut self, time: u64) -> Result<(), AllocError> {
+        for _ in 0..self.held.len() {
+            match self.held.front() {
+                Some(sample) if sample.time < time => self.draw_next(),
+                _ => break,
+            }
+        }
+        if self.pen.text.len() >= BLOCK && !self.file.waits {
+            self.write()?;
+        }
+        Ok(())
+    }
+
+    fn draw_next(&mut self) {
+        let Some(sample) = self.held.pop_front() else {
+            return;
+        };
+        for _ in 0..self.speaker.count() {
+            if !self.say_next(sample.time) {
+                break;
+            }
+        }
+        self.pen.push_sample(sample);
+    }
+
+    // The next word before this time, if there is one.
+    fn say_next(&mut self, time: u64) -> bool {
+        match self.speaker.next_before(time) {
+            Some(said) => {
+                self.pen.push_word(said);
+                true
+            }
+            None => false,
+        }
+    }
+
+    // What fails is told at the end.
+    fn write(&mut self) -> Result<(), AllocError> {
+        let text = mem::replace(&mut self.pen.text, Text::new(self.alloc)).finish()?;
+        if self.written.is_ok()
+            && let Err(error) = write_lines(self.file.out, text.as_bytes(), Status::Good)
+        {
+            self.written = Err(error);
+        }
+        Ok(())
+    }
+}
+
+impl<O> Tokens for RecordedWave<'_, O> {
+    fn token(&mut self, token: &[u8]) {
+        if !self.has_begun {
+            self.timescale.token(token);
+        }
+    }
+}
+
+impl<O: Output> Beside for RecordedWave<'_, O> {
+    fn hear(&mut self, samples: &[Sample], _further: &[Further]) -> Result<(), AllocError> {
+        let Some(last) = samples.last() else {
+            return Ok(());
+        };
+        self.begin()?;
+        for sample in samples {
+            self.add(*sample)?;
+        }
+        // (a level that has still to last began less than that before)
+        let next = last.time.saturating_sub(self.least);
+        self.draw(self.speaker.settled(next))
+    }
 }
 
 // The text so far, and what the two lines show.
 #[derive(Drop)]
-struct Wave {
+struct Pen {
     text: Text,
     scl: Option<Level>,
     sda: Option<Level>,
@@ -35,10 +217,20 @@ struct Wave {
     step: u64,
 }
 
-impl Wave {
+impl Pen {
+    fn new(alloc: Global) -> Pen {
+        Pen {
+            text: Text::new(alloc),
+            scl: None,
+            sda: None,
+            time: None,
+            step: 1,
+        }
+    }
+
     // The definitions. The type of the texts is one that programs know which show waves; no standard has it.
-    fn new(alloc: Global, scale: Option<Scale>) -> Wave {
-        let mut text = Text::new(alloc);
+    fn define(&mut self, scale: Option<Scale>) {
+        let text = &mut self.text;
         text.push("$version twire $end\n");
         if let Some(scale) = scale {
             text.push("$timescale ");
@@ -49,28 +241,6 @@ impl Wave {
         }
         text.push("$scope module bus $end\n$var wire 1 ! scl $end\n$var wire 1 \" sda $end\n");
         text.push("$var string 1 % bytes $end\n$upscope $end\n$enddefinitions $end\n");
-        Wave {
-            text,
-            scl: None,
-            sda: None,
-            time: None,
-            step: 1,
-        }
-    }
-
-    // Samples and words, in the order of their times.
-    fn push_all(&mut self, recorded: &RecordedLines, said: &[Said]) {
-        let mut samples = recorded.samples();
-        let mut left = said;
-        for _ in 0..recorded.bound() {
-            let Some(sample) = samples.next() else {
-                break;
-            };
-            left = self.push_said(left, sample.time);
-            self.push_sample(sample);
-        }
-        self.push_said(left, u64::MAX);
-        self.push_end();
     }
 
     // One more time, so that the last change is seen.
@@ -78,21 +248,6 @@ impl Wave {
         if let Some(time) = self.time {
             self.at(time.saturating_add(self.step));
         }
-    }
-
-    // The words before this time. Those that are left are answered.
-    fn push_said<'a>(&mut self, said: &'a [Said], time: u64) -> &'a [Said] {
-        let mut left = said;
-        for _ in 0..said.len() {
-            match left.split_first() {
-                Some((word, rest)) if word.time < time => {
-                    self.push_word(*word);
-                    left = rest;
-                }
-                _ => break,
-            }
-        }
-        left
     }
 
     fn at(&mut self, time: u64) {

@@ -4,8 +4,8 @@ use capture_check::{Event, Mark, Watch, What};
 use dump_findings::Passing;
 use dump_tokens::{Scale, View};
 use growing_text::Text;
-use signals::RecordedLines;
 use std::alloc::{AllocError, Global};
+use std::collections::VecDeque;
 use vcd_read::{Level, Sample};
 
 /// A word from this time on.
@@ -75,43 +75,6 @@ impl Bits {
     }
 }
 
-/// The words of the transactions in these levels that are told.
-///
-/// # Errors
-///
-/// Where an allocation fails.
-pub(crate) fn said_of(
-    alloc: Global,
-    lines: &RecordedLines,
-    view: View,
-) -> Result<Vec<Said>, AllocError> {
-    let mut speaker = Speaker {
-        watch: Watch::new(),
-        view,
-        scale: lines.scale,
-        heard: Heard::Unknown,
-        is_told: false,
-        passing: Passing::new(view.filter),
-        before: 0,
-        scl: Level::Unknown,
-        fell: 0,
-        began: 0,
-        bits: NONE,
-        said: Vec::new(alloc),
-    };
-    let mut samples = lines.samples();
-    for _ in 0..lines.bound() {
-        let Some(sample) = samples.next() else {
-            break;
-        };
-        speaker.sample(sample)?;
-    }
-    speaker.end_byte(true)?;
-    speaker.end();
-    let Speaker { said, .. } = speaker;
-    Ok(said)
-}
-
 // What is known of the bus, as of transactions.
 #[derive(Clone, Copy)]
 enum Heard {
@@ -127,14 +90,17 @@ const NONE: Bits = Bits {
     is_cut: false,
 };
 
+/// What says the words of a bus, level by level.
 #[derive(Drop)]
-struct Speaker {
+pub(crate) struct Speaker {
     watch: Watch,
     view: View,
     scale: Option<Scale>,
     heard: Heard,
-    // whether the transaction that goes on is told by its time, what of it is asked for, and how many words there were before it
+    // whether the transaction that goes on is told by its time, when it began, what of it is asked for, and how many words there
+    // are before it
     is_told: bool,
+    started: u64,
     passing: Passing,
     before: usize,
     // the level of SCL before, and when it fell last
@@ -143,11 +109,69 @@ struct Speaker {
     // the byte that goes on, and when it began
     began: u64,
     bits: Bits,
-    said: Vec<Said>,
+    said: VecDeque<Said>,
 }
 
 impl Speaker {
-    fn sample(&mut self, sample: Sample) -> Result<(), AllocError> {
+    /// Nothing has been heard. Words are those of the transactions that are told.
+    pub(crate) fn new(alloc: Global, view: View) -> Speaker {
+        Speaker {
+            watch: Watch::new(),
+            view,
+            scale: None,
+            heard: Heard::Unknown,
+            is_told: false,
+            started: 0,
+            passing: Passing::new(view.filter),
+            before: 0,
+            scl: Level::Unknown,
+            fell: 0,
+            began: 0,
+            bits: NONE,
+            said: VecDeque::new(alloc),
+        }
+    }
+
+    /// What the times count.
+    pub(crate) fn count_in(&mut self, scale: Option<Scale>) {
+        self.scale = scale;
+    }
+
+    /// The next word, where it is before this time. It is not said once more.
+    pub(crate) fn next_before(&mut self, time: u64) -> Option<Said> {
+        match self.said.front() {
+            Some(said) if said.time < time => {}
+            _ => return None,
+        }
+        self.before = self.before.saturating_sub(1);
+        self.said.pop_front()
+    }
+
+    /// How many words have been said, and not been taken.
+    pub(crate) fn count(&self) -> usize {
+        self.said.len()
+    }
+
+    /// Up to when all words have been said, and none is taken back, where the next level comes at this time or later.
+    pub(crate) fn settled(&self, next: u64) -> u64 {
+        match self.heard {
+            Heard::Busy if !self.is_told => next,
+            Heard::Busy if !self.view.filter.is_none() => self.started.min(next),
+            Heard::Busy if self.bits.count > 0 => self.began.min(next),
+            Heard::Busy => self.fell.min(next),
+            Heard::Free | Heard::Unknown => next,
+        }
+    }
+
+    /// The levels have ended.
+    pub(crate) fn finish(&mut self) -> Result<(), AllocError> {
+        self.end_byte(true)?;
+        self.end();
+        Ok(())
+    }
+
+    /// The next level of the lines.
+    pub(crate) fn sample(&mut self, sample: Sample) -> Result<(), AllocError> {
         if let Some(event) = self.watch.next(&sample) {
             self.event(event)?;
         }
@@ -179,6 +203,7 @@ impl Speaker {
             }
             (Heard::Free, What::Start) => {
                 self.is_told = self.view.window.has(self.scale, event.time);
+                self.started = event.time;
                 self.passing = Passing::new(self.view.filter);
                 self.before = self.said.len();
                 self.go_to(event.time, Word::Start, Heard::Busy)?;
@@ -236,7 +261,7 @@ impl Speaker {
 
     fn say(&mut self, time: u64, word: Word) -> Result<(), AllocError> {
         if self.is_told {
-            self.said.push(Said { time, word })?;
+            self.said.push_back(Said { time, word })?;
         }
         Ok(())
     }
