@@ -491,7 +491,7 @@ lines ten.brief "brief 1" "device low 0x78 ;  device high 0x7B ;  device open 0b
     "controller x m n ;  controller y o p ;"
 want 0 "safe: 4 pairs" "hint: ten.brief:2: the address of device 'next' is reserved (UM10204, 3.1.12)"
 run "addresses of ten bits" check ten.brief --hints always
-# Bytes of addresses, headers alone and nevers, by the rules of PLANS.
+# Bytes of addresses, headers alone and nevers, by rules/plans.md.
 lines odd.brief "brief 2" \
     "device bmc 0x10 ; device blade 0x41 ; device fan 0x50 ; device low 0x02 ; device wide 0b00101xx ;" \
     "message ask write blade 0x18 sum 0x20 any sum ;" "message told write 0x08 0xA0 0x20 any ;" \

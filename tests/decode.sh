@@ -407,7 +407,7 @@ drawn() {
     judge "$1" 0 "$2" ""
 }
 
-# The example of docs/CAPTURES.md. SCL falls at 15, where the first bit begins, and ten later for each further one; the eighth
+# The example of rules/captures.md. SCL falls at 15, where the first bit begins, and ten later for each further one; the eighth
 # ends at 95, where the acknowledge begins.
 {
     printf '%s\n' '$timescale 1 us $end' '$var wire 1 ! scl $end' '$var wire 1 " sda $end' '$enddefinitions $end' '#0 1! 1"'

@@ -51,8 +51,8 @@ END
     count counts
     (($(grep -c '^ok \|^FAILED' neovim) == 14)) || { fails "Neovim did not come to the end:" && cat neovim.err; }
 
-    # By the guide's text there is one server for all buffers, also where one of them is read again.
-    sed -n '/^\*\*Neovim\*\*/,/^\*\*Vim\*\*/s/^    //p' "$top/docs/GUIDE.md" | sed "s|/path/to/twire|$top|" >init.lua
+    # By the page's text there is one server for all buffers, also where one of them is read again.
+    sed -n '/^\*\*Neovim\*\*/,/^\*\*Vim\*\*/s/^    //p' "$top/docs/EDITOR.md" | sed "s|/path/to/twire|$top|" >init.lua
     cp bus.brief other.brief
     mkdir bin
     ln -s "$twire" bin/twire
@@ -64,7 +64,7 @@ END
     found=$(PATH=$work/bin:$PATH XDG_STATE_HOME=$work XDG_CACHE_HOME=$work timeout 60 "$program" --headless -u init.lua -i NONE -n bus.brief \
         -c edit -c 'edit other.brief' -c edit -c "lua $servers" -c 'qa!' 2>&1 </dev/null)
     [[ $found == "1 servers, 1 here, K is twirebrief"* && $found != *twirebrief ]]
-    held "the guide's text for Neovim: $found"
+    held "the page's text for Neovim: $found"
 else
     echo "there is no nvim: twire lsp is not tried in it"
 fi

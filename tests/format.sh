@@ -1,5 +1,5 @@
 #!/usr/bin/env bash
-# Plans and briefs that are laid out: by the rules of docs/PLANS.md, that they mean the same, and the files that are written.
+# Plans and briefs that are laid out: by the rules of rules/plans.md, that they mean the same, and the files that are written.
 source "$(dirname -- "$(readlink -f -- "${BASH_SOURCE[0]}")")/suite.bash" || exit 1
 
 # changes: what --check says of the file `text`, where `wanted` is what it is laid out as: by the first line at which the two differ.

@@ -45,7 +45,7 @@ same "a crate without a layer" "alone has no layer" "$(wrong_edges without | hea
 # Each crate once, below its heading.
 sed -n 's/^# ---- \([A-Za-z]*\):.*/== \1/p; s/^\([a-z_]*\)[ :].*/\1/p' "$top/crates.txt" >layers
 awk -F'`' '/^## The crates/ { on = 1; next } /^## / { on = 0 } on && /^### / { sub(/^### /, ""); print "== " $0 } on && /^\| `/ { print $2 }' \
-    "$top/docs/ARCHITECTURE.md" >told
-same_file "what ARCHITECTURE has of the layers" layers told
+    "$top/ARCHITECTURE.md" >told
+same_file "what ARCHITECTURE.md has of the layers" layers told
 
 finish

@@ -1,5 +1,5 @@
 #!/usr/bin/env bash
-# `twire lsp`: what it answers an editor, by the Language Server Protocol 3.17 and docs/COMMAND_LINE.md.
+# `twire lsp`: what it answers an editor, by the Language Server Protocol 3.17 and rules/commands.md.
 source "$(dirname -- "$(readlink -f -- "${BASH_SOURCE[0]}")")/suite.bash" || exit 1
 
 if ! type -P python3 >found; then

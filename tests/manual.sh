@@ -97,7 +97,7 @@ for command in "${commands[@]}"; do
     same "zsh: the options of $command" "$of_help" \
         "$(sed -n "/^                $command)/,/;;/s/^ *'\*\{0,1\}\(-[^[]*\)\[.*/\1/p" _twire | LC_ALL=C sort | paste -sd ' ')"
 done
-# (by what docs/COMMAND_LINE.md says of them, and each takes what it did)
+# (by what rules/commands.md says of them, and each takes what it did)
 same "zsh: options that may be given again" "--drives --with" \
     "$(sed -n "s/^ *'\*\(--[^[]*\)\[.*/\1/p" _twire | LC_ALL=C sort -u | paste -sd ' ')"
 same "zsh: files of --with" "$(grep -c "'--with\|'\*--with" _twire)" "$(grep -c "'\*--with\[.*:FILE:_files'" _twire)"

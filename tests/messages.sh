@@ -310,7 +310,7 @@ for example in "$examples"/*.brief "$examples"/*.plan; do
     held "the messages of $example: status $found, $errors errors, $others other lines" out
 done
 
-# quickfix NAME COMMAND ARG..: vim's list after `:make`, as GUIDE has it, in one that is called so.
+# quickfix NAME COMMAND ARG..: vim's list after `:make`, as EDITOR has it, in one that is called so.
 quickfix() {
     local name=$1
     shift

@@ -88,6 +88,14 @@ asked guard on.plan --controller c
     echo "controller main" m{16..225} ";"
 } >wide.brief
 asked guard wide.brief --controller main
+# A trace with a transfer that is a message, one that is near to one, and one that is not acknowledged; and what is refused of these.
+printf 'a-1 [000] 5.000001: i2c_%s\n' 'write: i2c-3 #0 a=048 f=0000 l=2 [01-60]' 'result: i2c-3 n=1 ret=1' \
+    'write: i2c-3 #0 a=048 f=0000 l=2 [02-60]' 'result: i2c-3 n=1 ret=1' 'write: i2c-3 #0 a=051 f=0000 l=0 []' \
+    'result: i2c-3 n=1 ret=-6' >trace
+lines traced.brief "brief 1" "message set write 0x48 0x01 0x6X ;" "controller bmc set ;"
+asked conform traced.brief --sender bmc trace
+asked conform traced.brief --sender bmc - <<<"nothing"
+asked conform traced.brief --sender fan trace
 wait
 for name in json lines explain briefs boards bench cases; do
     tail -n 1 "said.$name" | grep -qE '^[0-9]+( passed, [0-9]+ failed)?$'

@@ -1,5 +1,5 @@
 #!/usr/bin/env bash
-# The screens of docs/SCREENS.md: each command there, run on a terminal, shows what stands below it, and has at most 80 columns.
+# The screens of tests/screens.md: each command there, run on a terminal, shows what stands below it, and has at most 80 columns.
 source "$(dirname -- "$(readlink -f -- "${BASH_SOURCE[0]}")")/suite.bash" || exit 1
 
 ln -s "$examples" examples
@@ -42,7 +42,7 @@ while IFS= read -r line; do
     elif [[ $inside == text ]]; then
         printf '%s\n' "$line" >>want
     fi
-done <"$top/docs/SCREENS.md"
+done <"$top/tests/screens.md"
 ((screens > 0)) || fails "the document has no screens"
 
 # The help that is asked for is the same as that which comes without a command.

@@ -731,7 +731,7 @@ BYTES
 same "names" "$(printf "message %s\n" write_48_read_48 read_48_r01 write_48_r01_read_50 read_50_write_50_r03 \
     write_50_r05_write_50 write_50_write_50 read_48_read_49)" "$(words_of message learned)"
 
-# The example of docs/CAPTURES.md.
+# The example of rules/captures.md.
 seen_in 1000 >lengths <<'BYTES'
 50w 00
 50w 00 11

@@ -53,7 +53,7 @@ printf 'cert 1\npairs 1\nP6\n' >cert
 "$top/tools/dump" 100100000 >vcd
 { cat vcd && printf '$comment %70000s $end' ''; } >long
 
-# Reports are as long as they are in COMMAND_LINE: 'safe: 1 pairs' has 13 bytes and its end of line.
+# Reports are as long as they are in COMMANDS: 'safe: 1 pairs' has 13 bytes and its end of line.
 safe="out 14"
 accepted="out 14"
 proofs="out $(stat -c %s cert)"

@@ -1,20 +1,19 @@
 #!/usr/bin/env bash
-# The checks of a team, as docs/GUIDE.md has them: its script and its workflow, in a git repository of its own, with the
+# The checks of a team, as docs/TEAM.md has them: its script and its workflow, in a git repository of its own, with the
 # mistakes that people make. Each ends with a line that says what to do, and once that is done the checks pass.
 source "$(dirname -- "$(readlink -f -- "${BASH_SOURCE[0]}")")/suite.bash" || exit 1
 
-guide=$top/docs/GUIDE.md
+guide=$top/docs/TEAM.md
 type -P git >/dev/null || {
     echo "left out: the checks of a team (there is no git)"
     finish
 }
 "$verifier" --version >/dev/null 2>&1
 
-# block LANGUAGE: the block of the guide's section in this language.
+# block LANGUAGE: the block of the page in this language.
 block() {
     awk -v language="$1" '
-        /^### / { on = $0 == "### The checks of a team" }
-        on && $0 == "```" language { inside = 1; next }
+        $0 == "```" language { inside = 1; next }
         /^```$/ { inside = 0 }
         inside' "$guide"
 }
@@ -116,7 +115,7 @@ again
 # both start alike, and then one repeats START while the other sends data
 printf 'message get write sensor settings read sensor 1 ;\ncontroller host get ;\n' >>bmc.brief
 rewritten
-checks "an unsafe plan" 1 "checks: the plan is not safe, and this says what mends it: twire check board.brief --explain"
+checks "an unsafe plan" 1 "checks: the plan is not safe, and this says what fixes it: twire check board.brief --explain"
 same "what its line says" "    see bmc.brief:2 and bmc.brief:4
 unsafe: 1 of 3 pairs" "$(bash -c "$(advice)" | grep -E '^    see|^unsafe')"
 again
@@ -142,14 +141,14 @@ echo 'with "fan.brief" ;' >>board.brief
 checks "a brief that the board names" 0 "accepted safe"
 again
 
-refused="checks: the briefs are refused: mend the place shown above"
+refused="checks: the briefs are refused: correct the place shown above"
 printf 'brief 2\nwith "bmc.brief" ;\nwith "devices.brief" ;\nwith "pch.brief" ;\n' >board.brief
 checks "the wrong order" 1 "$refused"
 same "the refusal above it" "refused P8 line 2 of bmc.brief" "$(sh checks.sh 2>&1 | grep -o '^refused P8 line 2.*')"
 again
 
 sed -i 's/^board=.*/board=bord.brief/' checks.sh
-checks "a name that is mistyped" 1 "checks: there is no bord.brief: put it there, or mend its name in checks.sh"
+checks "a name that is mistyped" 1 "checks: there is no bord.brief: put it there, or correct its name in checks.sh"
 again
 
 printf 'brief 2\nwith "devices.brief" ;\nwith "bmc.brief" ;\nwith "phc.brief" ;\n#with "pch.brief"\n' >board.brief
@@ -170,7 +169,7 @@ git clone -q -c core.autocrlf=true . "$work/windows"
 cd "$work/windows" || exit 1
 checks "a checkout of Windows" 0 "accepted safe"
 
-# returns FILE COMMAND: the file has carriage returns, and what the line says mends it.
+# returns FILE COMMAND: the file has carriage returns, and what the line says corrects it.
 returns() {
     checks "ends of lines of Windows: $1" 1 "checks: $1 has ends of lines of Windows, so put '*.${1#*.} text eol=lf' into .gitattributes: $2"
     echo "*.${1#*.} text eol=lf" >>.gitattributes
@@ -198,10 +197,10 @@ git commit -q -a -m "Ends of lines of Windows"
 returns bus.plan "$expand"
 returns bus.cert "$certify"
 git commit -q -a -m "And back"
-git clone -q . "$work/mended"
+git clone -q . "$work/corrected"
 git checkout -q main
-cd "$work/mended" || exit 1
-checks "ends of lines of Windows, once they are mended" 0 "accepted safe"
+cd "$work/corrected" || exit 1
+checks "ends of lines of Windows, once they are corrected" 0 "accepted safe"
 cd "$work/bus" || exit 1
 
 # ---- the workflow

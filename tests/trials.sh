@@ -1,5 +1,5 @@
 #!/usr/bin/env bash
-# Runs the cases of tests/cases in every way that docs/TESTING.md lists, and compares what twire says with the plain programs,
+# Runs the cases of tests/cases in every way that tests/README.md lists, and compares what twire says with the plain programs,
 # on these cases and on 25,000 that are changed. It says how many runs each file had in each way. It also fails where cases or
 # runs were lost: their numbers stand in tests/trials/expected.txt.
 #

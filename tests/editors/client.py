@@ -1,5 +1,5 @@
 # A client of `twire lsp`: each case sends frames, and compares what comes back with what the protocol and
-# docs/COMMAND_LINE.md say. The last line is 'N passed, M failed'.
+# rules/commands.md say. The last line is 'N passed, M failed'.
 import json
 import os
 import subprocess
@@ -139,7 +139,7 @@ controller pch get ;
 
 server = Server().begin()
 want('a safe brief', [], server.open(BRIEF, SAFE))
-# each refusal, at the token of docs/PLANS.md; a line is one less than there
+# each refusal, at the token of rules/plans.md; a line is one less than there
 REFUSED = [
     ('P1', SAFE + '# \u00e9\n', [7, 2, 7, 3]),
     ('P1', SAFE + '# \U0001f600 \u00e9\n', [7, 2, 7, 4]),

@@ -1,5 +1,5 @@
 # The TextMate grammars of tools/editors, over the examples and a brief of the second version: each token of a text has the scope
-# that docs/PLANS.md gives it. Tokens are cut and named here by the rules of the document, the grammar is run as editors do: at
+# that rules/plans.md gives it. Tokens are cut and named here by the rules of the document, the grammar is run as editors do: at
 # each place the pattern that begins first, and of those that begin there the first one of the list. After what a pattern with a
 # 'begin' begins, its own patterns go on to the end. The last line is 'N passed, M failed'.
 import glob
@@ -18,7 +18,7 @@ SECOND = {'with': 'keyword.declaration', 'group': 'keyword.declaration', 'extend
           'sum': 'constant.language'}
 
 
-# What a word is, by the tables of docs/PLANS.md. (What is eight bits in a plan could be a count where a count stands.)
+# What a word is, by the tables of rules/plans.md. (What is eight bits in a plan could be a count where a count stands.)
 def kind_of(language, is_second, word):
     if is_second and word in SECOND:
         return SECOND[word]

@@ -1,4 +1,4 @@
-# A client of `twire lsp`, and what is said of names, addresses, bytes and `never` items: each value here follows from docs/PLANS.md,
+# A client of `twire lsp`, and what is said of names, addresses, bytes and `never` items: each value here follows from rules/plans.md,
 # from UM10204, or from what `twire check --explain` is to say.
 # The last line is 'N passed, M failed'.
 from protocol import Server, finish, want
@@ -158,7 +158,7 @@ server.change(BRIEF, BARE := 'brief 1\nmessage a write 0x48 0x90 0b00000001 ;\nc
 want('bits of a number', 'byte `0x90`: bits `10010000`', said(BARE, '0x90'))
 want('the number of bits', 'byte `0b00000001`: `0x01`', said(BARE, '0b0'))
 
-# ---- codes and sums: the values of docs/PLANS.md
+# ---- codes and sums: the values of rules/plans.md
 
 CHECKS = [
     ('write 0x50 pec', ['pec'], ['0x69']),
@@ -210,7 +210,7 @@ limit = said(UNSAFE, 'write_limit')
 want('its frames first', ['message `write_limit`', '', '```text', 'S 48 Wr A 01 A any A P', '```'], limit.splitlines()[:5])
 want('in how many pairs', ['in 1 pair, 1 unsafe'], lines_with(limit, '1 unsafe'))
 rows = limit.split('```text\n')[2].split('```')[0].splitlines()
-# (a row goes on to the end of the byte in the slot, as docs/COMMAND_LINE.md says: of a byte that is open, or of a repeated START)
+# (a row goes on to the end of the byte in the slot, as rules/commands.md says: of a byte that is open, or of a repeated START)
 want('the rows', ['bus S 48 Wr A 01 A', 'main/write_limit S 48 Wr A 01 A xxxxxxxx next: a data bit',
                   'guard/read_limit S 48 Wr A 01 A Sr next: a repeated START'], [' '.join(row.split()) for row in rows[:3]])
 want('the slot', 'slot 18, UM10204 3.1.8: a data bit meets a repeated START. Both send alike until here.', ' '.join(rows[3:]))

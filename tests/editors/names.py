@@ -107,7 +107,7 @@ want('a name that is too long', -32803, refused(12, 8, 'x' * 33))
 want('without a name', -32602, server.code('textDocument/rename', document(FIRST, **at(4, 8))))
 want('the same name', BOARD, renamed(server, FIRST, BOARD, 4, 8, 'psu1'))
 
-# members that a choice makes: 0x02..0x04 is cut into 0x02 and 0x03, and 0x04 (PLANS: blocks of a power of two)
+# members that a choice makes: 0x02..0x04 is cut into 0x02 and 0x03, and 0x04 (rules/plans.md: blocks of a power of two)
 CHOICE = 'brief 2\nmessage b write 0x50 0x02..0x04 ;\nmessage b_c write 0x51 any ;\ncontroller c b_2 ;\ncontroller d b b_c ;\n'
 CHOSEN = 'file:///nowhere/choice.brief'
 other = Server().begin()

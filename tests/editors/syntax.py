@@ -1,5 +1,5 @@
 # The syntax files of tools/editors for vim, over the examples and a brief of the second version: each token of a text is in the
-# group that docs/PLANS.md gives it. The last line is 'N passed, M failed'.
+# group that rules/plans.md gives it. The last line is 'N passed, M failed'.
 import os
 import subprocess
 import sys

@@ -1,4 +1,4 @@
-//! What the field `explain` holds, by the schema in docs/COMMAND_LINE.md.
+//! What the field `explain` holds, by the schema in rules/commands.md.
 
 use crate::json::Value;
 use crate::objects::meetings_of;

@@ -4,7 +4,7 @@
 //! compares what twire says with the plain programs; it makes up plans, which are to come back from the briefs that twire writes
 //! of them; and it cuts briefs into several files. All these come from a seed, so a run can be repeated.
 //!
-//! tests/trials.sh builds it and runs it; docs/TESTING.md says what it tries, tests/cases/README.md how cases are written.
+//! tests/trials.sh builds it and runs it; tests/README.md says what it tries, tests/cases/README.md how cases are written.
 
 mod blocks;
 mod boards;
@@ -49,6 +49,7 @@ mod slips;
 mod tallies;
 mod texts;
 mod timings;
+mod traces;
 mod unreadable;
 mod values;
 mod vectors;
@@ -79,6 +80,7 @@ use std::io;
 use std::path::PathBuf;
 use std::process::ExitCode;
 use timings::try_timings;
+use traces::try_traces;
 use vectors::try_vectors;
 use versions::try_versions;
 use waves::try_waves;
@@ -181,6 +183,7 @@ fn try_all(orders: &Orders) -> Result<Score, Box<dyn Error>> {
     try_vectors(&mut crew, &mut score, orders.seed, step)?;
     try_drives(&mut crew, &mut score, orders.seed, step)?;
     try_timings(&mut crew, &mut score, orders.seed, step)?;
+    try_traces(&mut crew, &mut score, orders.seed, step)?;
     try_layouts(&mut crew, &mut score, &cases, orders.seed, step)?;
     if takes_refusals {
         try_scarce(&mut crew, &mut score, &cases)?;

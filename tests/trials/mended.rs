@@ -1,4 +1,4 @@
-//! What a check says of mending, compared with what is due (docs/MENDING.md). Of edits the texts are compared that they make, word by
+//! What a check says of mending, compared with what is due (rules/mending.md). Of edits the texts are compared that they make, word by
 //! word, with their comments. The plain programs choose no `never` items: those that are shown they try as they stand.
 
 use crate::cases::Asked;

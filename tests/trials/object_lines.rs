@@ -1,4 +1,4 @@
-//! The lines that the objects of `--format json` stand for, by the schema in docs/COMMAND_LINE.md: each field in its place, and
+//! The lines that the objects of `--format json` stand for, by the schema in rules/commands.md: each field in its place, and
 //! none besides. What is explained has no lines: there its fields have to be in their places.
 
 use crate::json::{read, Value};
@@ -24,7 +24,7 @@ fn without_place(line: &str) -> &str {
 // What stands before the place of a token.
 const PLACE: &str = " byte ";
 
-// The kinds of offers (docs/MENDING.md).
+// The kinds of offers (rules/mending.md).
 const KINDS: [&str; 8] = ["count", "known", "bit", "read", "pointer", "address", "length", "never"];
 
 /// The same, where the line of a refused token has its place too: how many bytes stand before it, and in its line and one.

@@ -1,5 +1,5 @@
 //! The objects that are due of a command: made of the values that the plain programs find, by the schema in
-//! docs/COMMAND_LINE.md, each field in its place and none besides. What `explain` holds stands in `explains`.
+//! rules/commands.md, each field in its place and none besides. What `explain` holds stands in `explains`.
 
 use crate::cases::Asked;
 use crate::commands::Command;

@@ -3,8 +3,8 @@
 use crate::building::program;
 use crate::capturing::{Options, drive_of};
 use crate::requests::{
-    Capture, Decoding, Format, Layout, Lesson, Look, Mend, OfferNumber, Play, Request, Rewriting,
-    Tabled, Taking,
+    Capture, Conform, Decoding, Format, Layout, Lesson, Look, Mend, OfferNumber, Play, Request,
+    Rewriting, Sender, Tabled, Taking, TraceLesson,
 };
 use crate::table::COMMANDS;
 use clap::error::ErrorKind;
@@ -21,6 +21,8 @@ pub enum Asked<'a> {
         further: Vec<&'a str>,
         /// The lines of controllers in a dump.
         drives: Vec<Drive<'a>>,
+        /// Controllers with their traces.
+        senders: Vec<Sender<'a>>,
         /// The numbers of the offers that are taken.
         taken: Vec<OfferNumber>,
         tabled: Tabled<'a>,
@@ -104,6 +106,22 @@ const INPUT_TWICE: Fault = "standard input can be one of the files, and not two"
 const NO_ROWS: Fault =
     "'--format csv' is for 'decode', without '--summary', '--explain', '--pec', '--timing' and '--wave'";
 
+const NO_SENDER: Fault = "'--sender <WHO> <FILE>' is missing: the controller, and its trace";
+
+const NOT_SENDERS: Fault = "'--sender' is given more than once: 'conform' takes one controller";
+
+const SENDER_TWICE: Fault = "'--sender' names a controller twice: it has one trace";
+
+const MANY_SENDERS: Fault =
+    "'--sender' is given more than 32 times: a plan has 32 controllers at most";
+
+const TRACE_AND_DUMP: Fault = "'--sender' has its trace, so there is no <VCD>";
+
+const NO_TRACE: Fault = "'--adapter' wants '--sender <WHO> <FILE>', whose events it chooses";
+
+const NOT_OF_TRACES: Fault =
+    "'--sender' reads traces: options of lines, times and tables are for dumps";
+
 const NO_NAMES: Fault = "'--device' wants '--names <BRIEF>', which has the device";
 
 const NO_CONTROLLER: Fault = "'--controller <NAME>' is missing: whose messages the driver may send";
@@ -180,6 +198,7 @@ fn found_in<'a>(alloc: Global, matches: &ArgMatches<'a>) -> Result<Asked<'a>, Er
             tabled,
             further: further_of(alloc, matches)?,
             drives: drives_of(alloc, matches)?,
+            senders: senders_of(alloc, matches)?,
             taken: taken_of(alloc, matches)?,
             manner,
         }),
@@ -242,6 +261,12 @@ fn further_of<'a>(alloc: Global, matches: &ArgMatches<'a>) -> Result<Vec<&'a str
         push_given(&mut further, matches, "BRIEF", 1)?;
         push_given(&mut further, matches, "FILE", 1)?;
         push_given(&mut further, matches, "with", 0)?;
+        // (traces that no brief comes before are its texts)
+        if matches.get_str("PLAN").is_none() && matches.get_str("names").is_none() {
+            for trace in senders_in(alloc, matches)?.iter().skip(1) {
+                further.push(trace.trace)?;
+            }
+        }
     }
     Ok(further)
 }
@@ -259,6 +284,32 @@ fn push_given<'a>(
         }
     }
     Ok(())
+}
+
+// The controllers that are given, each with its trace.
+fn senders_of<'a>(alloc: Global, matches: &ArgMatches<'a>) -> Result<Vec<Sender<'a>>, AllocError> {
+    match matches.subcommand() {
+        Some((_, matches)) => senders_in(alloc, matches),
+        None => Ok(Vec::new(alloc)),
+    }
+}
+
+fn senders_in<'a>(alloc: Global, matches: &ArgMatches<'a>) -> Result<Vec<Sender<'a>>, AllocError> {
+    let mut senders = Vec::new(alloc);
+    let mut name: Option<&'a str> = None;
+    for word in matches.get_strs("sender").unwrap_or(&[]) {
+        match name {
+            Some(given) => {
+                senders.push(Sender {
+                    name: given,
+                    trace: *word,
+                })?;
+                name = None;
+            }
+            None => name = Some(*word),
+        }
+    }
+    Ok(senders)
 }
 
 fn manner_of(matches: &ArgMatches<'_>) -> Manner {
@@ -299,6 +350,7 @@ fn request_of<'a>(name: &str, matches: &ArgMatches<'a>) -> Result<Request<'a>, F
             explain: matches.get_flag("explain"),
         }),
         "capture" => capture_of(matches),
+        "conform" => conform_of(matches),
         "decode" => decode_of(matches),
         "signals" => Ok(Request::Signals {
             vcd: word(matches, "VCD"),
@@ -580,7 +632,84 @@ fn refuse_rows(name: &str, matches: &ArgMatches<'_>) -> Result<(), Fault> {
     }
 }
 
+fn conform_of<'a>(matches: &ArgMatches<'a>) -> Result<Request<'a>, Fault> {
+    match matches.get_strs("sender") {
+        None => Err(NO_SENDER),
+        Some(given) if given.len() > 2 => Err(NOT_SENDERS),
+        Some(_) => Ok(Request::Conform {
+            plan: word(matches, "PLAN"),
+            conform: Conform {
+                senders: &[],
+                adapter: matches.get_one::<u32>("adapter"),
+                live: matches.get_flag("live"),
+                summary: matches.get_flag("summary"),
+            },
+        }),
+    }
+}
+
+// The options of dumps that say nothing of a trace.
+const OF_DUMPS: [&str; 10] = [
+    "scl",
+    "sda",
+    "scope",
+    "scl-code",
+    "sda-code",
+    "rate",
+    "drives",
+    "min-pulse",
+    "from",
+    "to",
+];
+
+// The same of traces. Which they are is put there later.
+fn learn_traces_of<'a>(matches: &ArgMatches<'a>, given: &[&str]) -> Result<Request<'a>, Fault> {
+    if matches.get_str("VCD").is_some() {
+        return Err(TRACE_AND_DUMP);
+    }
+    if OF_DUMPS.iter().any(|id| matches.get_str(id).is_some())
+        || matches.get_flag("table")
+        || matches.get_str("times") == Some("si")
+    {
+        return Err(NOT_OF_TRACES);
+    }
+    if given.len() > 64 {
+        return Err(MANY_SENDERS);
+    }
+    if is_named_twice(given) {
+        return Err(SENDER_TWICE);
+    }
+    Ok(Request::LearnTraces {
+        names: matches.get_str("names"),
+        lesson: TraceLesson {
+            senders: &[],
+            adapter: matches.get_one::<u32>("adapter"),
+            merge: matches.get_flag("merge"),
+            widen: matches.get_flag("widen"),
+        },
+        output: output_of(matches),
+    })
+}
+
+// Whether of names, each with a trace after it, two are the same.
+fn is_named_twice(given: &[&str]) -> bool {
+    for (place, name) in given.iter().enumerate() {
+        for (other, its) in given.iter().take(place).enumerate() {
+            if place % 2 == 0 && other % 2 == 0 && name == its {
+                return true;
+            }
+        }
+    }
+    false
+}
+
 fn learn_of<'a>(matches: &ArgMatches<'a>) -> Result<Request<'a>, Fault> {
+    if let Some(given) = matches.get_strs("sender") {
+        return learn_traces_of(matches, given);
+    }
+    if matches.get_one::<u32>("adapter").is_some() {
+        return Err(NO_TRACE);
+    }
     let lesson = Lesson {
         bus: options_of(matches)?.bus_or_only(),
         merge: matches.get_flag("merge"),
@@ -664,6 +793,11 @@ fn refuse_input_twice(matches: &ArgMatches<'_>) -> Result<(), Fault> {
     for name in &READ {
         if *name != "CERT" || !matches.get_flag("certify") {
             inputs = inputs.saturating_add(inputs_in(matches, name));
+        }
+    }
+    for (place, word) in matches.get_strs("sender").unwrap_or(&[]).iter().enumerate() {
+        if place % 2 == 1 && is_input(word) {
+            inputs = inputs.saturating_add(1);
         }
     }
     if inputs > 1 { Err(INPUT_TWICE) } else { Ok(()) }

@@ -120,6 +120,15 @@ fn argument<'a>(alloc: Global, argument: Argument) -> Result<Arg<'a>, AllocError
             value_name,
             help,
         } => option(alloc, id, value_name, help).action(ArgAction::Append),
+        Argument::Twos {
+            id,
+            value_names,
+            help,
+        } => Arg::new(alloc, id)
+            .long(id)
+            .value_names(value_names)
+            .action(ArgAction::Append)
+            .help(help),
         Argument::Choice {
             id,
             value_name,

@@ -379,6 +379,30 @@ Examples:
 
 Exit status: 0 listed, 2 refused.";
 
+pub const AFTER_CONFORM_HELP: &str = "\
+The trace is what the Linux kernel's I2C and SMBus events say, as text: of
+/sys/kernel/tracing/trace or trace_pipe, 'trace-cmd report', 'perf script', or
+the console with tp_printk. Each transfer has to be a message that the plan lets
+this controller send: whole where all was acknowledged, and else up to what was
+not. One that is none is told with the message that comes nearest:
+
+  45.123456 i2cset-123 S 48 Wr A 02 A P: no message of bmc, nearest set up to
+  S 48 Wr A
+
+(on one line). Then each message has a line with how often it was sent, and the
+last line says 'bmc keeps to the plan in N transfers', or in how many of them it
+departs. Transfers that failed otherwise are counted, and not judged.
+
+  trace-cmd stream -e i2c | twire conform board.brief --sender bmc - --live
+
+Examples:
+
+  twire conform board.brief --sender bmc trace.txt
+  twire conform board.brief --sender bmc trace.txt --adapter 3 --summary
+
+Exit status: 0 it keeps to the plan, 1 it does not, 2 refused.
+";
+
 pub const AFTER_LEARN_HELP: &str = "\
 The brief has a message for each different sequence of bytes that was seen, and
 one controller, 'seen', that lists them all. Above each message stand comments:
@@ -412,6 +436,10 @@ among controllers. Where a dump has what each controller pulls itself, this
 shares them out:
 
   --drives bmc=top.bmc.sda_o --drives pch=top.pch.sda_o
+
+With '--sender' it is learned from the kernel's traces, one for each controller:
+
+  twire learn --sender bmc bmc.txt --sender pch pch.txt -o board.brief
 
 Expanded by 'twire expand', it explains the capture that it was learned from,
 except for transactions that no message can have, which comments count.
@@ -488,8 +516,8 @@ reads each byte once, however many messages there are. It allocates nothing, and
 the header needs C99, <stddef.h> and <stdint.h> alone. Include it in one file.
 
 A driver that sends segments ends with a STOP after a byte that is not
-acknowledged. So no segments are a message that has frames after 'else': the
-header says so beside its name.
+acknowledged. So no segments are a message that goes on after one, as by 'else
+again': the header says so beside its name.
 
 docs/GUARD.md has the rules, and docs/FIRMWARE.md how to build it into the
 drivers of Linux, Zephyr and others.

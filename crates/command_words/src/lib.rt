@@ -14,6 +14,6 @@ mod table;
 
 pub use asking::{Asked, Manner, When, read_words};
 pub use requests::{
-    Capture, Decoding, Format, Layout, Lesson, Look, Mend, OfferNumber, Play, Request, Rewriting,
-    Tabled, Taking,
+    Capture, Conform, Decoding, Format, Layout, Lesson, Look, Mend, OfferNumber, Play, Request,
+    Rewriting, Sender, Tabled, Taking, TraceLesson,
 };

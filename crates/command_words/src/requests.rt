@@ -63,6 +63,17 @@ pub enum Request<'a> {
         lesson: Lesson<'a>,
         output: Option<&'a str>,
     },
+    /// The same of traces of the kernel, one for each controller.
+    LearnTraces {
+        names: Option<&'a str>,
+        lesson: TraceLesson<'a>,
+        output: Option<&'a str>,
+    },
+    /// Whether a controller keeps to a plan, by its trace.
+    Conform {
+        plan: &'a str,
+        conform: Conform<'a>,
+    },
     /// What starters of an accepted plan do on a bus. Without a certificate one is to be made.
     Bench {
         plan: &'a str,
@@ -187,6 +198,45 @@ pub struct Lesson<'a> {
     pub drives: Drives<'a>,
 }
 
+/// A controller, and the file with its trace.
+#[derive(Clone, Copy)]
+pub struct Sender<'a> {
+    pub name: &'a str,
+    pub trace: &'a str,
+}
+
+/// A brief that is asked for of traces, by the events of one adapter each. What differs in data is put together as in that of a
+/// dump.
+#[derive(Clone, Copy)]
+pub struct TraceLesson<'a> {
+    pub senders: &'a [Sender<'a>],
+    pub adapter: Option<u32>,
+    pub merge: bool,
+    pub widen: bool,
+}
+
+/// A trace that is held against a plan.
+#[derive(Clone, Copy)]
+pub struct Conform<'a> {
+    /// There is one.
+    pub senders: &'a [Sender<'a>],
+    pub adapter: Option<u32>,
+    /// Whether what departs is written before the trace is read on.
+    pub live: bool,
+    /// Whether messages are counted alone.
+    pub summary: bool,
+}
+
+impl<'a> Conform<'a> {
+    /// The name of the controller.
+    pub fn name(self) -> &'a str {
+        match self.senders.first() {
+            Some(sender) => sender.name,
+            None => "",
+        }
+    }
+}
+
 /// Who starts, what they send for open bits, and what the targets answer: bits by slot, 0 and 1, and what follows them.
 #[derive(Clone, Copy)]
 pub struct Play<'a> {
@@ -279,6 +329,36 @@ impl<'a> Request<'a> {
             },
             _ => self,
         }
+    }
+
+    /// The same with these controllers and their traces.
+    pub fn with_senders(self, senders: &'a [Sender<'a>]) -> Request<'a> {
+        match self {
+            Request::LearnTraces {
+                names,
+                lesson,
+                output,
+            } => Request::LearnTraces {
+                names,
+                lesson: TraceLesson { senders, ..lesson },
+                output,
+            },
+            Request::Conform { plan, conform } => Request::Conform {
+                plan,
+                conform: Conform { senders, ..conform },
+            },
+            _ => self,
+        }
+    }
+
+    /// The controllers whose traces it is over.
+    pub fn senders(self) -> &'a [Sender<'a>] {
+        let senders = match self {
+            Request::LearnTraces { lesson, .. } => Some(lesson.senders),
+            Request::Conform { conform, .. } => Some(conform.senders),
+            _ => None,
+        };
+        senders.unwrap_or(&[])
     }
 
     /// The same with the offers of these numbers, where such are taken.

@@ -2,9 +2,9 @@
 
 use crate::help::{
     AFTER_BENCH_HELP, AFTER_BRIEF_HELP, AFTER_CAPTURE_HELP, AFTER_CERTIFY_HELP, AFTER_CHECK_HELP,
-    AFTER_DECODE_HELP, AFTER_EXPAND_HELP, AFTER_FORMAT_HELP, AFTER_GUARD_HELP, AFTER_LEARN_HELP,
-    AFTER_LSP_HELP, AFTER_MEND_HELP, AFTER_ORDER_HELP, AFTER_PAGE_HELP, AFTER_PRINT_HELP,
-    AFTER_SIGNALS_HELP, AFTER_VERIFY_HELP,
+    AFTER_CONFORM_HELP, AFTER_DECODE_HELP, AFTER_EXPAND_HELP, AFTER_FORMAT_HELP, AFTER_GUARD_HELP,
+    AFTER_LEARN_HELP, AFTER_LSP_HELP, AFTER_MEND_HELP, AFTER_ORDER_HELP, AFTER_PAGE_HELP,
+    AFTER_PRINT_HELP, AFTER_SIGNALS_HELP, AFTER_VERIFY_HELP,
 };
 
 /// A command of the program.
@@ -58,6 +58,12 @@ pub enum Argument {
     Pairs {
         id: &'static str,
         value_name: &'static str,
+        help: &'static str,
+    },
+    /// An option that may be given several times, each with two words of these names.
+    Twos {
+        id: &'static str,
+        value_names: &'static [&'static str],
         help: &'static str,
     },
     /// An option that takes any text.
@@ -157,9 +163,9 @@ pub const FORMAT: Argument = Argument::Choice {
 };
 
 /// The commands, in the order of the help.
-pub const COMMANDS: [Entry; 17] = [
-    CHECK, MEND, CERTIFY, VERIFY, ORDER, CAPTURE, DECODE, SIGNALS, LEARN, BENCH, PAGE, GUARD,
-    EXPAND, PRINT, BRIEF, LAYOUT, LSP,
+pub const COMMANDS: [Entry; 18] = [
+    CHECK, MEND, CERTIFY, VERIFY, ORDER, CAPTURE, CONFORM, DECODE, SIGNALS, LEARN, BENCH, PAGE,
+    GUARD, EXPAND, PRINT, BRIEF, LAYOUT, LSP,
 ];
 
 const CHECK: Entry = Entry {
@@ -216,6 +222,14 @@ const CAPTURE: Entry = Entry {
     ],
 };
 
+const CONFORM: Entry = Entry {
+    name: "conform",
+    about: "Does a controller keep to a plan, by the kernel's trace of it?",
+    usage: Some("twire conform [OPTIONS] <PLAN> --sender <WHO> <FILE>"),
+    after_help: AFTER_CONFORM_HELP,
+    arguments: &[PLAN, WITH, SENDER, ADAPTER, COUNTED, LIVE],
+};
+
 const DECODE: Entry = Entry {
     name: "decode",
     about: "Write what a recorded bus shows in bytes, without a plan",
@@ -238,11 +252,11 @@ const SIGNALS: Entry = Entry {
 const LEARN: Entry = Entry {
     name: "learn",
     about: "Write a brief of what was recorded: a message for each thing sent",
-    usage: None,
+    usage: Some(LEARN_USAGE),
     after_help: AFTER_LEARN_HELP,
     arguments: &[
-        VCD, SCL, SDA, SCOPE, SCL_CODE, SDA_CODE, TABLE, RATE, DRIVES, PULLS, MIN_PULSE, FROM, TO,
-        TIMES, MERGE, WIDEN, NAMES, OUTPUT,
+        RECORDING, SENDER, ADAPTER, SCL, SDA, SCOPE, SCL_CODE, SDA_CODE, TABLE, RATE, DRIVES,
+        PULLS, MIN_PULSE, FROM, TO, TIMES, MERGE, WIDEN, NAMES, OUTPUT,
     ],
 };
 
@@ -255,6 +269,11 @@ const BENCH: Entry = Entry {
         PLAN, BENCH_CERT, STARTERS, WITH, CERTIFIED, FILL, ANSWERS, REST, EXPLAIN, WAVE,
     ],
 };
+
+// With `--sender` there is no dump, which clap cannot say.
+const LEARN_USAGE: &str = "\
+twire learn [OPTIONS] <VCD>
+       twire learn [OPTIONS] --sender <WHO> <FILE>";
 
 // With `--certify` there is no certificate, which clap cannot say.
 const BENCH_USAGE: &str = "\
@@ -380,6 +399,30 @@ const CERT: Argument = Argument::Word {
 const VCD: Argument = Argument::Word {
     id: "VCD",
     help: "The capture, a VCD dump or a .csv table; - is standard input",
+};
+
+// With `--sender` traces stand in its place.
+const RECORDING: Argument = Argument::WordUnless {
+    id: "VCD",
+    flag: "sender",
+    help: "The capture, a VCD dump or a .csv table; - is standard input",
+};
+
+const SENDER: Argument = Argument::Twos {
+    id: "sender",
+    value_names: &["WHO", "FILE"],
+    help: "A controller, and the kernel's trace of it",
+};
+
+const ADAPTER: Argument = Argument::Count {
+    id: "adapter",
+    value_name: "N",
+    help: "Events of i2c-N; without it, of the only adapter",
+};
+
+const COUNTED: Argument = Argument::Flag {
+    id: "summary",
+    help: "Count for each message, list no transfers",
 };
 
 // With `--certify` there is no certificate, and the starters stand in its place.

@@ -2,6 +2,7 @@
 
 use dump_tables::TableError;
 use hints::{Hints, Kind, Lines, first_line};
+use kernel_traces::TraceError;
 use std::alloc::{AllocError, Global};
 
 /// A format of captures that is no dump.
@@ -39,6 +40,14 @@ impl Format {
 /// What to say of a table that is refused.
 pub fn on_table(alloc: Global, error: &TableError) -> Result<Hints, AllocError> {
     let (mut lines, why) = (Lines::new(alloc), &error.why);
+    lines.say(format_args!("{why}"));
+    lines.finish()
+}
+
+/// What to say of a trace that is refused.
+pub fn on_trace(alloc: Global, error: &TraceError) -> Result<Hints, AllocError> {
+    let mut lines = Lines::new(alloc);
+    let why = error.why;
     lines.say(format_args!("{why}"));
     lines.finish()
 }

@@ -26,7 +26,7 @@ mod silence;
 mod wording;
 
 pub use choosing::on_choice;
-pub use converting::on_table;
+pub use converting::{on_table, on_trace};
 pub use driving::{
     on_denied_line, on_like_line, on_no_controller, on_no_line, on_no_name, on_same_line,
 };

@@ -6,8 +6,8 @@
 //! the same of numbers, `choices` of choices, `names` where a name stands already or which are nearest, and
 //! `wording` what the other refusals mean. `certs` shows the place in a certificate, and `starters` looks for labels
 //! in the plan. `safety` says what a safe plan leaves out, `summaries` how many unsafe pairs are seen in groups,
-//! `odd` what is likely a mistake in briefs, `plans` why a plan has no brief, `untaken` why offers are not taken,
-//! `unguarded` why no guard is written, and `devices` which file failed. What
+//! `odd` what is likely a mistake in briefs, `plans` why a plan has no brief, `untaken` why offers are not taken, and
+//! `devices` which file failed. What
 //! is said of dumps is a crate of its own, `dump_hints`, which puts its hints together by the parts below.
 //!
 //! `values` has the hints, and the edits that mend what they speak of. It writes the hints as lines: it puts the word `hint:`
@@ -33,7 +33,6 @@ mod safety;
 mod starters;
 mod summaries;
 mod texts;
-mod unguarded;
 mod untaken;
 mod values;
 mod wording;
@@ -58,6 +57,5 @@ pub use texts::{
     Cause, Earlier, RefusedIn, SemicolonAt, cause_of, missing_semicolon_at, on_further_text,
     on_text,
 };
-pub use unguarded::{Unguarded, on_unguarded};
 pub use untaken::{OfferAt, Then, Untaken, on_mended, on_untaken};
 pub use values::{Fix, Hint, Hints};

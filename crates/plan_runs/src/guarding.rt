@@ -1,11 +1,10 @@
 // The run that writes a guard for the driver of a controller.
 
 use guards::{GuardError, header_of, table_of};
-use hints::Unguarded;
 use plan_core::Plan;
 use plan_words::PlanWords;
 use run_parts::{Input, Output, RunError, Status, write_lines};
-use run_values::{Ended, Halt, Sources};
+use run_values::{Ended, Halt, Sources, Unguarded};
 use std::alloc::{AllocError, Global};
 
 /// Writes what the controller of this name may send, of the plan that the readers give: the table that `table_of` makes of its

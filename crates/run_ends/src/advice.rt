@@ -3,6 +3,7 @@
 use crate::errands::Errand;
 use crate::inputs::Inputs;
 use crate::messages::{dump_message, file_message, table_message, text_message};
+use crate::unguarded::on_unguarded;
 use crate::voices::{refused, refused_by_word, say, say_message, say_objects, say_these};
 use cert_check::{Answer, Answered};
 use command_words::Format;
@@ -11,7 +12,7 @@ use dump_findings::Seen;
 use dump_hints::{
     Names, on_bytes, on_choice, on_denied_line, on_dump, on_like_line, on_no_controller,
     on_no_device, on_no_line, on_no_name, on_none_passes, on_only, on_recording, on_same_line,
-    on_signals, on_signs, on_silence, on_table, on_unexplained,
+    on_signals, on_signs, on_silence, on_table, on_trace, on_unexplained,
 };
 use dump_tokens::Drive;
 use given_plans::Provenance;
@@ -19,7 +20,7 @@ use growing_text::Text;
 use hints::{
     Found, Hints, NoWaves, Untaken, on_certificate, on_checked, on_fault, on_memory, on_mended,
     on_named_file, on_no_answers, on_no_brief, on_no_timescale, on_no_waves, on_reading, on_safe,
-    on_starters, on_unguarded, on_untaken, on_workers, on_writing,
+    on_starters, on_untaken, on_workers, on_writing,
 };
 use lint::oddities;
 use plan_core::Plan;
@@ -30,7 +31,7 @@ use refusal_objects::{Detail, EarlierAt, Subject};
 use remedies::kept_apart;
 use run_parts::{RunError, Status};
 use run_refusals::{Further, RefusedNamed};
-use run_values::{Findings, Halt, Mended, NoDrive, Recorded, RefusedSource, words_of};
+use run_values::{Findings, Halt, Mended, NoDrive, NoSender, Recorded, RefusedSource, words_of};
 use spellings::brief_word;
 use std::alloc::{AllocError, Global};
 use std::io::{self, Read, Seek};
@@ -152,6 +153,18 @@ fn drive_of<'a>(errand: Errand<'a>, number: usize) -> Drive<'a> {
             controller: "",
             line: "",
         },
+    }
+}
+
+// The controller with this number whose trace was given.
+fn sender_of<'a>(errand: Errand<'a>, number: usize) -> Drive<'a> {
+    let controller = match errand.request.senders().get(number) {
+        Some(sender) => sender.name,
+        None => "",
+    };
+    Drive {
+        controller,
+        line: "",
     }
 }
 
@@ -302,6 +315,17 @@ fn tell<'x, R: Eprint + AllocGlobal>(
         Halt::Table(error) => {
             return refused_by_word(rt, "table", Subject::Line(error.line), reason, format);
         }
+        Halt::Trace(number, error) if format == Format::Messages => {
+            let file = errand.trace(*number);
+            return say_message(rt, table_message(alloc, file, error.line, reason));
+        }
+        Halt::Trace(_, error) => {
+            return refused_by_word(rt, "trace", Subject::Line(error.line), reason, format);
+        }
+        Halt::NoSender(number, _) => {
+            let controller = Subject::Controller(sender_of(errand, *number).controller);
+            return refused_by_word(rt, "sender", controller, reason, format);
+        }
         Halt::NoDrive(number, _) => {
             let controller = Subject::Controller(drive_of(errand, *number).controller);
             return refused_by_word(rt, "drives", controller, reason, format);
@@ -430,6 +454,11 @@ fn hints_on<F: Read + Seek + Drop>(
             on_dump(alloc, read.again, names, *error, wrong.as_ref())
         }
         Halt::Table(error) => on_table(alloc, error),
+        Halt::Trace(_, error) => on_trace(alloc, error),
+        Halt::NoSender(number, NoSender::NoController(names)) => {
+            on_no_controller(alloc, sender_of(errand, *number), names.as_slice())
+        }
+        Halt::NoSender(number, NoSender::NoName) => on_no_name(alloc, sender_of(errand, *number)),
         Halt::Starters(_, refused, given) => {
             let files = errand.named().files();
             on_starters(

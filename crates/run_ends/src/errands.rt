@@ -64,8 +64,11 @@ impl<'a> Errand<'a> {
             | Request::Order { .. }
             | Request::Capture { .. }
             | Request::Guard { .. }
+            | Request::Conform { .. }
             | Request::Bench { .. } => true,
-            Request::Learn { names, .. } | Request::Decode { names, .. } => names.is_some(),
+            Request::Learn { names, .. }
+            | Request::LearnTraces { names, .. }
+            | Request::Decode { names, .. } => names.is_some(),
             Request::Signals { .. } => false,
             Request::Rewrite { rewriting, .. } => match rewriting {
                 Rewriting::Expand | Rewriting::Certify | Rewriting::Print => true,
@@ -90,8 +93,13 @@ impl<'a> Errand<'a> {
             | Request::Order { plan, .. }
             | Request::Capture { plan, .. }
             | Request::Guard { plan, .. }
+            | Request::Conform { plan, .. }
             | Request::Bench { plan, .. } => named("PLAN", "plan", plan),
             Request::Learn {
+                names: Some(names),
+                ..
+            }
+            | Request::LearnTraces {
                 names: Some(names),
                 ..
             }
@@ -99,6 +107,7 @@ impl<'a> Errand<'a> {
                 names: Some(names),
                 ..
             } => named("--names", "brief", names),
+            Request::LearnTraces { .. } => named("--sender", "trace", self.trace(0)),
             Request::Decode { vcd, .. }
             | Request::Signals { vcd, .. }
             | Request::Learn { vcd, .. } => named("VCD", "capture", vcd),
@@ -118,10 +127,10 @@ impl<'a> Errand<'a> {
             first,
             further: self.further,
             // (those of a command that takes briefs alone are words of it)
-            argument: if self.rewrites(Rewriting::Expand) {
-                "BRIEF"
-            } else {
-                "--with"
+            argument: match self.request {
+                Request::LearnTraces { names: None, .. } => "--sender",
+                _ if self.rewrites(Rewriting::Expand) => "BRIEF",
+                _ => "--with",
             },
             several: !self.further.is_empty(),
         }
@@ -150,7 +159,39 @@ impl<'a> Errand<'a> {
                 names: Some(_),
                 ..
             } => Some(named("VCD", "capture", vcd)),
+            Request::Conform { .. } | Request::LearnTraces { names: Some(_), .. } => {
+                Some(named("--sender", "trace", self.trace(0)))
+            }
             _ => None,
+        }
+    }
+
+    /// The second file, or one after it: traces may be several.
+    pub fn second_at(self, number: usize) -> Option<Named<'a>> {
+        match (self.request, number) {
+            (_, 0) => self.second(),
+            (Request::LearnTraces { names: Some(_), .. }, _) => {
+                let sender = self.request.senders().get(number)?;
+                Some(named("--sender", "trace", sender.trace))
+            }
+            _ => None,
+        }
+    }
+
+    /// How many there are of these.
+    pub fn seconds(self) -> usize {
+        match self.request {
+            Request::LearnTraces { names: Some(_), .. } => self.request.senders().len(),
+            _ if self.second().is_some() => 1,
+            _ => 0,
+        }
+    }
+
+    /// The trace of the controller with this number.
+    pub(crate) fn trace(self, number: usize) -> &'a str {
+        match self.request.senders().get(number) {
+            Some(sender) => sender.trace,
+            None => "",
         }
     }
 
@@ -171,6 +212,7 @@ impl<'a> Errand<'a> {
             | Request::Mend { output, .. }
             | Request::Page { output, .. }
             | Request::Guard { output, .. }
+            | Request::LearnTraces { output, .. }
             | Request::Learn { output, .. } => Form::of(output),
             _ => Form::Plain,
         }

@@ -14,11 +14,11 @@ use std::io;
 use std::rt::Files;
 use std::time::Clock;
 
-/// The files of a run, open: those that give its plan, or its only one, and its second one.
+/// The files of a run, open: those that give its plan, or its only one, and its second one, or those after it.
 #[derive(Drop)]
 pub struct OpenFiles<'a, R, F, S> {
     pub texts: Vec<OpenSource<'a, R, F, S>>,
-    pub second: Option<Source<'a, R, F, S>>,
+    pub seconds: Vec<Source<'a, R, F, S>>,
 }
 
 /// Opens the files of a run for reading, in order, and says which they are. A path as `/dev/fd/3`, or standard input that is
@@ -28,8 +28,8 @@ pub fn open_files<'a, R: Files + Input + Eprint + Clock + AllocGlobal>(
     errand: Errand<'_>,
     ids: &mut Vec<FileId>,
 ) -> Option<OpenFiles<'a, R, R::File, R::Reader>> {
-    let (named, second, extras) = (errand.named(), errand.second(), errand.extras);
-    if !are_there(rt, named, second, extras) {
+    let (named, extras) = (errand.named(), errand.extras);
+    if !are_there(rt, errand, named, extras) {
         return None;
     }
     let mut texts = Vec::new(rt.alloc());
@@ -40,18 +40,24 @@ pub fn open_files<'a, R: Files + Input + Eprint + Clock + AllocGlobal>(
             return None;
         }
     }
-    let second = match second {
-        Some(file) => Some(open(rt, file, ids, extras)?.source),
-        None => None,
-    };
-    Some(OpenFiles { texts, second })
+    let mut seconds = Vec::new(rt.alloc());
+    for number in 0..errand.seconds() {
+        if let Some(file) = errand.second_at(number) {
+            let source = open(rt, file, ids, extras)?.source;
+            if seconds.push(source).is_err() {
+                refused(rt, RunError::NoMemory, Detail::Nothing, "", extras.format);
+                return None;
+            }
+        }
+    }
+    Some(OpenFiles { texts, seconds })
 }
 
 // Whether the paths after the first one name something.
 fn are_there<R: Files + Eprint + AllocGlobal>(
     rt: &R,
+    errand: Errand<'_>,
     named: NamedSources<'_>,
-    second: Option<Named<'_>>,
     extras: Extras,
 ) -> bool {
     for path in named.further {
@@ -59,10 +65,14 @@ fn are_there<R: Files + Eprint + AllocGlobal>(
             return false;
         }
     }
-    match second {
-        Some(file) => is_there(rt, file, extras),
-        None => true,
+    for number in 0..errand.seconds() {
+        if let Some(file) = errand.second_at(number)
+            && !is_there(rt, file, extras)
+        {
+            return false;
+        }
     }
+    true
 }
 
 // Whether this path names something. Where it does not, that is told.
@@ -127,7 +137,7 @@ impl<'a, F: Drop> Inputs<'a, Reread<F>> {
         errand: Errand<'a>,
         texts: Vec<TextReader<Source<'_, R, F, S>>>,
         failed: Option<FailedText>,
-        second: Option<TextReader<Source<'_, R, F, S>>>,
+        seconds: Vec<TextReader<Source<'_, R, F, S>>>,
     ) -> Inputs<'a, Reread<F>> {
         let named = errand.named();
         let mut inputs = Inputs {
@@ -140,8 +150,10 @@ impl<'a, F: Drop> Inputs<'a, Reread<F>> {
             inputs.add(named.at(number), text);
             number = number.saturating_add(1);
         }
-        if let (Some(file), Some(reader)) = (errand.second(), second) {
-            inputs.add(file, reader);
+        let mut number = 0usize;
+        for reader in seconds {
+            inputs.add(errand.second_at(number).unwrap_or(named.first), reader);
+            number = number.saturating_add(1);
         }
         if let Some(FailedText { number, error }) = failed {
             inputs.last = named.at(number);

@@ -10,32 +10,33 @@ use std::alloc::Global;
 use std::rt::Files;
 use std::time::Clock;
 
-/// What gives the second text of a run, and why it gives nothing, where that is a table that is refused.
+/// What gives the second text of a run, and those after it, and why it gives nothing, where that is a table that is refused.
 #[derive(Drop)]
-pub struct SecondText<S> {
-    pub reader: Option<TextReader<S>>,
+pub struct SecondTexts<S> {
+    pub readers: Vec<TextReader<S>>,
     pub halt: Option<Halt>,
 }
 
-/// The second text of a run, which may be a table. A run that is refused before it comes to it says so in its place.
-pub fn read_second<'a, R: Files + Input + Eprint + Clock + AllocGlobal>(
+/// The second text of a run, which may be a table, and those after it. A run that is refused before it comes to it says so in its
+/// place.
+pub fn read_seconds<'a, R: Files + Input + Eprint + Clock + AllocGlobal>(
     rt: &'a R,
     errand: Errand<'_>,
-    second: Option<Source<'a, R, R::File, R::Reader>>,
-) -> SecondText<Source<'a, R, R::File, R::Reader>> {
-    match second {
-        Some(source) => {
-            let (reader, halt) = read_dump(rt.alloc(), errand, source);
-            SecondText {
-                reader: Some(reader),
-                halt,
-            }
+    sources: Vec<Source<'a, R, R::File, R::Reader>>,
+) -> SecondTexts<Source<'a, R, R::File, R::Reader>> {
+    let mut seconds = SecondTexts {
+        readers: Vec::new(rt.alloc()),
+        halt: None,
+    };
+    for source in sources {
+        let (reader, halt) = read_dump(rt.alloc(), errand, source);
+        if seconds.readers.push(reader).is_err() {
+            seconds.halt = Some(Halt::Run(RunError::NoMemory));
+            return seconds;
         }
-        None => SecondText {
-            reader: None,
-            halt: None,
-        },
+        seconds.halt = halt;
     }
+    seconds
 }
 
 /// What gives a text: its source, or the dump that was made of it; or what fails, and why there is no dump.

@@ -8,7 +8,8 @@ use dump_findings::Seen;
 use dump_tables::{TableError, Why};
 use dump_tokens::Window;
 use given_plans::{GivenPlan, Halted, Provenance, RefusedText};
-use hints::{Found, NoWaves, Then, Unguarded, Untaken};
+use hints::{Found, NoWaves, Then, Untaken};
+use kernel_traces::TraceError;
 use plan_core::Plan;
 use plan_text::{NoBrief, PlanError};
 use plays::RefusedStarters;
@@ -106,6 +107,10 @@ pub enum Halt {
     Dump(VcdError, Option<Wrong>),
     /// A table, of which a dump was to be made, is refused.
     Table(TableError),
+    /// The trace of the controller with this number is refused.
+    Trace(usize, TraceError),
+    /// The controller with this number is none whose trace can be taken.
+    NoSender(usize, NoSender),
     /// The text of a plan or of a brief is refused.
     Text(PlanError, RefusedSource),
     /// A file that a head names cannot be opened or read.
@@ -124,6 +129,34 @@ pub enum Halt {
     Untaken(Untaken),
     /// No guard is written.
     Unguarded(Unguarded),
+}
+
+/// Why the trace of a controller cannot be taken.
+#[derive(Drop)]
+pub enum NoSender {
+    /// The plan has no such controller. These are its own.
+    NoController(Vec<String>),
+    /// No controller of a brief can have its name.
+    NoName,
+}
+
+/// Why no guard is written.
+#[derive(Drop)]
+pub enum Unguarded {
+    /// The plan has no such controller. These are its own.
+    NoController(Vec<String>),
+    /// The table of the controller would be too large.
+    TooLarge,
+}
+
+impl Unguarded {
+    /// What the refusal is called.
+    pub fn word(&self) -> &'static str {
+        match self {
+            Unguarded::NoController(_) => "controller",
+            Unguarded::TooLarge => "guard",
+        }
+    }
 }
 
 /// Why the line of a controller cannot be followed.
@@ -168,6 +201,8 @@ impl Halt {
             Halt::NoBrief(_) => RunError::Brief(NoBrief::Name),
             Halt::File(_)
             | Halt::Table(_)
+            | Halt::Trace(..)
+            | Halt::NoSender(..)
             | Halt::NoTimescale
             | Halt::NoDevice(_)
             | Halt::NoDrive(..)

@@ -17,7 +17,8 @@ pub use driven::{
 };
 pub use dumps::{device_of, halted, halted_by, open_dump};
 pub use endings::{
-    Ended, Findings, Halt, Mended, NoDrive, Recorded, RefusedSource, Takes, UnreadFile, Waves,
+    Ended, Findings, Halt, Mended, NoDrive, NoSender, Recorded, RefusedSource, Takes, Unguarded,
+    UnreadFile, Waves,
 };
 pub use extras::{Extras, Style};
 pub use sources::{Sources, words_of};

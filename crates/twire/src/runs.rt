@@ -8,8 +8,8 @@ use growing_text::visible;
 use language_server::serve;
 use refusal_objects::Detail;
 use run_ends::{
-    BoardNames, Errand, FailedText, Inputs, OpenFiles, SecondText, Sheets, TextReader, Texts,
-    finish, open_files, read_second, read_texts, refused, rewind_first,
+    BoardNames, Errand, FailedText, Inputs, OpenFiles, SecondTexts, Sheets, TextReader, Texts,
+    finish, open_files, read_seconds, read_texts, refused, rewind_first,
 };
 use run_parts::{RunError, Watched};
 use run_values::{Extras, Halt, Sources};
@@ -59,6 +59,7 @@ fn run_words<R: Files + Env + Input + Print + Eprint + AllocGlobal + Threads + W
                 request,
                 further,
                 drives,
+                senders,
                 taken,
                 tabled,
                 manner,
@@ -67,6 +68,7 @@ fn run_words<R: Files + Env + Input + Print + Eprint + AllocGlobal + Threads + W
             let errand = Errand {
                 request: request
                     .with_drives(drives.as_slice())
+                    .with_senders(senders.as_slice())
                     .with_taken(taken.as_slice()),
                 further: further.as_slice(),
                 tabled,
@@ -122,6 +124,11 @@ fn reads_input(errand: Errand<'_>) -> bool {
     let named = errand.named().first;
     is_standard_input(named.path)
         || is_standard_input(errand.second().unwrap_or(named).path)
+        || errand
+            .request
+            .senders()
+            .iter()
+            .any(|sender| is_standard_input(sender.trace))
         || errand.further.iter().any(|path| is_standard_input(path))
 }
 
@@ -148,11 +155,11 @@ fn do_errand<R: Files + Input + Print + Eprint + AllocGlobal + Threads + Wait + 
     errand: Errand<'_>,
 ) -> u8 {
     let mut ids = Vec::new(rt.alloc());
-    let Some(OpenFiles { texts, second }) = open_files(rt, errand, &mut ids) else {
+    let Some(OpenFiles { texts, seconds }) = open_files(rt, errand, &mut ids) else {
         return 2;
     };
     let texts = read_texts(rt, errand, texts, &mut ids);
-    let second = read_second(rt, errand, second);
+    let seconds = read_seconds(rt, errand, seconds);
     let Texts {
         readers,
         paths,
@@ -169,7 +176,7 @@ fn do_errand<R: Files + Input + Print + Eprint + AllocGlobal + Threads + Wait + 
         halt,
     };
     match paths {
-        None => do_over(rt, errand, read, second, files),
+        None => do_over(rt, errand, read, seconds, files),
         Some(paths) => match words_of(rt.alloc(), paths.as_slice()) {
             Ok(paths) => {
                 let board = BoardNames {
@@ -180,7 +187,7 @@ fn do_errand<R: Files + Input + Print + Eprint + AllocGlobal + Threads + Wait + 
                     board: Some(board),
                     ..errand
                 };
-                do_over(rt, errand, read, second, files)
+                do_over(rt, errand, read, seconds, files)
             }
             Err(_) => {
                 refused(
@@ -217,7 +224,7 @@ fn do_over<'a, R: Files + Input + Print + Eprint + AllocGlobal + Threads + Wait 
     rt: &'a R,
     errand: Errand<'_>,
     texts: RunTexts<Source<'a, R, R::File, R::Reader>>,
-    second: SecondText<Source<'a, R, R::File, R::Reader>>,
+    seconds: SecondTexts<Source<'a, R, R::File, R::Reader>>,
     files: FilesRead<'_>,
 ) -> u8 {
     let RunTexts {
@@ -225,10 +232,10 @@ fn do_over<'a, R: Files + Input + Print + Eprint + AllocGlobal + Threads + Wait 
         failed,
         halt,
     } = texts;
-    let SecondText {
-        reader: mut second,
+    let SecondTexts {
+        readers: mut seconds,
         halt: no_dump,
-    } = second;
+    } = seconds;
     let mut sources = Sources {
         readers,
         files: errand.named().files(),
@@ -240,7 +247,7 @@ fn do_over<'a, R: Files + Input + Print + Eprint + AllocGlobal + Threads + Wait 
     let mut waves = Watched::new(Sheet::new(rt, form, files, errand.extras.watcher));
     let mut ended = match halt {
         Some(halt) => Err(halt),
-        None => run_over(rt, errand, &mut sources, &mut second, &mut out, &mut waves),
+        None => run_over(rt, errand, &mut sources, &mut seconds, &mut out, &mut waves),
     };
     if let Some(decoding) = with_others(errand, &ended)
         && rewind_first(rt.alloc(), sources.readers.as_mut_slice())
@@ -255,7 +262,7 @@ fn do_over<'a, R: Files + Input + Print + Eprint + AllocGlobal + Threads + Wait 
     if let (Err(halt), true) = (&mut ended, errand.extras.says_why()) {
         sources.read_on(rt.alloc(), halt);
     }
-    let inputs = Inputs::of(errand, sources.readers, failed, second);
+    let inputs = Inputs::of(errand, sources.readers, failed, seconds);
     let sheets = Sheets {
         report: out.into_inner(),
         waves,

@@ -1,4 +1,4 @@
-//! A brief that what is learned is given after (docs/CAPTURES.md, "Beside a brief").
+//! A brief that what is learned is given after (rules/captures.md, "Beside a brief").
 
 use super::briefs::{declared, expansion, Declared};
 use super::captures::{explains, Transaction};

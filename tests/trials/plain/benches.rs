@@ -1,4 +1,4 @@
-//! A bench, played slot by slot by those who start (docs/BUS.md, "What a bench is for").
+//! A bench, played slot by slot by those who start (rules/bus.md, "What a bench is for").
 
 use super::senders::{Place, Sender};
 use super::wires::{shown, Item};

@@ -1,4 +1,4 @@
-//! The rows of docs/PLANS.md on the second version of briefs.
+//! The rows of rules/plans.md on the second version of briefs.
 
 use super::boards::{list_of, Text};
 use super::briefs::expansion_of;
@@ -9,10 +9,10 @@ use crate::boards::made_up_board;
 use crate::dice::Dice;
 use crate::slips::{PRELUDE, SLIPS};
 
-// The blocks of PLANS.md with a brief and the plan that it means: those of its section.
+// The blocks of rules/plans.md with a brief and the plan that it means: those of its section.
 #[test]
 fn each_example_means_its_plan() {
-    let page = include_str!("../../../docs/PLANS.md");
+    let page = include_str!("../../rules/plans.md");
     let section = page.split("\n## Brief 2\n").nth(1).expect("the section").split("\n## ").next().expect("its text");
     let blocks: Vec<&str> = section.split("```").skip(1).step_by(2).collect();
     assert!(blocks.len() >= 4);
@@ -153,7 +153,7 @@ fn texts_of_both_versions_make_up_a_board() {
     }
 }
 
-// The rows of PLANS.md with choices and their blocks.
+// The rows of rules/plans.md with choices and their blocks.
 #[test]
 fn choices_are_cut_into_blocks() {
     let seven = "0000001x 000001xx 00001xxx 0001xxxx 001xxxxx 01xxxxxx 1xxxxxxx";

@@ -1,4 +1,4 @@
-//! The list of the texts of a board (docs/PLANS.md, "Files"), over files that are given as values.
+//! The list of the texts of a board (rules/plans.md, "Files"), over files that are given as values.
 
 use super::briefs::{begins_board, named_files, opened};
 use super::words::Refusal;

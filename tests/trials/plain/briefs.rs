@@ -1,5 +1,5 @@
 //! Briefs, read word by word: the text of the plan that they mean, or their first refusal
-//! (docs/PLANS.md, "Brief" and "Brief 2"). Messages are read in `messages`.
+//! (rules/plans.md, "Brief" and "Brief 2"). Messages are read in `messages`.
 
 use super::meanings::words_of;
 use super::messages::{bits_of, bits_said, Frame, Known, Message, Range, MOST_CHARACTERS};

@@ -1,4 +1,4 @@
-//! Bytes as they are written for people and in objects (docs/COMMAND_LINE.md, "Explained reports").
+//! Bytes as they are written for people and in objects (rules/commands.md, "Explained reports").
 
 use super::senders::{Place, Sender};
 use super::wires::Item;

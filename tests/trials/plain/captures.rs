@@ -1,5 +1,5 @@
 //! Recorded wires: samples, events, transactions and who explains them, each looked up again from
-//! the beginning (docs/CAPTURES.md, "Samples", "Bus events", "Transactions").
+//! the beginning (rules/captures.md, "Samples", "Bus events", "Transactions").
 
 use super::dumps::{Change, Level, Signal};
 use super::senders::{Part, Place, Sender};

@@ -1,5 +1,5 @@
 //! Certificate texts, read line by line: the lines of proofs or the parts of a fault line, or the
-//! first refusal (docs/CERTIFICATES.md).
+//! first refusal (rules/certificates.md).
 
 use super::pairs::Clash;
 use super::wires::{Item, Kind};

@@ -1,5 +1,5 @@
 //! The commands, from the bytes of their files to what they write and their status
-//! (docs/COMMAND_LINE.md).
+//! (rules/commands.md).
 
 use super::before::Before;
 use super::benches::Answers;

@@ -1,5 +1,5 @@
 //! Transactions as they are told without a plan: in bytes, and by the addresses that were called; and
-//! what is told of them besides (docs/CAPTURES.md, "Transactions in bytes"; docs/COMMAND_LINE.md,
+//! what is told of them besides (rules/captures.md, "Transactions in bytes"; rules/commands.md,
 //! "Explained reports").
 
 use super::bytes::{header, in_digits};

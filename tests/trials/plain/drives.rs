@@ -1,4 +1,4 @@
-//! What each controller did in a transaction, by the line with which it pulls SDA (docs/CAPTURES.md, "Who drove").
+//! What each controller did in a transaction, by the line with which it pulls SDA (rules/captures.md, "Who drove").
 
 use super::captures::{events_of, samples_of, transactions_of, Mark, Transaction, Until, What};
 use super::dumps::{changes_on, Change, DumpRefusal, Level, Signal};

@@ -1,5 +1,5 @@
 //! Value change dumps, read as whole lists of tokens: what happens to the two lines of a bus, or
-//! the first refusal (IEEE 1364-2005, clause 18; docs/CAPTURES.md).
+//! the first refusal (IEEE 1364-2005, clause 18; rules/captures.md).
 
 use super::lines::{Found, Lines, Var, Where};
 use std::fmt;

@@ -1,5 +1,5 @@
 //! What is said of a plan beyond its report: how often two are decided where, and what was not checked
-//! (docs/COMMAND_LINE.md, "Objects"). What mends an unsafe plan stands in `offers`.
+//! (rules/commands.md, "Objects"). What mends an unsafe plan stands in `offers`.
 
 use super::found::Fault;
 use super::participants::Participants;

@@ -1,4 +1,4 @@
-//! What the commands find, as values (docs/COMMAND_LINE.md, "Reports"). Their lines and their objects
+//! What the commands find, as values (rules/commands.md, "Reports"). Their lines and their objects
 //! are made of these.
 
 use super::benches::{play_on, Answers, Player};

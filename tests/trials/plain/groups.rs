@@ -1,4 +1,4 @@
-//! Unsafe pairs that are alike (docs/COMMAND_LINE.md, "Groups of unsafe pairs").
+//! Unsafe pairs that are alike (rules/commands.md, "Groups of unsafe pairs").
 
 use super::found::Fault;
 use super::participants::Participants;

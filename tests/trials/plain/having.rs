@@ -1,4 +1,4 @@
-//! What transactions have in them, and what is told of that (docs/CAPTURES.md, "Whole bytes", "What bytes mean", "What targets
+//! What transactions have in them, and what is told of that (rules/captures.md, "Whole bytes", "What bytes mean", "What targets
 //! were called for", "Bytes as rows", "Transactions by what is in them").
 
 use super::captures::{Event, Mark, Sample, Transaction, Until, What};

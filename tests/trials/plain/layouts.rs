@@ -1,4 +1,4 @@
-//! How a plan or a brief is laid out, from 'Layout' of docs/PLANS.md.
+//! How a plan or a brief is laid out, from 'Layout' of rules/plans.md.
 
 use super::words::Language;
 

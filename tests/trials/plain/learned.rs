@@ -1,4 +1,4 @@
-//! What is learned of a dump: a brief of what was seen (docs/CAPTURES.md, "What `twire learn` writes").
+//! What is learned of a dump: a brief of what was seen (rules/captures.md, "What `twire learn` writes").
 //!
 //! A message is the list of its paths. What it sends at a place is what those of its paths send that
 //! came there, and a place is the answers up to it: none at the beginning.

@@ -1,5 +1,5 @@
 //! Which lines of a dump are looked at: signals by names, paths and codes, and bits of vectors, and the levels that they take
-//! (docs/CAPTURES.md, "Which lines").
+//! (rules/captures.md, "Which lines").
 
 /// What is given of a line: a name, a path or a bit; or an identifier code; or what is any of these.
 #[derive(Clone, Copy, Debug)]

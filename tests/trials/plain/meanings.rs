@@ -1,4 +1,4 @@
-//! What the frames of a message mean: the words of a message in a plan (docs/PLANS.md, "Brief" and "Derived bytes").
+//! What the frames of a message mean: the words of a message in a plan (rules/plans.md, "Brief" and "Derived bytes").
 //!
 //! The words of a level come one after another as in the text of a plan, but for what follows a byte that is not
 //! acknowledged, which a plan has after all that follows the acknowledge. So these tails are kept until the level ends, and

@@ -1,4 +1,4 @@
-//! Where two messages of a plan meet that must not, or could have met (docs/CAPTURES.md, "Where two meet").
+//! Where two messages of a plan meet that must not, or could have met (rules/captures.md, "Where two meet").
 
 use super::captures::{mark_of, Mark};
 use super::participants::{Participant, Participants};

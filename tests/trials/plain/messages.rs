@@ -1,5 +1,5 @@
 //! The messages of briefs, read word by word: their frames, or their first refusal
-//! (docs/PLANS.md, "Brief grammar" and "Grammar of brief 2").
+//! (rules/plans.md, "Brief grammar" and "Grammar of brief 2").
 //!
 //! A message is judged as it is read: what it makes at its range, and its bytes as they come. What it means is written
 //! from its frames (`meanings`).

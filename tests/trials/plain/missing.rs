@@ -1,4 +1,4 @@
-//! A search for edits that mend a group, where docs/MENDING.md offers none so simple. It tests the definition: of each group of
+//! A search for edits that mend a group, where rules/mending.md offers none so simple. It tests the definition: of each group of
 //! made-up plans and boards that has no offer of a count, a bit or a read, each change of one token of that form is tried, in any
 //! place of its items. `plain --ignored --nocapture missing` tells what was found.
 

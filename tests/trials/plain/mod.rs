@@ -1,8 +1,8 @@
-//! The rules of the bus and of the files as plain and slow programs, written from docs/BUS.md and
+//! The rules of the bus and of the files as plain and slow programs, written from rules/bus.md and
 //! the pages on formats alone: the commands from the bytes of their files to what they write, with which
 //! the trials compare those of twire. They are for small plans, and nothing is made fast.
 //!
-//! `texts` and `runs` have the definitions of docs/BUS.md as they stand there, for `tests`.
+//! `texts` and `runs` have the definitions of rules/bus.md as they stand there, for `tests`.
 
 pub mod before;
 mod benches;
@@ -47,6 +47,7 @@ mod tests;
 #[cfg(test)]
 mod texts;
 pub mod timed;
+pub mod traces;
 mod wires;
 mod words;
 mod writing;

@@ -1,4 +1,4 @@
-//! What is offered to mend unsafe pairs (docs/MENDING.md): each edit is made, the texts are read again, and the plan that they
+//! What is offered to mend unsafe pairs (rules/mending.md): each edit is made, the texts are read again, and the plan that they
 //! give is checked.
 
 use super::found::{checked, Checked, Fault};

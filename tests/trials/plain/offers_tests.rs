@@ -1,4 +1,4 @@
-//! What is offered to mend worked plans and briefs, by docs/MENDING.md.
+//! What is offered to mend worked plans and briefs, by rules/mending.md.
 
 use super::offers::{mending, mending_within, Mending, Offer};
 use super::sources::{edited, Edit, Source};

@@ -1,4 +1,4 @@
-//! Who wins arbitration between two senders that start together (docs/COMMAND_LINE.md, "Who wins"). The
+//! Who wins arbitration between two senders that start together (rules/commands.md, "Who wins"). The
 //! two are walked slot by slot: at each slot stand all the places that both may have come to.
 
 use super::senders::{Place, Sender};

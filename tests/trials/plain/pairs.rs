@@ -1,5 +1,5 @@
 //! Two senders that start together: their first fault, what shows one, their proof, and what proves
-//! them (docs/BUS.md, "Faults and safe plans"; docs/CERTIFICATES.md, "What a proof proves"). A pair
+//! them (rules/bus.md, "Faults and safe plans"; rules/certificates.md, "What a proof proves"). A pair
 //! is walked slot by slot.
 
 use super::certificates::TOKENS;

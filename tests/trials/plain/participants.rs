@@ -1,4 +1,4 @@
-//! Who may start, alone or together (docs/BUS.md, "Participants, lawful sets, pairs").
+//! Who may start, alone or together (rules/bus.md, "Participants, lawful sets, pairs").
 
 use super::plans::Items;
 use super::senders::Sender;

@@ -1,5 +1,5 @@
 //! Plan texts, read word by word: the items of a plan as they stand in the text, or its first
-//! refusal (docs/PLANS.md, "Plan").
+//! refusal (rules/plans.md, "Plan").
 
 use super::senders::{Part, Sender};
 use super::words::{count_ends, has_form, Language, Reading, Refusal, Word, BITS, KNOWN};
@@ -29,7 +29,7 @@ pub struct Controller<'a> {
     pub sends: Vec<usize>,
 }
 
-// The limits of docs/BUS.md.
+// The limits of rules/bus.md.
 pub const MOST_NODES: u32 = 4096;
 pub const MOST_BYTES: u32 = 256;
 const MOST_COUNT: u32 = 255;

@@ -1,5 +1,5 @@
 //! All runs of a set of participants, played round by round, whatever they choose and whatever the
-//! targets answer (docs/BUS.md, "Runs and reached states" and "Faults and safe plans").
+//! targets answer (rules/bus.md, "Runs and reached states" and "Faults and safe plans").
 
 use super::pairs::{clashing_kinds, Clash};
 use super::participants::Participants;

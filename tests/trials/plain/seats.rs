@@ -1,4 +1,4 @@
-//! The seats of a bench, asked by the lines of a script (docs/TESTING.md, "The trials").
+//! The seats of a bench, asked by the lines of a script (tests/README.md, "The trials").
 
 use super::benches::Answers;
 use super::senders::{Place, Sender};

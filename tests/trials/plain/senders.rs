@@ -1,5 +1,5 @@
 //! What a participant sends, part by part as the text of a plan has it: what it offers at a place
-//! there, and where it stands then (docs/BUS.md, "Messages and their texts").
+//! there, and where it stands then (rules/bus.md, "Messages and their texts").
 
 use super::wires::Item;
 use std::fmt;

@@ -1,4 +1,4 @@
-//! The texts that give a plan, with the places of what stands in them, and edits of them (docs/MENDING.md, "Sides and places").
+//! The texts that give a plan, with the places of what stands in them, and edits of them (rules/mending.md, "Sides and places").
 
 use super::briefs::{self, begins_board, expansion_of, origins_of};
 use super::commands::plan_given;

@@ -1,5 +1,5 @@
 //! Tests of the plain programs alone: what they say of worked plans, and that they say what the
-//! definitions of docs/BUS.md say, listed text by text and played run by run. The worked examples
+//! definitions of rules/bus.md say, listed text by text and played run by run. The worked examples
 //! of the pages on formats are cases of the trials.
 
 use super::benches::{play_on, Answers, Player};
@@ -537,7 +537,7 @@ fn generated_captures_of_several_lengths_make_families() {
     assert!(counts.iter().all(|count| *count > 10), "{counts:?}");
 }
 
-// The example of docs/CAPTURES.md, "Writes of several lengths".
+// The example of rules/captures.md, "Writes of several lengths".
 #[test]
 fn what_was_seen_of_an_eeprom_is_learnt_as_the_page_says() {
     let write = |bytes: &[u8]| [&[0xa0], bytes].concat();
@@ -550,7 +550,7 @@ fn what_was_seen_of_an_eeprom_is_learnt_as_the_page_says() {
     ];
     let transactions: Vec<Transaction> = (1..).zip(&frames).map(|(k, frames)| transaction(k * 1000, frames)).collect();
     let learnt = learned(&transactions, Data::Widened, None).brief;
-    let page = include_str!("../../../docs/CAPTURES.md");
+    let page = include_str!("../../rules/captures.md");
     let (_, page) = page.split_once("and a random read:\n\n").unwrap();
     let (page, _) = page.split_once("\n### ").unwrap_or((page, ""));
     let page: String = page.lines().map(|line| format!("{}\n", line.strip_prefix("    ").unwrap_or(line))).collect();
@@ -583,7 +583,7 @@ fn what_transactions_have() {
     assert_eq!(had(Having { nacked: true, ..Having::default() }), [false, false, false]);
 }
 
-// The example of docs/CAPTURES.md, "What a plan rests on".
+// The example of rules/captures.md, "What a plan rests on".
 #[test]
 fn what_a_plan_rests_on_is_told_as_the_page_says() {
     let transactions = [
@@ -592,7 +592,7 @@ fn what_a_plan_rests_on_is_told_as_the_page_says() {
     ];
     let owners = [0, 1].map(|owner| Some([owner].into_iter().collect())).to_vec();
     let shares = Shares { controllers: vec!["a", "b"], owners };
-    let page = include_str!("../../../docs/CAPTURES.md");
+    let page = include_str!("../../rules/captures.md");
     let (_, page) = page.split_once("as `check` says itself:\n\n").unwrap();
     let (page, _) = page.split_once("\n- ").unwrap();
     let page: String = page.lines().map(|line| format!("{}\n", line.strip_prefix("    ").unwrap_or(line))).collect();

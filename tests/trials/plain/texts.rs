@@ -1,5 +1,5 @@
 //! All texts of a participant: what it can go through from START to the end of its transmission,
-//! one item a slot (docs/BUS.md, "Messages and their texts").
+//! one item a slot (rules/bus.md, "Messages and their texts").
 //!
 //! Of the bits of a byte that is read, only 0 is listed: a message never branches on what it reads,
 //! so the texts with other bits there go on in the same way.

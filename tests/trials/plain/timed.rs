@@ -1,4 +1,4 @@
-//! The times on a bus: rates, what is shorter than a mode wants, and lines that are stuck (docs/CAPTURES.md, "Timing").
+//! The times on a bus: rates, what is shorter than a mode wants, and lines that are stuck (rules/captures.md, "Timing").
 
 use super::captures::{events_of, samples_of, transactions_of, Event, Sample, Transaction, Until, What};
 use super::commands::Answer;

@@ -1,4 +1,4 @@
-//! Items, their kinds, and what the wire of a slot shows (docs/BUS.md, "Slots, items, kinds" and
+//! Items, their kinds, and what the wire of a slot shows (rules/bus.md, "Slots, items, kinds" and
 //! "Offers, rounds, clashes").
 
 use std::fmt;

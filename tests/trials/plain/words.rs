@@ -1,4 +1,4 @@
-//! The words of a plan text or of a brief, each with its line (docs/PLANS.md, "Plan tokens",
+//! The words of a plan text or of a brief, each with its line (rules/plans.md, "Plan tokens",
 //! "Brief tokens" and "Tokens of brief 2").
 //!
 //! The first byte that is not ASCII is refused, and nothing after it is looked at. So bytes that

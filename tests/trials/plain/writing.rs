@@ -1,4 +1,4 @@
-//! The brief of a plan (docs/PLANS.md, "What `twire brief` writes").
+//! The brief of a plan (rules/plans.md, "What `twire brief` writes").
 
 use super::plans::{Controller, Items, Named};
 use super::senders::{Part, Sender};

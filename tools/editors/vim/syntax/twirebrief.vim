@@ -1,4 +1,4 @@
-" Briefs of twire, as docs/PLANS.md has them.
+" Briefs of twire, as tests/rules/plans.md has them.
 if exists("b:current_syntax")
   finish
 endif

@@ -1,4 +1,4 @@
-" Plans of twire, as docs/PLANS.md has them.
+" Plans of twire, as tests/rules/plans.md has them.
 if exists("b:current_syntax")
   finish
 endif

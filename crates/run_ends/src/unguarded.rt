@@ -1,36 +1,15 @@
 // After a controller for whose driver no guard is written.
 
-use crate::likeness::Nearest;
-use crate::lines::Lines;
-use crate::marking::push_name;
-use crate::values::Hints;
+use hints::{Hints, Lines, Nearest, push_name};
+use run_values::Unguarded;
 use std::alloc::{AllocError, Global};
-
-/// Why no guard is written.
-#[derive(Drop)]
-pub enum Unguarded {
-    /// The plan has no such controller. These are its own.
-    NoController(Vec<String>),
-    /// The table of the controller would be too large.
-    TooLarge,
-}
-
-impl Unguarded {
-    /// What the refusal is called.
-    pub fn word(&self) -> &'static str {
-        match self {
-            Unguarded::NoController(_) => "controller",
-            Unguarded::TooLarge => "guard",
-        }
-    }
-}
 
 /// After a controller of this name, for whose driver no guard is written.
 ///
 /// # Errors
 ///
 /// Where an allocation fails.
-pub fn on_unguarded(
+pub(crate) fn on_unguarded(
     alloc: Global,
     controller: &str,
     unguarded: &Unguarded,
