@@ -1,6 +1,6 @@
 #!/usr/bin/env bash
-# Traces of the kernel: which lines are events, in each form of a trace, and what these say of the wire (docs/TRACES.md). The lines
-# are written by hand, as include/trace/events/i2c.h and smbus.h print them.
+# Traces of the kernel: which lines are events, in each form of a trace, and what these say of the wire (docs/TRACES.md). Those of
+# tests/traces were written by a kernel; the others by hand, as its include/trace/events/i2c.h and smbus.h print them.
 source "$(dirname -- "$(readlink -f -- "${BASH_SOURCE[0]}")")/suite.bash" || exit 1
 
 # No message of this board is in a trace below, so each transfer is told.
@@ -171,6 +171,29 @@ of "a call that was not acknowledged" "S 50 Wr 00 10 P, not acknowledged" "smbus
 of "the same as tools print it" "S 50 Wr 00 10 P, not acknowledged" "smbus_write: $call l=1 [10]" "smbus_result: $call wr res=65530"
 shown "a call that failed otherwise" "not judged, since they failed otherwise (-71): 1" \
     < <(printf 'a-1 [0] 5.0: %s\n' "smbus_write: $call l=1 [10]" "smbus_result: $call wr res=-71")
+
+# ---- what a kernel wrote of the commands in tests/traces/make
+
+# real ADAPTER: the transfers of this adapter in each trace, and what else is said but the last line.
+real() {
+    local part
+    for part in plain bare latency groups; do
+        call conform none.brief --sender bmc "$tests/traces/$part.txt" --adapter "$1"
+        sed '/^none: never$/d; $d; s/: no message of bmc.*//; s/^[0-9.]* i2c[gs]et-[0-9]* //' out
+        sed -n 's/^\([0-9.]* i2c[gs]et-[0-9]*\) .*/\1/p' out >>"heads.$part"
+    done
+}
+# several COUNT LINE..: these lines so often.
+several() {
+    local k
+    for ((k = 0; k < $1; k++)); do printf '%s\n' "${@:2}"; done
+}
+same "calls over i2c-stub" "$(several 4 'S 48 Wr A 01 A 60 A P' 'S 48 Wr A 02 A 34 A 12 A P' 'S 48 Wr A 01 A Sr 48 Rd A 60 NA P' \
+    'S 48 Wr A 02 A Sr 48 Rd A 34 A 12 NA P' 'S 48 Wr A 10 A 01 A 02 A 03 A P' \
+    'not judged, since they failed otherwise (-19): 1')" "$(real 1)"
+same "calls over the SMBus of an ICH9" "$(several 4 'S 50 Wr A 02 A Sr 50 Rd A 00 NA P' 'S 50 Wr A 02 A Sr 50 Rd A 00 A 00 NA P' \
+    'S 50 Wr A 80 A 5a A P' 'S 50 Rd A 00 NA P' 'S 30 Rd .. P, not acknowledged' 'S 50 Wr A 04 A P')" "$(real 0)"
+same "their processes" "11 0 11 11" "$(for part in plain bare latency groups; do wc -l <"heads.$part"; done 2>&1 | paste -sd ' ')"
 
 # ---- what is learned
 

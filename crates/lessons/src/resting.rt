@@ -57,11 +57,11 @@ fn rests_between(
     narrow: &Draft,
     wide: &Draft,
 ) -> Result<String, RunError> {
-    let (pairs, faults) = judged(alloc, seen, narrow)?.tally();
+    let (pairs, faults) = plan_of(alloc, seen, narrow)?.tally();
     if pairs == 0 {
         return Ok(String::new(alloc));
     }
-    let judged = judged(alloc, seen, wide)?;
+    let judged = plan_of(alloc, seen, wide)?;
     let mut line = Lines::new(alloc);
     push_tally(&mut line, begin, pairs, faults);
     let (pairs, faults) = judged.tally();
@@ -94,7 +94,7 @@ impl Judged {
 }
 
 // The plan of the brief of a draft, after the briefs before.
-fn judged(alloc: Global, seen: &Sights<'_>, draft: &Draft) -> Result<Judged, RunError> {
+fn plan_of(alloc: Global, seen: &Sights<'_>, draft: &Draft) -> Result<Judged, RunError> {
     let text = written(alloc, seen, draft, "")?;
     let plan = plan_meant(alloc, seen.before, text.as_bytes())?;
     let faults = faults(alloc, &plan)?;

@@ -166,7 +166,7 @@ pub fn conform(plan: &str, controller: &str, trace: &str, adapter: u32) -> Answe
         return Answer::refused("a plan that is refused");
     };
     let Some(place) = items.controllers.iter().position(|it| it.name == controller) else {
-        return Answer::refused(format!("refused sender {controller}"));
+        return Answer::refused(format!("sender {controller}"));
     };
     let mut judge = Judge { items: &items, place, sent: vec![0; items.messages.len()], ..Judge::new(&items) };
     let mut going: BTreeMap<(bool, String), Going> = BTreeMap::new();
@@ -188,7 +188,7 @@ pub fn conform(plan: &str, controller: &str, trace: &str, adapter: u32) -> Answe
     }
     judge.cut += lost(&mut going);
     if events == 0 {
-        return Answer::refused(format!("refused trace line {}", trace.lines().count()));
+        return Answer::refused(format!("trace line {}", trace.lines().count()));
     }
     judge.answer(controller)
 }
