@@ -90,10 +90,12 @@ impl<'o, O: Output> RecordedWave<'o, O> {
     /// Where an allocation fails.
     pub fn finish(mut self) -> Result<Result<(), RunError>, AllocError> {
         self.begin()?;
-        self.filter.end(&mut self.lasting)?;
-        self.hear_lasting()?;
+        let mut last = Vec::new(self.alloc);
+        self.filter.end(&mut last)?;
+        for sample in last.iter() {
+            self.speaker.sample(*sample)?;
+        }
         self.speaker.finish()?;
-        self.draw(u64::MAX)?;
         for _ in 0..self.held.len() {
             self.draw_next();
         }
@@ -193,16 +195,17 @@ impl<O> Tokens for RecordedWave<'_, O> {
 
 impl<O: Output> Beside for RecordedWave<'_, O> {
     fn hear(&mut self, samples: &[Sample], _further: &[Further]) -> Result<(), AllocError> {
-        let Some(last) = samples.last() else {
-            return Ok(());
+        let last = match samples.last() {
+            Some(sample) => sample.time,
+            None => return Ok(()),
         };
         self.begin()?;
         for sample in samples {
             self.add(*sample)?;
         }
         // (a level that has still to last began less than that before)
-        let next = last.time.saturating_sub(self.least);
-        self.draw(self.speaker.settled(next))
+        let settled = self.speaker.settled(last.saturating_sub(self.least));
+        self.draw(settled)
     }
 }
 
