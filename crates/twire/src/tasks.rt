@@ -121,8 +121,11 @@ pub fn run_over<
 
 // What takes waves, where they are wanted. Where the report goes there as well, they come after it.
 fn file_of<'w, W: Output>(path: Option<&str>, out: &'w mut W) -> Option<WaveFile<'w, W>> {
-    let waits = Form::of(path).path().is_none();
-    path.map(|_| WaveFile { out, waits })
+    let file = WaveFile {
+        out,
+        waits: Form::of(path).path().is_none(),
+    };
+    path.is_some().then_some(file)
 }
 
 /// What is to be decoded once more, of other lines, where the run that has ended so did not find those that it looked for.
