@@ -1,7 +1,8 @@
 -- What a controller has sent in a transfer, byte by byte, and which messages of a plan send that.
 --
 -- A byte that the controller sends may be known in part. Where it is not acknowledged, nothing that follows is known: the
--- message is sent up to there. So a transfer is what a message offers where all is acknowledged, or up to its NACK.
+-- message is sent up to there. So a transfer is what a message offers where all is acknowledged, or up to its NACK. A list
+-- that does not end so, or in a STOP, is the beginning of one. Nothing follows a STOP in it: what would is not looked at.
 use Rattle.std.specs.Prelude.{◌≡◌, ℕ, List, [], ◌∷◌, Some, Contains, slice_get}
 use Rattle.std.specs.Map.{values_of}
 use Rattle.message_tree.specs.declared.bits.Bit.TheVariants.{One}

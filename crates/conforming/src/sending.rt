@@ -12,8 +12,8 @@ use crate::shown::Shown;
 use message_tree::{Bit, Count, Frame, Pattern, Payload, Tail};
 use plan_core::Plan;
 
-/// The first message that the plan lets this controller send and that sends what was shown: with all acknowledged, or up to what
-/// was not.
+/// A message that the plan lets this controller send and that sends what was shown: with all acknowledged, or up to what was not.
+/// It is the first of the controller's list, of which no clause speaks.
 pub fn message_sent(plan: &Plan, controller: u32, shown: &[Shown]) -> Option<u32>
     requires { controller < length (plan_contents plan.now).controllers }
     ensures { MatchOption result
