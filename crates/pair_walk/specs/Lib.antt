@@ -5,3 +5,4 @@ pub mod Marks
 pub mod Shared
 pub mod Verdicts
 pub mod Wires
+pub mod Written

@@ -13,7 +13,8 @@ pub mod shared;
 mod starts;
 pub mod walk_pair;
 mod wires;
+mod written;
 
 pub use quick::first_fault_by;
 pub use shared::{SharedNodes, shared_nodes};
-pub use walk_pair::{Outcome, Verdict, first_fault, walk};
+pub use walk_pair::{Outcome, Verdict, first_fault, push_proof, walk};

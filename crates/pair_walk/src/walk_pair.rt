@@ -1,14 +1,17 @@
 // What holds of a pair of a plan: its verdict, or its first fault alone.
 
-ghost use Rattle.std.specs.Prelude.{◌≡◌, ℕ, ◌<◌, length, reverse, slice_get, Some, IfOk};
+ghost use Rattle.std.specs.Prelude.{◌≡◌, ℕ, ◌<◌, length, reverse, slice_get, Some, IfOk, string_bytes};
+ghost use Rattle.std.specs.Bool.{OnTrue};
 ghost use Rattle.plan_core.specs.PlanContents.{plan_contents};
 ghost use Rattle.plan_core.specs.Pairs.{pairs_of};
 ghost use Rattle.pair_walk.specs.Compare.{Judges};
-ghost use Rattle.pair_walk.specs.Verdicts.{IsVerdict, IsFirstFaultIfAny};
+ghost use Rattle.pair_walk.specs.Verdicts.{IsVerdict, IsFirstFaultIfAny, IsSafeProof};
+ghost use Rattle.pair_walk.specs.Written.{GrowsBy};
 
 use crate::halts::{Halt, Meeting};
 use crate::makes::{Makes, Nothing};
 use crate::starts::compare_starts;
+use crate::written::push_starts;
 use certificate::{Cert, Fault};
 use plan_core::Plan;
 use std::alloc::{AllocError, Global};
@@ -58,6 +61,18 @@ pub fn first_fault(alloc: Global, plan: &Plan, i: u32) -> Result<Option<Fault>, 
         Ok(Nothing) => Ok(None),
         Err(fault) => Ok(Some(fault)),
     }
+}
+
+/// Adds the spelling of the proof that the verdict of the pair with number `i` gives, node by node: no value of it is made. `false` says
+/// that it was not added whole, as where the two clash, and nothing else.
+pub fn push_proof(text: &mut String, plan: &Plan, i: u32) -> Result<bool, AllocError>
+    requires { i < length (pairs_of (plan_contents plan.now)) }
+    ensures { IfOk result (λ it. OnTrue it ((x y : ℕ) →
+        slice_get (pairs_of (plan_contents plan.now)) i ≡ Some (x, y) →
+        GrowsBy (IsSafeProof (plan_contents plan.now) x y) (string_bytes text.old) (string_bytes text.new))) }
+{
+    let (x, y) = plan.pair(i);
+    push_starts(text, &plan.sends(x), &plan.sends(y))
 }
 
 // What is made of the pair with number `i`, or its first fault.
