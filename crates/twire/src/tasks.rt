@@ -82,7 +82,8 @@ pub fn run_over<
             decode(alloc, vcd, out, decoding, style, file_of(wave, waves))
         }
         Request::Decode { decoding, wave, .. } => {
-            let (vcd, file) = (given(seconds)?, file_of(wave, waves));
+            let vcd = given(seconds)?;
+            let file = file_of(wave, waves);
             decode_with_names(alloc, texts, vcd, out, decoding, style, file)
         }
         Request::Signals { limits, .. } => list_signals(alloc, texts.first()?, out, limits, style),
