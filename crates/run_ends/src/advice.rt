@@ -175,11 +175,11 @@ fn on_recorded<F: Read + Seek + Drop>(
     status: Status,
     recorded: Recorded,
 ) -> Result<Hints, AllocError> {
+    let left_out = left_out_of_all(recorded);
+    if left_out != 0 {
+        return on_none_passes(alloc, left_out);
+    }
     match recorded {
-        Recorded::Bus(_, seen) | Recorded::Bytes(_, seen) | Recorded::Page(seen)
-            if seen.transactions == 0 && seen.left_out != 0 => {
-            on_none_passes(alloc, seen.left_out)
-        }
         Recorded::Bus(window, seen) if window.is_whole() && seen.left_out == 0 => {
             on_bus(alloc, vcd, names, status, seen)
         }
@@ -192,6 +192,21 @@ fn on_recorded<F: Read + Seek + Drop>(
         Recorded::Bytes(..) => on_bytes(alloc, vcd, names),
         Recorded::Signals => on_signals(alloc, vcd, names),
         Recorded::Page(_) | Recorded::Other => on_recording(alloc, vcd, names),
+    }
+}
+
+// How many transactions were left out, where none was told.
+fn left_out_of_all(recorded: Recorded) -> u64 {
+    let seen = match recorded {
+        Recorded::Bus(_, seen) => seen,
+        Recorded::Bytes(_, seen) => seen,
+        Recorded::Page(seen) => seen,
+        Recorded::Signals | Recorded::Other => return 0,
+    };
+    if seen.transactions == 0 {
+        seen.left_out
+    } else {
+        0
     }
 }
 
