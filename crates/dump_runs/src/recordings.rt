@@ -478,44 +478,18 @@ fn decode_in_form<J: Input, O: Output, W: Output>(
 ) -> Result<Ended, Halt>
     ensures status { IfOk result (λ it. EndsJudged decoding.entry.bus.view.at_least 0 it) }
 {
-    let Decoding { bus, live, .. } = decoding;
+    let bus = decoding.bus;
     let mut dump = open_dump(alloc, vcd, bus)?;
     let selection = Selection::new(bus.view, dump.scale()).with_device(named.device);
-    let remarks = Remarks {
-        explain: decoding.explain,
-        pec: decoding.pec,
-        names: named.names,
+    let told = match wave {
+        Some(file) => decode_drawn(
+            alloc, &mut dump, out, decoding, named, style, selection, file,
+        ),
+        None => decode_undrawn(alloc, &mut dump, out, decoding, named, style, selection),
     };
-    let least = dump.quiet().least;
-    let mut recorder = match wave {
-        Some(file) => Some(RecordedWave::new(alloc, file, least, selection.view())),
-        None => None,
-    };
-    let is_timed = bus.view.timing.is_some();
-    let told = match style {
-        Style::Objects => {
-            let objects = DecodeObjects::new(alloc, selection, remarks, live, out)?;
-            decode_as(alloc, &mut dump, objects, is_timed, &mut recorder)
-        }
-        Style::Lines(_) if decoding.rows => {
-            let rows = ByteRows::new(alloc, selection, live, out);
-            decode_to(alloc, &mut dump, rows, &mut Some(MarkTimes::new(alloc)))
-        }
-        Style::Lines(_) if decoding.is_plain() && remarks.are_none() => {
-            exact_bytes(alloc, &mut dump, out, selection, live, &mut recorder)
-        }
-        Style::Lines(_) => {
-            let lines = DecodeLines::new(alloc, selection, remarks, live, out)?;
-            decode_as(alloc, &mut dump, lines, is_timed, &mut recorder)
-        }
-    };
-    let (selection, signs) = match told {
+    let (selection, signs, wave) = match told {
         Ok(told) => told,
         Err(error) => return Err(halted(dump, error)),
-    };
-    let wave = match recorder {
-        Some(recorder) => Some(Waves::Drawn(recorder.finish()?)),
-        None => None,
     };
     let recorded = Recorded::Bytes(bus.view.window, selection.seen);
     Ok(Ended {
@@ -524,6 +498,92 @@ fn decode_in_form<J: Input, O: Output, W: Output>(
         wave,
         mended: None,
     })
+}
+
+// What was told of a dump, how well it was recorded, and its waves, where they are wanted.
+type ToldInForm = (Selection, Signs, Option<Waves>);
+
+// The report beside waves, which are drawn as the dump is read.
+fn decode_drawn<J: Input, O: Output, W: Output>(
+    alloc: Global,
+    dump: &mut Dump<'_, '_, J>,
+    out: &mut O,
+    decoding: Decoding<'_>,
+    named: Named<'_>,
+    style: Style,
+    selection: Selection,
+    file: WaveFile<'_, W>,
+) -> Result<ToldInForm, RunError> {
+    let least = dump.quiet().least;
+    let mut wave = Some(RecordedWave::new(alloc, file, least, selection.view()));
+    let (selection, signs) = decode_beside(
+        alloc, dump, out, decoding, named, style, selection, &mut wave,
+    )?;
+    match wave {
+        Some(wave) => Ok((selection, signs, Some(Waves::Drawn(wave.finish()?)))),
+        None => Ok((selection, signs, None)),
+    }
+}
+
+// The report without waves.
+fn decode_undrawn<J: Input, O: Output>(
+    alloc: Global,
+    dump: &mut Dump<'_, '_, J>,
+    out: &mut O,
+    decoding: Decoding<'_>,
+    named: Named<'_>,
+    style: Style,
+    selection: Selection,
+) -> Result<ToldInForm, RunError> {
+    let mut nobody: Option<Nobody> = None;
+    let (selection, signs) = decode_beside(
+        alloc,
+        dump,
+        out,
+        decoding,
+        named,
+        style,
+        selection,
+        &mut nobody,
+    )?;
+    Ok((selection, signs, None))
+}
+
+// The report beside who hears the dump, if anybody does.
+fn decode_beside<J: Input, O: Output, B: Beside>(
+    alloc: Global,
+    dump: &mut Dump<'_, '_, J>,
+    out: &mut O,
+    decoding: Decoding<'_>,
+    named: Named<'_>,
+    style: Style,
+    selection: Selection,
+    beside: &mut Option<B>,
+) -> Result<(Selection, Signs), RunError> {
+    let live = decoding.live;
+    let is_timed = decoding.bus.view.timing.is_some();
+    let remarks = Remarks {
+        explain: decoding.explain,
+        pec: decoding.pec,
+        names: named.names,
+    };
+    match style {
+        Style::Objects => {
+            let objects = DecodeObjects::new(alloc, selection, remarks, live, out)?;
+            decode_as(alloc, dump, objects, is_timed, beside)
+        }
+        Style::Lines(_) if decoding.rows => {
+            let rows = ByteRows::new(alloc, selection, live, out);
+            decode_to(alloc, dump, rows, &mut Some(MarkTimes::new(alloc)))
+        }
+        Style::Lines(_) if decoding.is_plain() && remarks.are_none() => {
+            exact_bytes(alloc, dump, out, selection, live, beside)
+        }
+        Style::Lines(_) => {
+            let lines = DecodeLines::new(alloc, selection, remarks, live, out)?;
+            decode_as(alloc, dump, lines, is_timed, beside)
+        }
+    }
 }
 
 // The exact lines, by the run of `byte_lines` over what gives the dump from its beginning on.
