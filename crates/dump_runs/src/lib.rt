@@ -6,6 +6,6 @@ mod forms;
 mod recordings;
 
 pub use recordings::{
-    decode, decode_others, decode_with_names, explain_capture, learn, learn_with_names,
+    Drawing, decode, decode_others, decode_with_names, explain_capture, learn, learn_with_names,
     list_signals, may_have_others,
 };

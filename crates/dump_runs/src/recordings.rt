@@ -35,7 +35,7 @@ use run_values::{
     Ended, Findings, Halt, Recorded, Sources, Style, Waves, device_of, drivers_of, halted,
     halted_by, judging_of, open_driven, open_dump, refuse_no_names, refuse_others, refuse_unknown,
 };
-use signals::{Dump, Listed, OpenDump, SignalDump, reads_ahead};
+use signals::{Dump, Listed, OnlyBus, OpenDump, SignalDump, reads_ahead};
 use std::alloc::Global;
 use std::thread::Threads;
 use transaction_lines::{ByteRows, CaptureLines, DecodeLines};
@@ -340,6 +340,16 @@ fn capture_dump<R: AllocGlobal + Threads + Sync, J: Input, O: Output>(
 
 // ---- decode
 
+/// Whether a recorded bus is drawn as waves.
+#[derive(Clone, Copy, PartialEq, Eq)]
+pub enum Drawing {
+    Nothing,
+    /// They are written as the dump is read.
+    AsItComes,
+    /// They are written at the end of the dump, since something else is written there as well.
+    AtItsEnd,
+}
+
 /// Writes the transactions of the dump that the reader gives, in bytes; with the bus as waves, where these are wanted.
 pub fn decode<J: Input, O: Output, W: Output>(
     alloc: Global,
@@ -347,10 +357,11 @@ pub fn decode<J: Input, O: Output, W: Output>(
     out: &mut O,
     decoding: Decoding<'_>,
     style: Style,
-    wave: Option<WaveFile<'_, W>>,
+    waves: &mut W,
+    drawing: Drawing,
 ) -> Result<Ended, Halt> {
-    if !is_exactly(decoding, style, wave.is_some()) {
-        return decode_in_form(alloc, vcd, out, decoding, NAMELESS, style, wave);
+    if !is_exactly(decoding, style, drawing) {
+        return decode_in_form(alloc, vcd, out, decoding, NAMELESS, style, waves, drawing);
     }
     let Decoding { bus, live, .. } = decoding;
     let BusLines {
@@ -364,10 +375,10 @@ pub fn decode<J: Input, O: Output, W: Output>(
 }
 
 // Whether the exact lines are written, and no others, with lines that are found by their references or codes.
-fn is_exactly(decoding: Decoding<'_>, style: Style, has_wave: bool) -> bool {
+fn is_exactly(decoding: Decoding<'_>, style: Style, drawing: Drawing) -> bool {
     decoding.is_plain()
         && matches!(style, Style::Lines(_))
-        && !has_wave
+        && drawing == Drawing::Nothing
         && !reads_ahead(decoding.bus)
 }
 
@@ -376,11 +387,11 @@ fn is_exactly(decoding: Decoding<'_>, style: Style, has_wave: bool) -> bool {
 pub fn may_have_others(
     decoding: Decoding<'_>,
     style: Style,
-    has_wave: bool,
+    drawing: Drawing,
     ended: &Result<Ended, Halt>,
 ) -> bool {
     let lacks_scl = matches!(ended, Err(Halt::Dump(VcdError::NoSignal(Signal::Scl), _)));
-    lacks_scl && decoding.bus.lines.finds && is_exactly(decoding, style, has_wave)
+    lacks_scl && decoding.bus.lines.finds && is_exactly(decoding, style, drawing)
 }
 
 /// Writes the exact lines of such a dump, which the reader gives from its beginning on: the only two signals that look like a bus
@@ -392,8 +403,7 @@ pub fn decode_others<J: Input, O: Output>(
     decoding: Decoding<'_>,
 ) -> Result<Ended, Halt> {
     let style = Style::Lines(Paint::Plain);
-    let nowhere: Option<WaveFile<'_, O>> = None;
-    decode_in_form(alloc, vcd, out, decoding, NAMELESS, style, nowhere)
+    decode_undrawn(alloc, vcd, out, decoding, NAMELESS, style)
 }
 
 /// The same with the names that devices have in the briefs which the first readers give. These are read to their ends and judged
@@ -405,14 +415,15 @@ pub fn decode_with_names<I: Input, J: Input, O: Output, W: Output>(
     out: &mut O,
     decoding: Decoding<'_>,
     style: Style,
-    wave: Option<WaveFile<'_, W>>,
+    waves: &mut W,
+    drawing: Drawing,
 ) -> Result<Ended, Halt> {
     let GivenPlan { provenance, .. } = briefs.find_in_briefs(alloc)?;
     let named = Named {
         device: device_of(alloc, decoding.bus.device, &provenance)?,
         names: provenance.origins.as_ref(),
     };
-    decode_in_form(alloc, vcd, out, decoding, named, style, wave)
+    decode_in_form(alloc, vcd, out, decoding, named, style, waves, drawing)
 }
 
 // The device that transactions have to call, and the briefs that have names of devices.
@@ -474,79 +485,102 @@ fn decode_in_form<J: Input, O: Output, W: Output>(
     decoding: Decoding<'_>,
     named: Named<'_>,
     style: Style,
-    wave: Option<WaveFile<'_, W>>,
+    waves: &mut W,
+    drawing: Drawing,
+) -> Result<Ended, Halt>
+    ensures status { IfOk result (λ it. EndsJudged decoding.entry.bus.view.at_least 0 it) }
+{
+    match drawing {
+        Drawing::Nothing => decode_undrawn(alloc, vcd, out, decoding, named, style),
+        Drawing::AsItComes => {
+            decode_drawn(alloc, vcd, out, decoding, named, style, waves, false)
+        }
+        Drawing::AtItsEnd => decode_drawn(alloc, vcd, out, decoding, named, style, waves, true),
+    }
+}
+
+// The report beside waves, which are drawn as the dump is read.
+fn decode_drawn<J: Input, O: Output, W: Output>(
+    alloc: Global,
+    vcd: &mut J,
+    out: &mut O,
+    decoding: Decoding<'_>,
+    named: Named<'_>,
+    style: Style,
+    waves: &mut W,
+    waits: bool,
 ) -> Result<Ended, Halt>
     ensures status { IfOk result (λ it. EndsJudged decoding.entry.bus.view.at_least 0 it) }
 {
     let bus = decoding.bus;
     let mut dump = open_dump(alloc, vcd, bus)?;
     let selection = Selection::new(bus.view, dump.scale()).with_device(named.device);
-    let told = match wave {
-        Some(file) => decode_drawn(
-            alloc, &mut dump, out, decoding, named, style, selection, file,
-        ),
-        None => decode_undrawn(alloc, &mut dump, out, decoding, named, style, selection),
-    };
-    let (selection, signs, wave) = match told {
-        Ok(told) => told,
-        Err(error) => return Err(halted(dump, error)),
-    };
-    let recorded = Recorded::Bytes(bus.view.window, selection.seen);
-    Ok(Ended {
-        status: status_of_seen(bus.view.at_least, selection.seen, 0),
-        findings: Findings::Recording(recorded, signs, None, dump.take_only()),
-        wave,
-        mended: None,
-    })
-}
-
-// What was told of a dump, how well it was recorded, and its waves, where they are wanted.
-type ToldInForm = (Selection, Signs, Option<Waves>);
-
-// The report beside waves, which are drawn as the dump is read.
-fn decode_drawn<J: Input, O: Output, W: Output>(
-    alloc: Global,
-    dump: &mut Dump<'_, '_, J>,
-    out: &mut O,
-    decoding: Decoding<'_>,
-    named: Named<'_>,
-    style: Style,
-    selection: Selection,
-    file: WaveFile<'_, W>,
-) -> Result<ToldInForm, RunError> {
     let least = dump.quiet().least;
+    let file = WaveFile { out: waves, waits };
     let mut wave = Some(RecordedWave::new(alloc, file, least, selection.view()));
-    let (selection, signs) = decode_beside(
-        alloc, dump, out, decoding, named, style, selection, &mut wave,
-    )?;
-    match wave {
-        Some(wave) => Ok((selection, signs, Some(Waves::Drawn(wave.finish()?)))),
-        None => Ok((selection, signs, None)),
+    let told = decode_beside(
+        alloc, &mut dump, out, decoding, named, style, selection, &mut wave,
+    );
+    match told {
+        Ok((selection, signs)) => {
+            let drawn = match wave {
+                Some(wave) => Some(Waves::Drawn(wave.finish()?)),
+                None => None,
+            };
+            Ok(ended_in_bytes(bus, dump.take_only(), selection, signs, drawn))
+        }
+        Err(error) => Err(halted(dump, error)),
     }
 }
 
 // The report without waves.
 fn decode_undrawn<J: Input, O: Output>(
     alloc: Global,
-    dump: &mut Dump<'_, '_, J>,
+    vcd: &mut J,
     out: &mut O,
     decoding: Decoding<'_>,
     named: Named<'_>,
     style: Style,
-    selection: Selection,
-) -> Result<ToldInForm, RunError> {
+) -> Result<Ended, Halt>
+    ensures status { IfOk result (λ it. EndsJudged decoding.entry.bus.view.at_least 0 it) }
+{
+    let bus = decoding.bus;
+    let mut dump = open_dump(alloc, vcd, bus)?;
+    let selection = Selection::new(bus.view, dump.scale()).with_device(named.device);
     let mut nobody: Option<Nobody> = None;
-    let (selection, signs) = decode_beside(
+    let told = decode_beside(
         alloc,
-        dump,
+        &mut dump,
         out,
         decoding,
         named,
         style,
         selection,
         &mut nobody,
-    )?;
-    Ok((selection, signs, None))
+    );
+    match told {
+        Ok((selection, signs)) => Ok(ended_in_bytes(bus, dump.take_only(), selection, signs, None)),
+        Err(error) => Err(halted(dump, error)),
+    }
+}
+
+// The end of a run that has told of these transactions.
+fn ended_in_bytes(
+    bus: Bus<'_>,
+    only: Option<OnlyBus>,
+    selection: Selection,
+    signs: Signs,
+    wave: Option<Waves>,
+) -> Ended
+    ensures { EndsJudged bus.entry.view.at_least 0 result }
+{
+    let recorded = Recorded::Bytes(bus.view.window, selection.seen);
+    Ended {
+        status: status_of_seen(bus.view.at_least, selection.seen, 0),
+        findings: Findings::Recording(recorded, signs, None, only),
+        wave,
+        mended: None,
+    }
 }
 
 // The report beside who hears the dump, if anybody does.

@@ -2,7 +2,7 @@
 
 use command_words::{Decoding, Mend, Request, Taking};
 use dump_runs::{
-    decode, decode_others, decode_with_names, explain_capture, learn, learn_with_names,
+    Drawing, decode, decode_others, decode_with_names, explain_capture, learn, learn_with_names,
     list_signals, may_have_others,
 };
 use files::Form;
@@ -18,7 +18,6 @@ use std::sync::Wait;
 use std::thread::Threads;
 use std::time::Clock;
 use trace_runs::{conform, learn_traces, learn_traces_with_names};
-use waves::WaveFile;
 
 /// Runs what was asked for, over what gives a plan or the only text, and a second text where there is one, or several.
 pub fn run_over<
@@ -79,12 +78,12 @@ pub fn run_over<
             ..
         } => {
             let vcd = texts.first()?;
-            decode(alloc, vcd, out, decoding, style, file_of(wave, waves))
+            decode(alloc, vcd, out, decoding, style, waves, drawing_of(wave))
         }
         Request::Decode { decoding, wave, .. } => {
             let vcd = given(seconds)?;
-            let file = file_of(wave, waves);
-            decode_with_names(alloc, texts, vcd, out, decoding, style, file)
+            let drawing = drawing_of(wave);
+            decode_with_names(alloc, texts, vcd, out, decoding, style, waves, drawing)
         }
         Request::Signals { limits, .. } => list_signals(alloc, texts.first()?, out, limits, style),
         Request::Learn {
@@ -120,13 +119,15 @@ pub fn run_over<
     }
 }
 
-// What takes waves, where they are wanted. Where the report goes there as well, they come after it.
-fn file_of<'w, W: Output>(path: Option<&str>, out: &'w mut W) -> Option<WaveFile<'w, W>> {
-    let file = WaveFile {
-        out,
-        waits: Form::of(path).path().is_none(),
-    };
-    path.is_some().then_some(file)
+// Whether waves go into this file, and how. Where the report goes there as well, they come after it.
+fn drawing_of(path: Option<&str>) -> Drawing {
+    if path.is_none() {
+        Drawing::Nothing
+    } else if Form::of(path).path().is_none() {
+        Drawing::AtItsEnd
+    } else {
+        Drawing::AsItComes
+    }
 }
 
 /// What is to be decoded once more, of other lines, where the run that has ended so did not find those that it looked for.
@@ -137,7 +138,7 @@ pub fn with_others<'a>(errand: Errand<'a>, ended: &Result<Ended, Halt>) -> Optio
             decoding,
             wave,
             ..
-        } if may_have_others(decoding, errand.extras.style(), wave.is_some(), ended) => {
+        } if may_have_others(decoding, errand.extras.style(), drawing_of(wave), ended) => {
             Some(decoding)
         }
         _ => None,
